@@ -1,0 +1,1 @@
+// Generic list laws stand in specs/ and proofs/. This crate has no code.

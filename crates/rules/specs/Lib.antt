@@ -1,0 +1,13 @@
+pub mod Types
+pub mod Signals
+pub mod View
+pub mod Store
+pub mod Sound
+pub mod Sending
+pub mod Actions
+pub mod Taking
+pub mod Adding
+pub mod Refusals
+pub mod Calls
+pub mod Computing
+pub mod Cases

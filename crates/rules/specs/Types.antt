@@ -1,0 +1,85 @@
+-- What the rules speak of: processes, threads, queues, calls and answers.
+use Prim.Native.Nat.{ℕ}
+use mathlib.Core.List.{List}
+use mathlib.Core.Option.{Option}
+use lib.ListN.{replicate}
+use Rattle.limits.specs.Limits.{signals}
+use Rattle.sigset.specs.declared.SigSet.{SigSet}
+use Rattle.sigset.specs.Set.{empty}
+use Rattle.types.specs.declared.Action.{Action}
+use Rattle.types.specs.declared.Siginfo.{Siginfo}
+use Rattle.types.specs.Values.{defaultAction}
+
+-- ---- "The tables"
+
+-- "16 process places: id, real, effective and saved user ids, session id, stopped or not, marks, 64 actions"; the marks stand beside it
+pub record Process : Type 0 where
+  pub id : ℕ
+  pub real : ℕ
+  pub effective : ℕ
+  pub saved : ℕ
+  pub session : ℕ
+  -- 1 where it is stopped, else 0
+  pub stopped : ℕ
+  pub actions : List Action
+
+-- "a row of thread records, 64 of them: id, process id, mask, marks"; the marks stand beside it
+pub record Thread : Type 0 where
+  pub id : ℕ
+  pub process : ℕ
+  pub mask : SigSet
+
+-- "A queue is one thread's or one process's": a process's has thread 0
+pub record Queue : Type 0 where
+  pub process : ℕ
+  pub thread : ℕ
+
+-- what a free place holds
+abbrev pub noProcess : Process
+noProcess = record { id = 0; real = 0; effective = 0; saved = 0; session = 0; stopped = 0; actions = replicate signals defaultAction }
+
+abbrev pub noThread : Thread
+noThread = record { id = 0; process = 0; mask = empty }
+
+-- ---- the calls, each with its arguments in the documented order
+
+pub data Call : Type 0 where
+  clear : Call
+  addProcess : (id real effective saved session thread : ℕ) (mask : SigSet) → Call
+  addThread : (creator id : ℕ) → Call
+  endProcess : (id : ℕ) → Call
+  endThread : (id : ℕ) → Call
+  kill : (by to thread signal : ℕ) → Call
+  queue : (by to thread signal value : ℕ) → Call
+  -- without a new action it enquires
+  action : (process signal : ℕ) (new : Option Action) → Call
+  mask : (thread way : ℕ) (set : Option SigSet) → Call
+  pending : (thread : ℕ) → Call
+  look : (thread : ℕ) → Call
+  who : (process : ℕ) → Call
+  take : (thread : ℕ) → Call
+  return : (thread : ℕ) (saved : SigSet) → Call
+
+-- ---- the answers, in the paper's words
+
+-- what a thread takes next: nothing, the mark of a signal in a queue, or the oldest record of a signal in a queue
+pub data Next : Type 0 where
+  noNext : Next
+  nextMark : (queue : Queue) (signal : ℕ) → Next
+  nextRecord : (queue : Queue) (signal : ℕ) (info : Siginfo) → Next
+
+pub data Answer : Type 0 where
+  refused : (errno : ℕ) → Answer
+  done : Answer
+  -- of a send
+  tested acted dropped absorbed marked kept : Answer
+  oldAction : (old : Action) → Answer
+  oldMask : (old : SigSet) → Answer
+  pendingSet : (set : SigSet) → Answer
+  looked : (next : Next) → Answer
+  canTake : (thread : ℕ) → Answer
+  noneCan : Answer
+  -- of a take: "nothing"; a handler to run; the default outcomes "end", "stop" and, for CONT, "no action"
+  nothing : Answer
+  handler : (number signal : ℕ) (info : Siginfo) (flags : ℕ) (saved : SigSet) → Answer
+  end stop noAction : (signal : ℕ) → Answer

@@ -1,0 +1,13 @@
+-- Named values of the types.
+use Rattle.limits.specs.Limits.{sigDfl}
+use Rattle.sigset.specs.Set.{empty}
+use Rattle.types.specs.declared.Action.{Action}
+use Rattle.types.specs.declared.Siginfo.{Siginfo}
+
+-- "the type's named default action (all zero)"
+abbrev pub defaultAction : Action
+defaultAction = record { handler = sigDfl; flags = 0; mask = empty }
+
+-- the record of a free slot: all zero
+abbrev pub noSiginfo : Siginfo
+noSiginfo = record { process = 0; thread = 0; signal = 0; code = 0; sender = 0; uid = 0; value = 0 }
