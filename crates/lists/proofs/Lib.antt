@@ -1,0 +1,5 @@
+pub mod Bools
+pub mod Lists
+pub mod Sums
+pub mod Loops
+pub mod Rows
