@@ -2,7 +2,7 @@
 use mathlib.Core.Path.{_≡_, refl, sym, ap, ap₂, subst, _∙_, fun-ext}
 use mathlib.Core.Bool.{Bool, true, false, not, _&&_, _||_, cond, or-true, or-false, and-false, and-assoc, or-assoc, and-or-distrib-right}
 use mathlib.Core.List.{List, [], _∷_, _++_, map, head?, tail, append-nil}
-use mathlib.Core.Option.{Option, some, none}
+use mathlib.Core.Option.{Option, some, none, Option·getD}
 use Prim.Native.Nat.{ℕ, zero, suc, _+_, _-_, _≤_, _<_}
 use native.Mathlib.Nat.{not-suc-le-zero, le-of-suc-le-suc}
 use native.Mathlib.Omega.{arith}
@@ -251,6 +251,27 @@ module _ {A : Type 0} (p : A → Bool) where
 
   pub all-replaceFirst : (t : A → Bool) (a : A) → p a ≡ true → (l : List A) → all p l ≡ true → all p (replaceFirst t a l) ≡ true
   all-replaceFirst t a h l e = All-all (replaceFirst t a l) (All-replaceFirst (Pass p) t a h l (all-All l e))
+
+  -- a change, and a map, that the test survives
+  pub all-change-keeps : (t : A → Bool) (g : A → A) → ((x : A) → t x ≡ true → p x ≡ true → p (g x) ≡ true) → (l : List A)
+      → all p l ≡ true → all p (change t g l) ≡ true
+  all-change-keeps t g h l e = All-all (change t g l) (All-change (Pass p) t g h l (all-All l e))
+
+  pub all-map-keeps : (f : A → A) → ((x : A) → p x ≡ true → p (f x) ≡ true) → (l : List A) → all p l ≡ true → all p (map f l) ≡ true
+  all-map-keeps f h l e = All-all (map f l) (All-map (Pass p) f l (All-imp (Pass p) (λ x. Pass p (f x)) h l (all-All l e)))
+
+  -- a default that passes does as well as a member
+  pub all-getD : (l : List A) (i : ℕ) (d : A) → p d ≡ true → all p l ≡ true → p (getD l i d) ≡ true
+  unfolding all
+  all-getD [] i d h e = h
+  all-getD (x ∷ xs) zero d h e = and-fst (p x) (all p xs) e
+  all-getD (x ∷ xs) (suc i) d h e = all-getD xs i d h (and-snd (p x) (all p xs) e)
+
+  pub all-first : (t : A → Bool) (l : List A) (d : A) → p d ≡ true → all p l ≡ true → p (Option·getD (first t l) d) ≡ true
+  unfolding all first
+  all-first t [] d h e = h
+  all-first t (x ∷ xs) d h e =
+      split (t x) (λ f. rw f (and-fst (p x) (all p xs) e)) (λ f. rw f (all-first t xs d h (and-snd (p x) (all p xs) e)))
 
   pub all-keep : (n : A → Bool) (l : List A) → all p l ≡ true → all p (keep n l) ≡ true
   all-keep n l e = All-all (keep n l) (All-imp (λ x. Pass p x × (n x ≡ true)) (Pass p) (λ x c. c .0) (keep n l) (All-keep (Pass p) n l (all-All l e)))

@@ -6,7 +6,7 @@ use mathlib.Core.Option.{some}
 use lib.Dec.{eqb}
 use Rattle.limits.specs.Limits.{sigSetmask}
 use Rattle.lists.specs.Lists.{find}
-use Rattle.rules.specs.Types.{Queue, Call, clear, addProcess, addThread, endProcess, endThread, kill, queue, action, mask, pending, look, who, take, return, Next, noNext, nextMark, nextRecord, Answer, refused, done, oldAction, oldMask, pendingSet, looked}
+use Rattle.rules.specs.Types.{Queue, Call, clear, addProcess, addThread, endProcess, endThread, kill, queue, action, mask, pending, look, who, take, return, Next, noNext, nextMark, nextRecord, Answer, refused, done, tested, acted, dropped, absorbed, marked, kept, oldAction, oldMask, pendingSet, looked, canTake, noneCan, nothing, handler, end, stop, noAction}
 use Rattle.rules.specs.View.{View, Change, Stage, forget, removeProcess, inQueue, actionOf, theProcess, theThread}
 use Rattle.rules.specs.Store.{Store, view, recordsFor, applyAll}
 use Rattle.rules.specs.Sending.{fate, infoOf, sendChanges, sendAnswer}
@@ -79,6 +79,28 @@ run (c ∷ cs) st =
     let one : Store × Answer = step c st in
     let rest : Store × List Answer = run cs (one .0) in
     (rest .0, one .1 ∷ rest .1)
+
+-- which answers are refusals
+unfoldable pub isRefused : Answer → Bool
+isRefused (refused n) = true
+isRefused done = false
+isRefused tested = false
+isRefused acted = false
+isRefused dropped = false
+isRefused absorbed = false
+isRefused marked = false
+isRefused kept = false
+isRefused (oldAction a) = false
+isRefused (oldMask m) = false
+isRefused (pendingSet m) = false
+isRefused (looked n) = false
+isRefused (canTake t) = false
+isRefused noneCan = false
+isRefused nothing = false
+isRefused (handler n s r flags saved) = false
+isRefused (end s) = false
+isRefused (stop s) = false
+isRefused (noAction s) = false
 
 -- ---- what a look hands back: "a part of the thread buffer or of the process buffer; an empty part for a mark or for nothing"; "a refused look is
 -- the empty part too"

@@ -15,6 +15,10 @@ use Rattle.rules.specs.Store.{Store, view, isFreeProcess, isFreeThread}
 use Rattle.rules.specs.Sound.{goodId, lengthsRight, sound}
 use Rattle.rules.specs.Sending.{maySignal, fate, needsRecord}
 
+-- the errnos in the table's order
+abbrev pub tableOrder : List ℕ
+tableOrder = EFAULT ∷ EINVAL ∷ ESRCH ∷ EPERM ∷ EEXIST ∷ EAGAIN ∷ []
+
 -- a test, and the errno that is given where it holds
 pub record Row : Type 0 where
   pub applies : Bool

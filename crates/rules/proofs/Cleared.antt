@@ -1,0 +1,94 @@
+-- A cleared store: it is sound, nobody lives in it, and what each call is refused with there. Assumes nothing.
+use Prim.Native.Nat.{ℕ, zero, suc}
+use mathlib.Core.Path.{_≡_, refl, ap, _∙_}
+use mathlib.Core.Bool.{Bool, true, false, not, _||_, cond}
+use lib.Dec.{eqb, eqb·zero-suc}
+use lib.ListN.{replicate}
+use Rattle.limits.specs.Limits.{processPlaces, threadPlaces, ESRCH, EINVAL}
+use Rattle.lists.proofs.Bools.{and-fst, and-right}
+use Rattle.lists.proofs.Lists.{any-map, any-replicate}
+use Rattle.rules.specs.Types.{Process, Thread, noProcess, noThread, Call, clear, addProcess, addThread, endProcess, endThread, kill, queue, action, mask, pending, look, who, take, return}
+use Rattle.rules.specs.View.{isProcess, isThread, liveProcess, liveThread}
+use Rattle.rules.specs.Store.{Place, held, freeProcess, freeThread, cleared, view}
+use Rattle.rules.specs.Sound.{lengthsRight, sound}
+use Rattle.rules.specs.Refusals.{refusal, badId, overLast, badAction, badWay, noProcessLive, noThreadLive, badTarget, noProcessPlace, noThreadPlace, rows, isClear, fault, table, refusalOf}
+use Rattle.rules.specs.Computing.{computing}
+
+-- ---- what is there
+
+pub sound-cleared : sound cleared ≡ true
+unfolding computing
+sound-cleared = refl
+
+pub no-process : (n : ℕ) → liveProcess (view cleared) n ≡ false
+unfolding liveProcess view cleared
+no-process n =
+    any-map (isProcess n) held (replicate processPlaces freeProcess)
+    ∙ any-replicate (λ (x : Place Process). isProcess n (x .holds)) freeProcess (free n) processPlaces
+  where
+    free : (n : ℕ) → isProcess n noProcess ≡ false
+    free zero = unfold isProcess in refl
+    free (suc n) = unfold isProcess in and-right (not (eqb (suc n) 0)) (eqb·zero-suc n)
+
+pub no-thread : (n : ℕ) → liveThread (view cleared) n ≡ false
+unfolding liveThread view cleared
+no-thread n =
+    any-map (isThread n) held (replicate threadPlaces freeThread)
+    ∙ any-replicate (λ (x : Place Thread). isThread n (x .holds)) freeThread (free n) threadPlaces
+  where
+    free : (n : ℕ) → isThread n noThread ≡ false
+    free zero = unfold isThread in refl
+    free (suc n) = unfold isThread in and-right (not (eqb (suc n) 0)) (eqb·zero-suc n)
+
+places-free : (noProcessPlace (view cleared) || noThreadPlace (view cleared)) ≡ false
+unfolding computing
+places-free = refl
+
+-- ---- what is refused
+
+-- adding a process is refused for a bad id alone; what names a process or a thread finds none, unless 22 comes first
+pub refusedThere : Call → ℕ
+refusedThere clear = 0
+refusedThere (addProcess id real effective saved session thread m) = cond (badId id || badId thread) EINVAL 0
+refusedThere (addThread creator id) = cond (badId id) EINVAL ESRCH
+refusedThere (endProcess id) = ESRCH
+refusedThere (endThread id) = ESRCH
+refusedThere (kill by to t s) = cond (overLast s) EINVAL ESRCH
+refusedThere (queue by to t s value) = cond (overLast s) EINVAL ESRCH
+refusedThere (action p s new) = cond (badAction s new) EINVAL ESRCH
+refusedThere (mask t way set) = cond (badWay way set) EINVAL ESRCH
+refusedThere (pending t) = ESRCH
+refusedThere (look t) = ESRCH
+refusedThere (who p) = ESRCH
+refusedThere (take t) = ESRCH
+refusedThere (return t saved) = ESRCH
+
+fault-off : (c : Call) → fault cleared c .applies ≡ false
+unfolding fault
+fault-off c = ap not (go (isClear c))
+  where
+    go : (b : Bool) → cond b (lengthsRight cleared) (sound cleared) ≡ true
+    go true = unfold sound in and-fst (lengthsRight cleared) _ sound-cleared
+    go false = sound-cleared
+
+by-rows : (c : Call) → refusal (rows (view cleared) c) ≡ refusedThere c
+unfolding refusal rows refusedThere noProcessLive noThreadLive badTarget
+by-rows clear = refl
+by-rows (addProcess id real effective saved session thread m) = rw (no-process id, no-thread thread, places-free)
+by-rows (addThread creator id) = rw (no-thread creator)
+by-rows (endProcess id) = rw (no-process id)
+by-rows (endThread id) = rw (no-thread id)
+by-rows (kill by to t s) = rw (no-process by)
+by-rows (queue by to t s value) = rw (no-process by)
+by-rows (action p s new) = rw (no-process p)
+by-rows (mask t way set) = rw (no-thread t)
+by-rows (pending t) = rw (no-thread t)
+by-rows (look t) = rw (no-thread t)
+by-rows (who p) = rw (no-process p)
+by-rows (take t) = rw (no-thread t)
+by-rows (return t saved) = rw (no-thread t)
+
+-- a call on a cleared store is refused exactly where the rows say
+pub on-cleared : (c : Call) → refusalOf cleared c ≡ refusedThere c
+unfolding refusalOf table refusal
+on-cleared c = rw (fault-off c) (by-rows c)

@@ -1,0 +1,366 @@
+-- No mask, mark or action mask that a call stores or answers has 9 or 19. Assumes nothing.
+use Prim.Native.Nat.{ℕ, zero, suc, _-_}
+use mathlib.Core.Path.{_≡_, refl, sym, ap, subst, _∙_}
+use mathlib.Core.Bool.{Bool, true, false, not, _&&_, _||_, cond, and-false}
+use mathlib.Core.List.{List, [], _∷_}
+use mathlib.Core.Option.{Option, some, none}
+use native.Mathlib.Omega.{arith}
+use lib.Dec.{eqb}
+use borrow.Author.Tests.{eqb-true, not-true}
+use Rattle.limits.specs.Limits.{SIGKILL, SIGSTOP, signals, sigSetmask, sigDfl, SIGCONT}
+use Rattle.sigset.specs.declared.SigSet.{SigSet}
+use Rattle.sigset.specs.Set.{Signal, has, union, without, maskable, ofSignal, empty, isUnmaskable}
+use Rattle.sigset.proofs.Laws.{has-set, has-of, has-union, has-without, has-maskable, has-empty}
+use Rattle.types.specs.declared.Action.{Action}
+use Rattle.types.specs.declared.Siginfo.{Siginfo}
+use Rattle.types.specs.Values.{defaultAction}
+use Rattle.lists.specs.Lists.{all, any, change}
+use Rattle.lists.proofs.Bools.{split, clash, and-fst, and-snd, and-both, and-left, or-both, or-cases, or-fst-false, or-snd-false}
+use Rattle.lists.proofs.Lists.{all-map, all-imp, all-append, all-replicate, all-replaceFirst, all-change-keeps, all-map-keeps, all-getD, all-first}
+use Rattle.lists.proofs.Loops.{all-set}
+use Rattle.rules.specs.Types.{Process, Thread, Queue, noProcess, noThread, Call, clear, addProcess, addThread, endProcess, endThread, kill, queue, action, mask, pending, look, who, take, return, Next, noNext, nextMark, nextRecord, Answer, refused, done, tested, acted, dropped, absorbed, marked, kept, oldAction, oldMask, pendingSet, looked, canTake, noneCan, nothing, handler, end, stop, noAction}
+use Rattle.rules.specs.Signals.{Outcome, ignores, stops, continues, ends, outcome, ignored, stopSignal}
+use Rattle.rules.specs.View.{View, Change, forget, newProcess, newThread, removeProcess, removeThread, setStopped, setAction, setMask, setMark, clearMark, append, dropOldest, discard, isProcess, isThread, sameQueue, processQueue, threadQueue, actionOf, theProcess, theThread, threadAction, pendingFor}
+use Rattle.rules.specs.Store.{Place, Store, held, freeProcess, freeThread, cleared, view, apply, onMarks}
+use Rattle.rules.specs.Sound.{unmasked, actionUnmasked, processUnmasked, threadUnmasked, nothingUnmaskable}
+use Rattle.rules.specs.Sending.{Fate, testing, killing, stopping, dropping, absorbing, marking, keeping, fate, infoOf, jobControl, sendChanges}
+use Rattle.rules.specs.Actions.{stored, storeChanges, actionChanges, newMask, maskChanges, blockedPending}
+use Rattle.rules.specs.Taking.{handlerMask, resets, reset, resetChanges, outcomeChanges, deliver, takeChanges, next}
+use Rattle.rules.specs.Adding.{newborn, addProcessChanges, addThreadChanges, otherThread, endThreadChanges}
+use Rattle.rules.specs.Refusals.{refusalOf}
+use Rattle.rules.specs.Calls.{send, changes, finish, step}
+use Rattle.rules.specs.Computing.{computing}
+use Rattle.rules.proofs.Clauses.{clauses}
+use Rattle.rules.proofs.Table.{accepted-sound}
+use Rattle.rules.proofs.Steps.{step-keeps}
+use Rattle.rules.proofs.Answers.{PassesWords, PassesSets, answer-passes}
+
+-- ---- sets without 9 and 19
+
+kill-signal : Signal SIGKILL
+kill-signal = record { low = omega arith; high = omega arith }
+
+stop-signal : Signal SIGSTOP
+stop-signal = record { low = omega arith; high = omega arith }
+
+-- a set that has neither, said of every signal
+pub unmasked-if : (m : SigSet) → ((s : ℕ) → Signal s → isUnmaskable s ≡ true → has m s ≡ false) → unmasked m ≡ true
+unfolding unmasked
+unmasked-if m h = ap not (or-both (h SIGKILL kill-signal refl) (h SIGSTOP stop-signal refl))
+
+pub unmasked-has : (m : SigSet) → unmasked m ≡ true → (s : ℕ) → isUnmaskable s ≡ true → has m s ≡ false
+unfolding unmasked
+unmasked-has m h s u =
+    let e : (has m SIGKILL || has m SIGSTOP) ≡ false = not-true (has m SIGKILL || has m SIGSTOP) h in
+    or-cases (eqb s SIGKILL) (eqb s SIGSTOP) u
+    (λ k. subst (λ (x : ℕ). has m x ≡ false) (sym (eqb-true s SIGKILL k)) (or-fst-false (has m SIGKILL) (has m SIGSTOP) e))
+    (λ k. subst (λ (x : ℕ). has m x ≡ false) (sym (eqb-true s SIGSTOP k)) (or-snd-false (has m SIGKILL) (has m SIGSTOP) e))
+
+unmasked-empty : unmasked empty ≡ true
+unmasked-empty = unmasked-if empty (λ s h u. has-empty s)
+
+unmasked-maskable : (m : SigSet) → unmasked (maskable m) ≡ true
+unmasked-maskable m = unmasked-if (maskable m) (λ s h u. has-maskable m s h ∙ ap (λ (b : Bool). has m s && not b) u ∙ and-false (has m s))
+
+unmasked-without : (m x : SigSet) → unmasked m ≡ true → unmasked (without m x) ≡ true
+unmasked-without m x e = unmasked-if (without m x) (λ s h u. has-without m x s h ∙ and-left (not (has x s)) (unmasked-has m e s u))
+
+unmasked-union : (m x : SigSet) → unmasked m ≡ true → unmasked x ≡ true → unmasked (union m x) ≡ true
+unmasked-union m x e f = unmasked-if (union m x) (λ s h u. has-union m x s h ∙ or-both (unmasked-has m e s u) (unmasked-has x f s u))
+
+unmasked-of : (n : ℕ) → isUnmaskable n ≡ false → unmasked (ofSignal n) ≡ true
+unmasked-of n e =
+    unmasked-if (ofSignal n)
+    (λ s h u. has-of n s h ∙ split (eqb s n) (λ k. clash (subst (λ (x : ℕ). isUnmaskable x ≡ true) (eqb-true s n k) u) e) (λ k. k))
+
+-- ---- one change
+
+-- what a change stores has neither
+abbrev pub cleanChange : Change → Bool
+cleanChange forget = true
+cleanChange (newProcess p) = all actionUnmasked (p .actions)
+cleanChange (newThread t) = unmasked (t .mask)
+cleanChange (removeProcess p) = true
+cleanChange (removeThread t) = true
+cleanChange (setStopped p b) = true
+cleanChange (setAction p s a) = actionUnmasked a
+cleanChange (setMask t m) = unmasked m
+cleanChange (setMark q s) = not (isUnmaskable s)
+cleanChange (clearMark q s) = true
+cleanChange (append r) = true
+cleanChange (dropOldest q s) = true
+cleanChange (discard p set) = true
+
+abbrev pub Clean : Store → Type 0
+Clean st = nothingUnmaskable st ≡ true
+
+clean-cleared : Clean cleared
+unfolding computing
+clean-cleared = refl
+
+module _ (st : Store) (h : Clean st) where
+  clean-processes : all processUnmasked (st .processes) ≡ true
+  clean-processes = unfold nothingUnmaskable in (and-fst (all processUnmasked (st .processes)) _ h)
+
+  clean-threads : all threadUnmasked (st .threads) ≡ true
+  clean-threads = unfold nothingUnmaskable in (and-snd (all processUnmasked (st .processes)) _ h)
+
+free-process : processUnmasked freeProcess ≡ true
+unfolding computing
+free-process = refl
+
+free-thread : threadUnmasked freeThread ≡ true
+unfolding computing
+free-thread = refl
+
+module _ (st : Store) (h : Clean st) where
+  -- the process table changes, or the thread table, or both
+  on-processes : (ps : List (Place Process)) → all processUnmasked ps ≡ true → (all processUnmasked ps && all threadUnmasked (st .threads)) ≡ true
+  on-processes ps e = and-both e (clean-threads st h)
+
+  on-threads : (ts : List (Place Thread)) → all threadUnmasked ts ≡ true → (all processUnmasked (st .processes) && all threadUnmasked ts) ≡ true
+  on-threads ts e = and-both (clean-processes st h) e
+
+  vacated-processes : (t : Place Process → Bool) → all processUnmasked (change t (λ _. freeProcess) (st .processes)) ≡ true
+  vacated-processes t = all-change-keeps processUnmasked t (λ _. freeProcess) (λ x _ _. free-process) (st .processes) (clean-processes st h)
+
+  vacated-threads : (t : Place Thread → Bool) → all threadUnmasked (change t (λ _. freeThread) (st .threads)) ≡ true
+  vacated-threads t = all-change-keeps threadUnmasked t (λ _. freeThread) (λ x _ _. free-thread) (st .threads) (clean-threads st h)
+
+  -- marks that stay without 9 and 19
+  remarked : (g : Queue → SigSet → SigSet) → ((q : Queue) (m : SigSet) → unmasked m ≡ true → unmasked (g q m) ≡ true) → Clean (onMarks g st)
+  unfolding nothingUnmaskable processUnmasked threadUnmasked
+  remarked g k =
+      and-both
+      (all-map-keeps processUnmasked (λ (x : Place Process). record { holds = x .holds; marks = g (processQueue (x .holds .id)) (x .marks) })
+      (λ x e. and-both (k _ (x .marks) (and-fst (unmasked (x .marks)) _ e)) (and-snd (unmasked (x .marks)) _ e)) (st .processes) (clean-processes st h))
+      (all-map-keeps threadUnmasked (λ (x : Place Thread). record { holds = x .holds; marks = g (threadQueue (x .holds)) (x .marks) })
+      (λ x e. and-both (and-fst (unmasked (x .holds .mask)) _ e) (k _ (x .marks) (and-snd (unmasked (x .holds .mask)) _ e))) (st .threads) (clean-threads st h))
+
+-- where the test holds one clean set, else another
+unmasked-cond : (b : Bool) (x y : SigSet) → unmasked x ≡ true → unmasked y ≡ true → unmasked (cond b x y) ≡ true
+unmasked-cond true x y e f = e
+unmasked-cond false x y e f = f
+
+pub change-clean : (ch : Change) (st : Store) → cleanChange ch ≡ true → Clean st → Clean (apply ch st)
+unfolding apply nothingUnmaskable processUnmasked threadUnmasked
+change-clean forget st ok h = clean-cleared
+change-clean (newProcess p) st ok h =
+    on-processes st h _ (all-replaceFirst processUnmasked _ (record { holds = p; marks = empty }) (and-both unmasked-empty ok) (st .processes) (clean-processes st h))
+change-clean (newThread t) st ok h =
+    on-threads st h _ (all-replaceFirst threadUnmasked _ (record { holds = t; marks = empty }) (and-both ok unmasked-empty) (st .threads) (clean-threads st h))
+change-clean (removeProcess n) st ok h = and-both (vacated-processes st h _) (vacated-threads st h _)
+change-clean (removeThread n) st ok h = on-threads st h _ (vacated-threads st h _)
+change-clean (setStopped n b) st ok h =
+    on-processes st h _ (all-change-keeps processUnmasked _ _ (λ x _ e. e) (st .processes) (clean-processes st h))
+change-clean (setAction n s a) st ok h =
+    on-processes st h _
+    (all-change-keeps processUnmasked _ _
+    (λ x _ e.
+        and-both (and-fst (unmasked (x .marks)) _ e) (all-set actionUnmasked (x .holds .actions) (s - 1) a (and-snd (unmasked (x .marks)) _ e) ok))
+    (st .processes) (clean-processes st h))
+change-clean (setMask n m) st ok h =
+    on-threads st h _
+    (all-change-keeps threadUnmasked _ _ (λ x _ e. and-both ok (and-snd (unmasked (x .holds .mask)) _ e)) (st .threads) (clean-threads st h))
+change-clean (setMark q s) st ok h =
+    remarked st h _
+    (λ q′ m e. unmasked-cond (sameQueue q′ q) (union m (ofSignal s)) m (unmasked-union m (ofSignal s) e (unmasked-of s (not-true (isUnmaskable s) ok))) e)
+change-clean (clearMark q s) st ok h =
+    remarked st h _ (λ q′ m e. unmasked-cond (sameQueue q′ q) (without m (ofSignal s)) m (unmasked-without m (ofSignal s) e) e)
+change-clean (append r) st ok h = h
+change-clean (dropOldest q s) st ok h = h
+change-clean (discard p set) st ok h =
+    remarked st h _ (λ q m e. unmasked-cond (eqb (q .process) p) (without m set) m (unmasked-without m set e) e)
+
+-- ---- what is in view
+
+abbrev actionsClean : Process → Bool
+actionsClean p = all actionUnmasked (p .actions)
+
+abbrev maskClean : Thread → Bool
+maskClean t = unmasked (t .mask)
+
+pub record CleanView (v : View) : Type 0 where
+  pub processes : all actionsClean (v .processes) ≡ true
+  pub threads : all maskClean (v .threads) ≡ true
+
+pub clean-view : (st : Store) → Clean st → CleanView (view st)
+unfolding view processUnmasked threadUnmasked
+clean-view st h =
+    record {
+      processes =
+          all-map actionsClean held (st .processes)
+          ∙ all-imp processUnmasked (λ (x : Place Process). actionsClean (x .holds)) (λ x e. and-snd (unmasked (x .marks)) _ e) (st .processes) (clean-processes st h);
+      threads =
+          all-map maskClean held (st .threads)
+          ∙ all-imp threadUnmasked (λ (x : Place Thread). maskClean (x .holds)) (λ x e. and-fst (unmasked (x .holds .mask)) _ e) (st .threads) (clean-threads st h);
+    }
+
+default-clean : actionUnmasked defaultAction ≡ true
+unfolding actionUnmasked
+default-clean = unmasked-empty
+
+module _ (v : View) (h : CleanView v) where
+  clean-action : (n s : ℕ) → actionUnmasked (actionOf (theProcess v n) s) ≡ true
+  unfolding actionOf theProcess
+  clean-action n s =
+      all-getD actionUnmasked (theProcess v n .actions) (s - 1) defaultAction default-clean
+      (all-first actionsClean (isProcess n) (v .processes) noProcess (all-replicate actionUnmasked defaultAction default-clean signals) (h .processes))
+
+  clean-mask : (n : ℕ) → unmasked (theThread v n .mask) ≡ true
+  unfolding theThread
+  clean-mask n = all-first maskClean (isThread n) (v .threads) noThread unmasked-empty (h .threads)
+
+-- ---- the changes of a call
+
+store-clean : (p s : ℕ) (a : Action) → actionUnmasked a ≡ true → all cleanChange (storeChanges p s a) ≡ true
+unfolding storeChanges all
+store-clean p s a e = split (ignored a s) (λ k. rw k (and-both e refl)) (λ k. rw k (and-both e refl))
+
+job-clean : (p s : ℕ) → all cleanChange (jobControl p s) ≡ true
+unfolding jobControl all
+job-clean p s =
+    split (eqb s SIGCONT) (λ k. rw k) (λ k. rw k (split (eqb s SIGSTOP) (λ j. rw j) (λ j. rw j (split (stopSignal s) (λ i. rw i) (λ i. rw i)))))
+
+isMarking : Fate → Bool
+isMarking testing = false
+isMarking killing = false
+isMarking stopping = false
+isMarking dropping = false
+isMarking absorbing = false
+isMarking marking = true
+isMarking keeping = false
+
+-- 9 and 19 are acted on, and never marked
+acted-on : (v : View) (queued : Bool) (q : Queue) (s : ℕ) → isUnmaskable s ≡ true → isMarking (fate v queued q s) ≡ false
+unfolding fate isMarking
+acted-on v queued q s u =
+    or-cases (eqb s SIGKILL) (eqb s SIGSTOP) u
+    (λ e. subst (λ (x : ℕ). isMarking (fate v queued q x) ≡ false) (sym (eqb-true s SIGKILL e)) refl)
+    (λ e. subst (λ (x : ℕ). isMarking (fate v queued q x) ≡ false) (sym (eqb-true s SIGSTOP e)) refl)
+
+fate-clean : (f : Fate) (r : Siginfo) → (isUnmaskable (r .signal) ≡ true → isMarking f ≡ false) → all cleanChange (sendChanges f r) ≡ true
+unfolding sendChanges all isMarking
+fate-clean testing r h = refl
+fate-clean killing r h = refl
+fate-clean stopping r h = job-clean (r .process) (r .signal)
+fate-clean dropping r h = job-clean (r .process) (r .signal)
+fate-clean absorbing r h = job-clean (r .process) (r .signal)
+fate-clean marking r h =
+    all-append cleanChange (jobControl (r .process) (r .signal)) _
+    ∙ and-both (job-clean (r .process) (r .signal)) (and-both (split (isUnmaskable (r .signal)) (λ k. clash refl (h k)) (λ k. ap not k)) refl)
+fate-clean keeping r h = all-append cleanChange (jobControl (r .process) (r .signal)) _ ∙ and-both (job-clean (r .process) (r .signal)) refl
+
+outcome-clean : (o : Outcome) (p : ℕ) → all cleanChange (outcomeChanges o p) ≡ true
+unfolding outcomeChanges all
+outcome-clean ignores p = refl
+outcome-clean stops p = refl
+outcome-clean continues p = refl
+outcome-clean ends p = refl
+
+reset-clean : (p s : ℕ) (a : Action) → actionUnmasked a ≡ true → all cleanChange (resetChanges p s a) ≡ true
+unfolding resetChanges all
+reset-clean p s a e =
+    split (resets a s) (λ k. rw k (store-clean p s (reset a) (unfold reset actionUnmasked in e))) (λ k. rw k)
+
+deliver-clean : (t : Thread) (a : Action) (s : ℕ) → actionUnmasked a ≡ true → all cleanChange (deliver t a s) ≡ true
+unfolding deliver handlerMask all
+deliver-clean t a s e =
+    split (eqb (a .handler) sigDfl) (λ k. rw k (outcome-clean (outcome s) (t .process)))
+    (λ k. rw k (and-both (unmasked-maskable _) (reset-clean (t .process) s a e)))
+
+set-mask-clean : (v : View) (t way : ℕ) (set : Option SigSet) → all cleanChange (maskChanges v t way set) ≡ true
+unfolding maskChanges newMask all
+set-mask-clean v t way none = refl
+set-mask-clean v t way (some m) = and-both (unmasked-maskable _) refl
+
+action-clean : (p s : ℕ) (new : Option Action) → all cleanChange (actionChanges p s new) ≡ true
+unfolding actionChanges all
+action-clean p s none = refl
+action-clean p s (some a) = store-clean p s (stored a) (unfold stored actionUnmasked in unmasked-maskable (a .mask))
+
+one-clean : (b : Bool) (x y : Change) → cleanChange x ≡ true → cleanChange y ≡ true → all cleanChange (cond b x y ∷ []) ≡ true
+unfolding all
+one-clean true x y e f = and-both e refl
+one-clean false x y e f = and-both f refl
+
+module _ (v : View) (h : CleanView v) where
+  take-clean : (t : Thread) (n : Next) → all cleanChange (takeChanges v t n) ≡ true
+  unfolding takeChanges threadAction all
+  take-clean t noNext = refl
+  take-clean t (nextMark q s) = deliver-clean t (threadAction v t s) s (clean-action v h (t .process) s)
+  take-clean t (nextRecord q s r) = deliver-clean t (threadAction v t s) s (clean-action v h (t .process) s)
+
+  pub changes-clean : (c : Call) → all cleanChange (changes v c) ≡ true
+  unfolding changes send infoOf addProcessChanges newborn addThreadChanges endThreadChanges all
+  changes-clean clear = refl
+  changes-clean (addProcess id real effective saved session thread m) =
+      and-both (all-replicate actionUnmasked defaultAction default-clean signals) (and-both (unmasked-maskable m) refl)
+  changes-clean (addThread creator id) = and-both (clean-mask v h creator) refl
+  changes-clean (endProcess id) = refl
+  changes-clean (endThread id) = one-clean (any (otherThread v (theThread v id)) (v .threads)) (removeThread (theThread v id .id)) (removeProcess (theThread v id .process)) refl refl
+  changes-clean (kill by to t s) = fate-clean (fate v false _ s) _ (acted-on v false _ s)
+  changes-clean (queue by to t s value) = fate-clean (fate v true _ s) _ (acted-on v true _ s)
+  changes-clean (action p s new) = action-clean p s new
+  changes-clean (mask t way set) = set-mask-clean v t way set
+  changes-clean (pending t) = refl
+  changes-clean (look t) = refl
+  changes-clean (who p) = refl
+  changes-clean (take t) = take-clean (theThread v t) (next v (theThread v t))
+  changes-clean (return t saved) = set-mask-clean v t sigSetmask (some saved)
+
+-- ---- the theorems
+
+-- no call stores 9 or 19 in a mask, a mark or an action's mask
+pub stored-clean : (c : Call) (st : Store) → Clean st → Clean (step c st .0)
+stored-clean = step-keeps Clean cleanChange change-clean (λ c st h. changes-clean (view st) (clean-view st h) c)
+
+-- the sets of an answer have neither
+unfoldable pub cleanAnswer : Answer → Bool
+cleanAnswer (refused n) = true
+cleanAnswer done = true
+cleanAnswer tested = true
+cleanAnswer acted = true
+cleanAnswer dropped = true
+cleanAnswer absorbed = true
+cleanAnswer marked = true
+cleanAnswer kept = true
+cleanAnswer (oldAction a) = actionUnmasked a
+cleanAnswer (oldMask m) = unmasked m
+cleanAnswer (pendingSet m) = unmasked m
+cleanAnswer (looked n) = true
+cleanAnswer (canTake t) = true
+cleanAnswer noneCan = true
+cleanAnswer nothing = true
+cleanAnswer (handler n s r flags saved) = unmasked saved
+cleanAnswer (end s) = true
+cleanAnswer (stop s) = true
+cleanAnswer (noAction s) = true
+
+pending-answer : (v : View) (t : Thread) → unmasked (t .mask) ≡ true → unmasked (blockedPending v t) ≡ true
+unfolding blockedPending
+pending-answer v t e =
+    unmasked-if _ (λ s k u. has-set (λ n. has (t .mask) n && pendingFor v t n) s k ∙ and-left (pendingFor v t s) (unmasked-has (t .mask) e s u))
+
+clean-words : PassesWords cleanAnswer
+unfolding cleanAnswer all
+clean-words = record { plain = refl; looks = λ n. refl; takers = λ t. refl; ended = λ s. refl; stopped = λ s. refl; idle = λ s. refl }
+
+clean-sets : (v : View) → CleanView v → PassesSets cleanAnswer v
+unfolding cleanAnswer
+clean-sets v h =
+    record {
+      actions = clean-action v h;
+      masks = clean-mask v h;
+      pendings = λ t. pending-answer v (theThread v t) (clean-mask v h t);
+      handlers = λ t n s r x. clean-mask v h t;
+    }
+
+-- whatever the store is, no call answers 9 or 19 in a set: a store that has one is not sound
+pub answers-clean : (c : Call) (st : Store) → cleanAnswer (step c st .1) ≡ true
+unfolding step
+answers-clean c st = go (refusalOf st c) refl
+  where
+    go : (n : ℕ) → refusalOf st c ≡ n → cleanAnswer (finish n c st .1) ≡ true
+    go zero e = unfold finish in answer-passes cleanAnswer clean-words (view st) c (λ k. clean-sets (view st) (clean-view st (clauses st (accepted-sound st c k e) .unmaskedSets)))
+    go (suc n) e = unfold finish cleanAnswer in refl
