@@ -4,7 +4,9 @@
 
 // Places of the process table and of the thread table; records of each buffer.
 pub const PROCESS_PLACES: usize = 16;
+
 pub const THREAD_PLACES: usize = 64;
+
 pub const BUFFER_RECORDS: usize = 512;
 
 // The records that one process may have pending, its threads' queues counted in.
@@ -16,35 +18,53 @@ pub const LARGEST_ID: u32 = 2147483647;
 // ---- signals: 1 to LAST_STANDARD are standard, the rest to SIGNALS realtime
 
 pub const SIGNALS: u32 = 64;
+
 pub const LAST_STANDARD: u32 = 31;
 
 pub const SIGILL: u32 = 4;
+
 pub const SIGTRAP: u32 = 5;
+
 pub const SIGKILL: u32 = 9;
+
 pub const SIGCHLD: u32 = 17;
+
 pub const SIGCONT: u32 = 18;
+
 pub const SIGSTOP: u32 = 19;
+
 pub const SIGTSTP: u32 = 20;
+
 pub const SIGTTIN: u32 = 21;
+
 pub const SIGTTOU: u32 = 22;
+
 pub const SIGURG: u32 = 23;
+
 pub const SIGWINCH: u32 = 28;
 
 // ---- actions: the two handler numbers that are no handler, and the flags
 
 pub const SIG_DFL: u64 = 0;
+
 pub const SIG_IGN: u64 = 1;
 
 pub const SA_SIGINFO: u64 = 0x4;
+
 pub const SA_RESTART: u64 = 0x10000000;
+
 pub const SA_NODEFER: u64 = 0x40000000;
+
 pub const SA_RESETHAND: u64 = 0x80000000;
+
 pub const KNOWN_FLAGS: u64 = SA_SIGINFO + SA_RESTART + SA_NODEFER + SA_RESETHAND;
 
 // ---- masks: the three ways to change one
 
 pub const SIG_BLOCK: u32 = 0;
+
 pub const SIG_UNBLOCK: u32 = 1;
+
 pub const SIG_SETMASK: u32 = 2;
 
 // ---- the code of a queued record, -1 in 32 bits
@@ -54,46 +74,75 @@ pub const SI_QUEUE: u32 = 0xFFFFFFFF;
 // ---- refusals
 
 pub const EPERM: u32 = 1;
+
 pub const ESRCH: u32 = 3;
+
 pub const EAGAIN: u32 = 11;
+
 pub const EFAULT: u32 = 14;
+
 pub const EEXIST: u32 = 17;
+
 pub const EINVAL: u32 = 22;
 
 // ---- words of the tables: the head fields of a process, the fields of an action, the fields of a thread
 
 pub const PROCESS_ID: usize = 0;
+
 pub const PROCESS_REAL: usize = 1;
+
 pub const PROCESS_EFFECTIVE: usize = 2;
+
 pub const PROCESS_SAVED: usize = 3;
+
 pub const PROCESS_SESSION: usize = 4;
+
 pub const PROCESS_STOPPED: usize = 5;
+
 pub const PROCESS_MARKS: usize = 6;
+
 pub const HEAD_WORDS: usize = 7;
 
 pub const ACTION_HANDLER: usize = 0;
+
 pub const ACTION_FLAGS: usize = 1;
+
 pub const ACTION_MASK: usize = 2;
+
 pub const ACTION_WORDS: usize = 3;
 
 pub const THREAD_ID: usize = 0;
+
 pub const THREAD_PROCESS: usize = 1;
+
 pub const THREAD_MASK: usize = 2;
+
 pub const THREAD_MARKS: usize = 3;
+
 pub const THREAD_WORDS: usize = 4;
 
 pub const PROCESS_WORDS: usize = HEAD_WORDS + SIGNALS as usize * ACTION_WORDS;
+
 pub const PROCESS_TABLE: usize = PROCESS_PLACES * PROCESS_WORDS;
+
 pub const THREAD_TABLE: usize = THREAD_PLACES * THREAD_WORDS;
 
 // ---- bytes of a record
 
 pub const RECORD_PROCESS: usize = 0;
+
 pub const RECORD_THREAD: usize = 4;
+
 pub const RECORD_SIGNAL: usize = 8;
+
 pub const RECORD_CODE: usize = 12;
+
 pub const RECORD_SENDER: usize = 16;
+
 pub const RECORD_UID: usize = 20;
+
 pub const RECORD_VALUE: usize = 24;
+
 pub const RECORD_BYTES: usize = 32;
+
 pub const BUFFER_BYTES: usize = BUFFER_RECORDS * RECORD_BYTES;

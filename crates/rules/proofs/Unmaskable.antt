@@ -157,7 +157,7 @@ change-clean (setAction n s a) st ok h =
     on-processes st h _
     (all-change-keeps processUnmasked _ _
     (λ x _ e.
-        and-both (and-fst (unmasked (x .marks)) _ e) (all-set actionUnmasked (x .holds .actions) (s - 1) a (and-snd (unmasked (x .marks)) _ e) ok))
+    and-both (and-fst (unmasked (x .marks)) _ e) (all-set actionUnmasked (x .holds .actions) (s - 1) a (and-snd (unmasked (x .marks)) _ e) ok))
     (st .processes) (clean-processes st h))
 change-clean (setMask n m) st ok h =
     on-threads st h _

@@ -1,7 +1,9 @@
 // Signal sets. Signal s, from 1 to 64, is bit s - 1.
 ghost use mathlib.Core.Path.{_≡_};
 ghost use Rattle.sigset.specs.Set.{has, union, without, intersect, maskable, ofSignal, lowest};
-use limits::{SIGNALS, SIGKILL, SIGSTOP};
+use limits::SIGKILL;
+use limits::SIGNALS;
+use limits::SIGSTOP;
 
 pub struct SigSet(pub u64);
 

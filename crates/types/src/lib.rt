@@ -1,6 +1,6 @@
 // The values that the tables hold and that calls carry, by value.
-use sigset::SigSet;
 use limits::SIG_DFL;
+use sigset::SigSet;
 
 // What a process does about a signal: a handler number (0 default, 1 ignore), flags, and a mask.
 pub struct Action {
