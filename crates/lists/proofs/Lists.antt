@@ -9,7 +9,7 @@ use native.Mathlib.Omega.{arith}
 use lib.ListN.{length, getD, take, drop, set, replicate, length-append, length-replicate, length-map, List·getD-append}
 use lib.Seq.{append-snoc, set-append-seam, take-append-le, getD-take, drop-append-seam}
 use borrow.Author.Tests.{not-true}
-use Rattle.lists.specs.Lists.{all, any, count, find, first, keep, leading, dropFirst, change, replaceFirst, isSome, pairs, padded, All, consIf}
+use Rattle.lists.specs.Lists.{all, any, count, find, first, keep, leading, dropFirst, change, replaceFirst, isSome, pairs, pairsWhere, padded, All, consIf}
 use Rattle.lists.proofs.Bools.{split, clash, same-test, and-fst, and-snd, and-both, and-left, and-right, or-left, or-right, or-both, or-fst-false, or-snd-false, or-cases, not-or, cond-map, cond-kept, cond-same}
 
 -- x passes the test, or fails it
@@ -698,6 +698,16 @@ module _ {A : Type 0} where
   pairs-keep r p (x ∷ xs) e =
       let i : pairs r (keep p xs) ≡ true = pairs-keep r p xs (and-snd (all (r x) xs) (pairs r xs) e) in
       split (p x) (λ f. rw f (and-both (all-keep (r x) p xs (and-fst (all (r x) xs) (pairs r xs) e)) i)) (λ f. rw f i)
+
+  all-or : (b : Bool) (q : A → Bool) (l : List A) → (b || all q l) ≡ all (λ x. b || q x) l
+  all-or true q l = sym (All-all (λ _. true) l (All-every (λ _. true ≡ true) (λ _. refl) l))
+  all-or false q l = refl
+
+  -- the test of the first of a pair may stand in the test of the pair
+  pub pairsWhere-pairs : (p : A → Bool) (r : A → A → Bool) (l : List A) → pairsWhere p r l ≡ pairs (λ x y. not (p x) || r x y) l
+  unfolding pairsWhere pairs
+  pairsWhere-pairs p r [] = refl
+  pairsWhere-pairs p r (x ∷ xs) = ap₂ (λ a b. a && b) (all-or (not (p x)) (r x) xs) (pairsWhere-pairs p r xs)
 
   -- where no two pass, one at most does
   pub pairs-count : (t : A → Bool) (l : List A) → pairs (λ x y. not (t x && t y)) l ≡ true → count t l ≤ 1

@@ -1,5 +1,5 @@
 -- Tests and changes over a list. Nothing here knows what the list holds.
-use mathlib.Core.Bool.{Bool, true, false, _&&_, _||_, cond}
+use mathlib.Core.Bool.{Bool, true, false, not, _&&_, _||_, cond}
 use mathlib.Core.List.{List, [], _∷_, _++_}
 use mathlib.Core.Option.{Option, some, none}
 use Prim.Native.Nat.{ℕ, zero, suc, _+_, _-_}
@@ -65,6 +65,11 @@ module _ {A : Type 0} (p : A → Bool) where
 unfoldable pub pairs : {A : Type 0} → (A → A → Bool) → List A → Bool
 pairs r [] = true
 pairs r (x ∷ xs) = all (r x) xs && pairs r xs
+
+-- the same of every member that passes a test and every later one
+unfoldable pub pairsWhere : {A : Type 0} → (A → Bool) → (A → A → Bool) → List A → Bool
+pairsWhere p r [] = true
+pairsWhere p r (x ∷ xs) = (not (p x) || all (r x) xs) && pairsWhere p r xs
 
 unfoldable pub sum : {A : Type 0} → (A → ℕ) → List A → ℕ
 sum f [] = 0

@@ -159,9 +159,52 @@ Holds c = answers (c .calls) ≡ c .expected
 abbrev starredCases : List Case
 starredCases = case1 ∷ case2 ∷ case3 ∷ case4 ∷ case4Nodefer ∷ case4Full ∷ case5 ∷ case6 ∷ case6Queues ∷ case8 ∷ case10 ∷ []
 
-pub starred : All Holds starredCases
+case1-holds : Holds case1
 unfolding answers times computing
-starred = (refl, (refl, (refl, (refl, (refl, (refl, (refl, (refl, (refl, (refl, (refl, tt)))))))))))
+case1-holds = refl
+
+case2-holds : Holds case2
+unfolding answers times computing
+case2-holds = refl
+
+case3-holds : Holds case3
+unfolding answers times computing
+case3-holds = refl
+
+case4-holds : Holds case4
+unfolding answers times computing
+case4-holds = refl
+
+case4Nodefer-holds : Holds case4Nodefer
+unfolding answers times computing
+case4Nodefer-holds = refl
+
+case4Full-holds : Holds case4Full
+unfolding answers times computing
+case4Full-holds = refl
+
+case5-holds : Holds case5
+unfolding answers times computing
+case5-holds = refl
+
+case6-holds : Holds case6
+unfolding answers times computing
+case6-holds = refl
+
+case6Queues-holds : Holds case6Queues
+unfolding answers times computing
+case6Queues-holds = refl
+
+case8-holds : Holds case8
+unfolding answers times computing
+case8-holds = refl
+
+case10-holds : Holds case10
+unfolding answers times computing
+case10-holds = refl
+
+pub starred : All Holds starredCases
+starred = (case1-holds, (case2-holds, (case3-holds, (case4-holds, (case4Nodefer-holds, (case4Full-holds, (case5-holds, (case6-holds, (case6Queues-holds, (case8-holds, (case10-holds, tt)))))))))))
 
 -- ---- "Readings that bit us"
 
@@ -198,9 +241,20 @@ resetHandler =
 abbrev readingCases : List Case
 readingCases = unblocking ∷ blockedCont ∷ resetHandler ∷ []
 
-pub readings : All Holds readingCases
+unblocking-holds : Holds unblocking
 unfolding answers times computing
-readings = (refl, (refl, (refl, tt)))
+unblocking-holds = refl
+
+blockedCont-holds : Holds blockedCont
+unfolding answers times computing
+blockedCont-holds = refl
+
+resetHandler-holds : Holds resetHandler
+unfolding answers times computing
+resetHandler-holds = refl
+
+pub readings : All Holds readingCases
+readings = (unblocking-holds, (blockedCont-holds, (resetHandler-holds, tt)))
 
 -- ---- numbers that are no signal, no id and no way
 
@@ -234,6 +288,17 @@ noWay =
 abbrev badInputCases : List Case
 badInputCases = noSignal ∷ noId ∷ noWay ∷ []
 
+noSignal-holds : Holds noSignal
+unfolding answers times computing
+noSignal-holds = refl
+
+noId-holds : Holds noId
+unfolding answers times computing
+noId-holds = refl
+
+noWay-holds : Holds noWay
+unfolding answers times computing
+noWay-holds = refl
+
 pub badInput : All Holds badInputCases
-unfolding answers computing
-badInput = (refl, (refl, (refl, tt)))
+badInput = (noSignal-holds, (noId-holds, (noWay-holds, tt)))

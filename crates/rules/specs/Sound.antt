@@ -6,7 +6,7 @@ use lib.Bits.{bitAnd}
 use lib.Dec.{eqb, leb, ltb}
 use lib.ListN.{length, drop}
 use Rattle.limits.specs.Limits.{processPlaces, threadPlaces, bufferRecords, signals, recordLimit, largestId, knownFlags, siQueue, SIGKILL, SIGSTOP}
-use Rattle.lists.specs.Lists.{all, any, pairs, range}
+use Rattle.lists.specs.Lists.{all, any, pairsWhere, range}
 use Rattle.sigset.specs.declared.SigSet.{SigSet}
 use Rattle.sigset.specs.Set.{has, isUnmaskable}
 use Rattle.types.specs.declared.Action.{Action}
@@ -21,17 +21,19 @@ abbrev pub implies : Bool → Bool → Bool
 implies a b = not a || b
 
 module _ {A : Type 0} (id : A → ℕ) where
+  abbrev pub isLive : Place A → Bool
+  isLive x = not (eqb (id (x .holds)) 0)
+
   -- a live place passes the test
   abbrev pub ifLive : (Place A → Bool) → Place A → Bool
-  ifLive p x = implies (not (eqb (id (x .holds)) 0)) (p x)
+  ifLive p x = implies (isLive x) (p x)
 
   -- a free place passes the test
   abbrev pub ifFree : (Place A → Bool) → Place A → Bool
-  ifFree p x = implies (eqb (id (x .holds)) 0) (p x)
+  ifFree p x = implies (not (isLive x)) (p x)
 
-  -- a live place has another id than a later one
   abbrev pub apart : Place A → Place A → Bool
-  apart x y = eqb (id (x .holds)) 0 || not (eqb (id (x .holds)) (id (y .holds)))
+  apart x y = not (eqb (id (x .holds)) (id (y .holds)))
 
 abbrev pub processId : Process → ℕ
 processId p = p .id
@@ -88,7 +90,7 @@ unfoldable pub idsInRange : Store → Bool
 idsInRange st = all (ifLive processId goodProcessId) (st .processes) && all (ifLive threadId goodThreadId) (st .threads)
 
 unfoldable pub idsDistinct : Store → Bool
-idsDistinct st = pairs (apart processId) (st .processes) && pairs (apart threadId) (st .threads)
+idsDistinct st = pairsWhere (isLive processId) (apart processId) (st .processes) && pairsWhere (isLive threadId) (apart threadId) (st .threads)
 
 -- ---- a field is a value of its kind: user ids and session ids are 32-bit numbers, "stopped or not" is 1 or 0
 
@@ -190,17 +192,20 @@ limitKept st = all (ifLive processId (withinLimit st)) (st .processes)
 
 -- ---- "a standard signal is pending at most once in a queue, mark or record"
 
--- a record of a standard signal and a later one are not of one queue and signal
+unfoldable pub isStandard : Siginfo → Bool
+isStandard r = standard (r .signal)
+
+-- two records are not of one queue and signal
 unfoldable pub notTwice : Siginfo → Siginfo → Bool
-notTwice a b = not (standard (a .signal) && (eqb (a .signal) (b .signal) && sameQueue (queueOf a) (queueOf b)))
+notTwice a b = not (eqb (a .signal) (b .signal) && sameQueue (queueOf a) (queueOf b))
 
 unfoldable pub notMarkedToo : Store → Siginfo → Bool
-notMarkedToo st r = not (standard (r .signal) && markIn st (queueOf r) (r .signal))
+notMarkedToo st r = implies (isStandard r) (not (markIn st (queueOf r) (r .signal)))
 
 unfoldable pub pendingOnce : Store → Bool
 pendingOnce st =
-    pairs notTwice (used (st .threadBuffer))
-    && (pairs notTwice (used (st .processBuffer))
+    pairsWhere isStandard notTwice (used (st .threadBuffer))
+    && (pairsWhere isStandard notTwice (used (st .processBuffer))
     && (all (notMarkedToo st) (used (st .threadBuffer)) && all (notMarkedToo st) (used (st .processBuffer))))
 
 -- ---- "nothing pending has an ignored action, by choice or by default"
