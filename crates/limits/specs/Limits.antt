@@ -21,6 +21,10 @@ recordLimit = 32
 abbrev pub largestId : ℕ
 largestId = 2147483647
 
+-- The largest user id and session id: 32 bits.
+abbrev pub largestUser : ℕ
+largestUser = 4294967295
+
 -- ---- signals: 1 to lastStandard are standard, the rest to signals realtime
 
 abbrev pub signals : ℕ

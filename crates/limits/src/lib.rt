@@ -15,6 +15,9 @@ pub const RECORD_LIMIT: usize = 32;
 // The largest process or thread id.
 pub const LARGEST_ID: u32 = 2147483647;
 
+// The largest user id and session id: 32 bits.
+pub const LARGEST_USER: u32 = 4294967295;
+
 // ---- signals: 1 to LAST_STANDARD are standard, the rest to SIGNALS realtime
 
 pub const SIGNALS: u32 = 64;

@@ -72,7 +72,7 @@ finish (suc n) c st = (st, refused (suc n))
 unfoldable pub step : Call → Store → Store × Answer
 step c st = finish (refusalOf st c) c st
 
--- "Each gets the tables as the one before left them"
+-- a list of calls, each on the store that the one before left
 unfoldable pub run : List Call → Store → Store × List Answer
 run [] st = (st, [])
 run (c ∷ cs) st =

@@ -53,7 +53,7 @@ runs r = handler 5000 (r .signal) r 0 empty
 abbrev taken : List Call
 taken = take 200 ∷ return 200 empty ∷ []
 
-pub times : {A : Type 0} → ℕ → List A → List A
+unfoldable pub times : {A : Type 0} → ℕ → List A → List A
 times zero l = []
 times (suc n) l = l ++ times n l
 

@@ -11,3 +11,5 @@ pub mod Refusals
 pub mod Calls
 pub mod Computing
 pub mod Cases
+pub mod Examples
+pub mod Damaged

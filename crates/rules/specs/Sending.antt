@@ -38,7 +38,7 @@ module _ (v : View) where
       (cond (absorbs queued q s) absorbing
       (cond queued keeping marking)))))
 
-  -- the record of a queued send: "code (-1, queued)", sender, the sender's real user id, value. Of a plain send only its queue and signal are used.
+  -- the record of a queued send: "code 4 (-1, queued)", sender, the sender's real user id, value. Of a plain send only its queue and signal are used.
   unfoldable pub infoOf : (by to thread signal value : ℕ) → Siginfo
   infoOf by to thread signal value =
       record { process = to; thread = thread; signal = signal; code = siQueue; sender = by; uid = theProcess v by .real; value = value }

@@ -1,11 +1,11 @@
 -- "A store is sound when": one test, a clause for each of the paper's, in its order.
-use Prim.Native.Nat.{ℕ, _^_}
+use Prim.Native.Nat.{ℕ}
 use mathlib.Core.Bool.{Bool, not, _&&_, _||_}
 use mathlib.Core.List.{List}
 use lib.Bits.{bitAnd}
-use lib.Dec.{eqb, leb, ltb}
+use lib.Dec.{eqb, leb}
 use lib.ListN.{length, drop}
-use Rattle.limits.specs.Limits.{processPlaces, threadPlaces, bufferRecords, signals, recordLimit, largestId, knownFlags, siQueue, SIGKILL, SIGSTOP}
+use Rattle.limits.specs.Limits.{processPlaces, threadPlaces, bufferRecords, signals, recordLimit, largestId, largestUser, knownFlags, siQueue, SIGKILL, SIGSTOP}
 use Rattle.lists.specs.Lists.{all, any, pairsWhere, range}
 use Rattle.sigset.specs.declared.SigSet.{SigSet}
 use Rattle.sigset.specs.Set.{has, isUnmaskable}
@@ -94,13 +94,13 @@ idsDistinct st = pairsWhere (isLive processId) (apart processId) (st .processes)
 
 -- ---- a field is a value of its kind: user ids and session ids are 32-bit numbers, "stopped or not" is 1 or 0
 
-unfoldable pub wordSized : ℕ → Bool
-wordSized n = ltb n (2 ^ 32)
+unfoldable pub goodUser : ℕ → Bool
+goodUser n = leb n largestUser
 
 unfoldable pub fieldsFit : Place Process → Bool
 fieldsFit x =
-    wordSized (x .holds .real)
-    && (wordSized (x .holds .effective) && (wordSized (x .holds .saved) && (wordSized (x .holds .session) && leb (x .holds .stopped) 1)))
+    goodUser (x .holds .real)
+    && (goodUser (x .holds .effective) && (goodUser (x .holds .saved) && (goodUser (x .holds .session) && leb (x .holds .stopped) 1)))
 
 unfoldable pub fieldsInRange : Store → Bool
 fieldsInRange st = all fieldsFit (st .processes)

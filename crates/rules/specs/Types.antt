@@ -58,7 +58,7 @@ pub data Call : Type 0 where
   look : (thread : ℕ) → Call
   who : (process : ℕ) → Call
   take : (thread : ℕ) → Call
-  return : (thread : ℕ) (saved : SigSet) → Call
+  return : (thread : ℕ) (mask : SigSet) → Call
 
 -- ---- the answers, in the paper's words
 

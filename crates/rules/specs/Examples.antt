@@ -1,0 +1,229 @@
+-- The examples of docs/CALLS.md, line by line: each call and what it answers, by computation. The comments are the page's lines.
+use Prim.Native.Nat.{ℕ, zero, suc}
+use mathlib.Core.Path.{_≡_, refl}
+use mathlib.Core.List.{List, [], _∷_, _++_, map}
+use mathlib.Core.Option.{some, none}
+use lib.ListN.{take as firsts}
+use Rattle.limits.specs.Limits.{recordLimit}
+use Rattle.sigset.specs.Set.{bits, empty}
+use Rattle.types.specs.Values.{defaultAction}
+use Rattle.rules.specs.Types.{Call, clear, addProcess, addThread, endProcess, endThread, kill, queue, action, mask, pending, look, who, take, return, noNext, nextMark, nextRecord, Answer, refused, done, tested, acted, dropped, absorbed, marked, kept, oldAction, oldMask, pendingSet, looked, canTake, noneCan, nothing, handler, end, stop, noAction}
+use Rattle.rules.specs.Store.{Store, cleared}
+use Rattle.rules.specs.Calls.{run, Part, emptyPart, processSlot, lookPart}
+use Rattle.rules.specs.Cases.{times}
+use Rattle.rules.specs.Computing.{computing}
+
+abbrev called : Call × Answer → Call
+called x = x .0
+
+abbrev answered : Call × Answer → Answer
+answered x = x .1
+
+-- the story down the page
+abbrev story : List (Call × Answer)
+story =
+    -- clear → done
+    (clear, done)
+    -- add_process id=1 real=0 effective=0 saved=0 session=1 thread=2 mask=0 → done
+    ∷ (addProcess 1 0 0 0 1 2 empty, done)
+    -- add_process id=100 real=1000 effective=1000 saved=1000 session=7 thread=200 mask=0 → done
+    ∷ (addProcess 100 1000 1000 1000 7 200 empty, done)
+    -- add_process id=300 real=1001 effective=1001 saved=1001 session=8 thread=400 mask=768 → done
+    ∷ (addProcess 300 1001 1001 1001 8 400 (bits 768), done)
+    -- mask thread=400 way=0 → old mask 512
+    ∷ (mask 400 0 none, oldMask (bits 512))
+    -- add_process id=2147483648 real=0 effective=0 saved=0 session=1 thread=500 mask=0 → refused 22
+    ∷ (addProcess 2147483648 0 0 0 1 500 empty, refused 22)
+    -- add_process id=301 real=0 effective=0 saved=0 session=1 thread=200 mask=0 → refused 17
+    ∷ (addProcess 301 0 0 0 1 200 empty, refused 17)
+    -- add_thread creator=200 id=201 → done
+    ∷ (addThread 200 201, done)
+    -- add_thread creator=400 id=401 → done
+    ∷ (addThread 400 401, done)
+    -- mask thread=401 way=0 → old mask 512
+    ∷ (mask 401 0 none, oldMask (bits 512))
+    -- add_thread creator=999 id=0 → refused 22
+    ∷ (addThread 999 0, refused 22)
+    -- add_thread creator=999 id=200 → refused 3
+    ∷ (addThread 999 200, refused 3)
+    -- add_thread creator=200 id=200 → refused 17
+    ∷ (addThread 200 200, refused 17)
+    -- end_process id=300 → done
+    ∷ (endProcess 300, done)
+    -- mask thread=401 way=0 → refused 3
+    ∷ (mask 401 0 none, refused 3)
+    -- add_process id=302 real=1001 effective=1001 saved=1001 session=8 thread=402 mask=0 → done
+    ∷ (addProcess 302 1001 1001 1001 8 402 empty, done)
+    -- add_thread creator=402 id=403 → done
+    ∷ (addThread 402 403, done)
+    -- end_thread id=402 → done
+    ∷ (endThread 402, done)
+    -- who process=302 → none can
+    ∷ (who 302, noneCan)
+    -- end_thread id=403 → done
+    ∷ (endThread 403, done)
+    -- who process=302 → refused 3
+    ∷ (who 302, refused 3)
+    -- kill by=1 to=100 thread=0 signal=0 → tested
+    ∷ (kill 1 100 0 0, tested)
+    -- kill by=100 to=1 thread=0 signal=0 → refused 1
+    ∷ (kill 100 1 0 0, refused 1)
+    -- kill by=100 to=100 thread=2 signal=10 → refused 3
+    ∷ (kill 100 100 2 10, refused 3)
+    -- kill by=100 to=100 thread=0 signal=2 → marked
+    ∷ (kill 100 100 0 2, marked)
+    -- kill by=1 to=100 thread=0 signal=2 → absorbed
+    ∷ (kill 1 100 0 2, absorbed)
+    -- kill by=1 to=100 thread=200 signal=17 → dropped
+    ∷ (kill 1 100 200 17, dropped)
+    -- kill by=1 to=100 thread=201 signal=20 → marked
+    ∷ (kill 1 100 201 20, marked)
+    -- kill by=1 to=100 thread=200 signal=19 → acted
+    ∷ (kill 1 100 200 19, acted)
+    -- kill by=1 to=100 thread=0 signal=18 → marked
+    ∷ (kill 1 100 0 18, marked)
+    -- kill by=1 to=100 thread=201 signal=20 → marked
+    ∷ (kill 1 100 201 20, marked)
+    -- kill by=1 to=100 thread=0 signal=18 → marked
+    ∷ (kill 1 100 0 18, marked)
+    -- queue by=100 to=100 thread=0 signal=40 value=7 → kept
+    ∷ (queue 100 100 0 40 7, kept)
+    -- queue by=1 to=100 thread=200 signal=40 value=8 → kept
+    ∷ (queue 1 100 200 40 8, kept)
+    -- queue by=1 to=100 thread=0 signal=2 value=9 → absorbed
+    ∷ (queue 1 100 0 2 9, absorbed)
+    -- queue by=1 to=100 thread=0 signal=65 value=9 → refused 22
+    ∷ (queue 1 100 0 65 9, refused 22)
+    -- action process=100 signal=40 handler=5000 flags=5 mask=2304 → old action handler=0 flags=0 mask=0
+    ∷ (action 100 40 (some (record { handler = 5000; flags = 5; mask = bits 2304 })), oldAction defaultAction)
+    -- action process=100 signal=40 → old action handler=5000 flags=4 mask=2048
+    ∷ (action 100 40 none, oldAction (record { handler = 5000; flags = 4; mask = bits 2048 }))
+    -- action process=100 signal=2 handler=1 flags=0 mask=0 → old action handler=0 flags=0 mask=0
+    ∷ (action 100 2 (some (record { handler = 1; flags = 0; mask = empty })), oldAction defaultAction)
+    -- queue by=1 to=100 thread=0 signal=2 value=9 → dropped
+    ∷ (queue 1 100 0 2 9, dropped)
+    -- action process=100 signal=9 → old action handler=0 flags=0 mask=0
+    ∷ (action 100 9 none, oldAction defaultAction)
+    -- action process=100 signal=9 handler=0 flags=0 mask=0 → refused 22
+    ∷ (action 100 9 (some defaultAction), refused 22)
+    -- mask thread=200 way=0 set=549756076032 → old mask 0
+    ∷ (mask 200 0 (some (bits 549756076032)), oldMask empty)
+    -- mask thread=200 way=7 → old mask 549755813888
+    ∷ (mask 200 7 none, oldMask (bits 549755813888))
+    -- mask thread=200 way=7 set=1 → refused 22
+    ∷ (mask 200 7 (some (bits 1)), refused 22)
+    -- pending thread=200 → pending set 549755813888
+    ∷ (pending 200, pendingSet (bits 549755813888))
+    -- pending thread=201 → pending set 0
+    ∷ (pending 201, pendingSet empty)
+    -- look thread=200 → looked mark of 18 in queue 100 0
+    ∷ (look 200, looked (nextMark (record { process = 100; thread = 0 }) 18))
+    -- take thread=200 → no action 18
+    ∷ (take 200, noAction 18)
+    -- look thread=200 → looked nothing
+    ∷ (look 200, looked noNext)
+    -- look thread=201 → looked record (100 0 40 -1 100 1000 7)
+    ∷ (look 201, looked (nextRecord (record { process = 100; thread = 0 }) 40 (record { process = 100; thread = 0; signal = 40; code = 4294967295; sender = 100; uid = 1000; value = 7 })))
+    -- look thread=202 → refused 3
+    ∷ (look 202, refused 3)
+    -- who process=100 → can take 201
+    ∷ (who 100, canTake 201)
+    -- mask thread=200 way=1 set=549755813888 → old mask 549755813888
+    ∷ (mask 200 1 (some (bits 549755813888)), oldMask (bits 549755813888))
+    -- who process=100 → can take 200
+    ∷ (who 100, canTake 200)
+    -- who process=1 → none can
+    ∷ (who 1, noneCan)
+    -- take thread=200 → handler 5000 signal 40 record (100 200 40 -1 1 0 8) flags 4 saved 0
+    ∷ (take 200, handler 5000 40 (record { process = 100; thread = 200; signal = 40; code = 4294967295; sender = 1; uid = 0; value = 8 }) 4 empty)
+    -- mask thread=200 way=0 → old mask 549755815936
+    ∷ (mask 200 0 none, oldMask (bits 549755815936))
+    -- take thread=200 → nothing
+    ∷ (take 200, nothing)
+    -- return thread=200 mask=0 → old mask 549755815936
+    ∷ (return 200 empty, oldMask (bits 549755815936))
+    -- take thread=200 → handler 5000 signal 40 record (100 0 40 -1 100 1000 7) flags 4 saved 0
+    ∷ (take 200, handler 5000 40 (record { process = 100; thread = 0; signal = 40; code = 4294967295; sender = 100; uid = 1000; value = 7 }) 4 empty)
+    -- return thread=200 mask=0 → old mask 549755815936
+    ∷ (return 200 empty, oldMask (bits 549755815936))
+    -- take thread=200 → nothing
+    ∷ (take 200, nothing)
+    -- action process=100 signal=10 handler=6000 flags=2147483652 mask=0 → old action handler=0 flags=0 mask=0
+    ∷ (action 100 10 (some (record { handler = 6000; flags = 2147483652; mask = empty })), oldAction defaultAction)
+    -- kill by=1 to=100 thread=0 signal=10 → marked
+    ∷ (kill 1 100 0 10, marked)
+    -- take thread=201 → handler 6000 signal 10 record (100 0 10 0 0 0 0) flags 2147483652 saved 0
+    ∷ (take 201, handler 6000 10 (record { process = 100; thread = 0; signal = 10; code = 0; sender = 0; uid = 0; value = 0 }) 2147483652 empty)
+    -- mask thread=201 way=0 → old mask 512
+    ∷ (mask 201 0 none, oldMask (bits 512))
+    -- return thread=201 mask=0 → old mask 512
+    ∷ (return 201 empty, oldMask (bits 512))
+    -- action process=100 signal=10 → old action handler=0 flags=2147483648 mask=0
+    ∷ (action 100 10 none, oldAction (record { handler = 0; flags = 2147483648; mask = empty }))
+    -- kill by=1 to=100 thread=0 signal=20 → marked
+    ∷ (kill 1 100 0 20, marked)
+    -- take thread=200 → stop 20
+    ∷ (take 200, stop 20)
+    -- kill by=1 to=100 thread=0 signal=15 → marked
+    ∷ (kill 1 100 0 15, marked)
+    -- take thread=200 → nothing
+    ∷ (take 200, nothing)
+    -- kill by=1 to=100 thread=0 signal=18 → marked
+    ∷ (kill 1 100 0 18, marked)
+    -- take thread=200 → end 15
+    ∷ (take 200, end 15)
+    -- take thread=200 → refused 3
+    ∷ (take 200, refused 3)
+    ∷ []
+
+pub told : run (map called story) cleared .1 ≡ map answered story
+unfolding computing
+told = refl
+
+-- the store after so many lines of the story
+pub afterLines : ℕ → Store
+afterLines n = run (map called (firsts n story)) cleared .0
+
+-- the look itself, before each line of the look's example
+pub record Look : Type 0 where
+  pub lines : ℕ
+  pub thread : ℕ
+  pub part : Part
+
+abbrev looks : List Look
+looks =
+    record { lines = 47; thread = 200; part = emptyPart }
+    ∷ record { lines = 49; thread = 200; part = emptyPart }
+    ∷ record { lines = 50; thread = 201; part = processSlot 0 }
+    ∷ record { lines = 51; thread = 202; part = emptyPart }
+    ∷ []
+
+abbrev lookedAt : Look → Part
+lookedAt x = lookPart (x .thread) (afterLines (x .lines))
+
+abbrev partOfLook : Look → Part
+partOfLook x = x .part
+
+pub parts : map lookedAt looks ≡ map partOfLook looks
+unfolding afterLines computing
+parts = refl
+
+-- beside the story: process 100 alone, with 32 records of 34 pending
+abbrev crowd : List Call
+crowd = addProcess 100 1000 1000 1000 7 200 empty ∷ times recordLimit (queue 100 100 0 34 7 ∷ [])
+
+abbrev beside : List (Call × Answer)
+beside =
+    -- queue by=100 to=100 thread=200 signal=40 value=7 → refused 11
+    (queue 100 100 200 40 7, refused 11)
+    -- queue by=100 to=100 thread=0 signal=18 value=7 → refused 11
+    ∷ (queue 100 100 0 18 7, refused 11)
+    -- queue by=100 to=100 thread=0 signal=17 value=7 → dropped
+    ∷ (queue 100 100 0 17 7, dropped)
+    -- queue by=100 to=100 thread=0 signal=9 value=7 → acted
+    ∷ (queue 100 100 0 9 7, acted)
+    ∷ []
+
+pub crowded : run (map called beside) (run crowd cleared .0) .1 ≡ map answered beside
+unfolding times computing
+crowded = refl
