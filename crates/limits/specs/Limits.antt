@@ -103,7 +103,7 @@ sigSetmask = 2
 -- ---- the code of a queued record, -1 in 32 bits
 
 abbrev pub siQueue : ℕ
-siQueue = 0xFFFFFFFF
+siQueue = 0xffffffff
 
 -- ---- refusals
 

@@ -28,7 +28,7 @@ use Rattle.rules.specs.Actions.{stored, storeChanges, actionChanges, new
 use Rattle.rules.specs.Taking.{handlerMask, resets, reset, resetChanges, outcomeChanges, deliver, takeChanges, next}
 use Rattle.rules.specs.Adding.{newborn, addProcessChanges, addThreadChanges, otherThread, endThreadChanges}
 use Rattle.rules.specs.Refusals.{refusalOf}
-use Rattle.rules.specs.Calls.{send, changes, finish, step}
+use Rattle.rules.specs.Calls.{send, changes, finish, step, run}
 use Rattle.rules.specs.Computing.{computing}
 use Rattle.rules.proofs.Clauses.{clauses}
 use Rattle.rules.proofs.Table.{accepted-sound}
@@ -314,6 +314,15 @@ module _ (v : View) (h : CleanView v) where
 -- no call stores 9 or 19 in a mask, a mark or an action's mask
 pub stored-clean : (c : Call) (st : Store) → Clean st → Clean (step c st .0)
 stored-clean = step-keeps Clean cleanChange change-clean (λ c st h. changes-clean (view st) (clean-view st h) c)
+
+-- so none is ever stored, whatever the calls from a cleared store on
+pub run-clean : (cs : List Call) (st : Store) → Clean st → Clean (run cs st .0)
+unfolding run
+run-clean [] st h = h
+run-clean (c ∷ cs) st h = run-clean cs (step c st .0) (stored-clean c st h)
+
+pub never-stored : (cs : List Call) → Clean (run cs cleared .0)
+never-stored cs = run-clean cs cleared clean-cleared
 
 -- the sets of an answer have neither
 unfoldable pub cleanAnswer : Answer → Bool
