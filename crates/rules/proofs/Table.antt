@@ -111,6 +111,24 @@ pub accepted-sound : (st : Store) (c : Call) → isClear c ≡ false → refusal
 unfolding table fault
 accepted-sound st c k e = sym (cond-false (lengthsRight st) (sound st) k) ∙ not-false _ (accepted-off st c e .0)
 
+-- clearing is the one call that asks for lengths alone
+pub is-clear : (c : Call) → isClear c ≡ true → c ≡ clear
+unfolding isClear
+is-clear clear e = refl
+is-clear (addProcess id real effective saved session thread m) e = clash e refl
+is-clear (addThread creator id) e = clash e refl
+is-clear (endProcess id) e = clash e refl
+is-clear (endThread id) e = clash e refl
+is-clear (kill by to t s) e = clash e refl
+is-clear (queue by to t s value) e = clash e refl
+is-clear (action p s new) e = clash e refl
+is-clear (mask t way set) e = clash e refl
+is-clear (pending t) e = clash e refl
+is-clear (look t) e = clash e refl
+is-clear (who p) e = clash e refl
+is-clear (take t) e = clash e refl
+is-clear (return t saved) e = clash e refl
+
 -- ---- KILL and STOP are never turned away for want of room
 
 room-for : (v : View) (to t s : ℕ) → isUnmaskable s ≡ true → noRoom v to t s ≡ false

@@ -21,17 +21,17 @@ use Rattle.lists.proofs.Loops.{all-set}
 use Rattle.rules.specs.Types.{Process, Thread, Queue, noProcess, noThread, Call, clear, addProcess, addThread, endProcess, endThread, kill, queue, action, mask, pending, look, who, take, return, Next, noNext, nextMark, nextRecord, Answer, refused, done, tested, acted, dropped, absorbed, marked, kept, oldAction, oldMask, pendingSet, looked, canTake, noneCan, nothing, handler, end, stop, noAction}
 use Rattle.rules.specs.Signals.{Outcome, ignores, stops, continues, ends, outcome, ignored, stopSignal}
 use Rattle.rules.specs.View.{View, Change, forget, newProcess, newThread, removeProcess, removeThread, setStopped, setAction, setMask, setMark, clearMark, append, dropOldest, discard, isProcess, isThread, sameQueue, processQueue, threadQueue, actionOf, theProcess, theThread, threadAction, pendingFor}
-use Rattle.rules.specs.Store.{Place, Store, held, freeProcess, freeThread, cleared, view, apply, onMarks}
+use Rattle.rules.specs.Store.{Place, Store, held, freeProcess, freeThread, cleared, view, apply, applyAll, onMarks}
 use Rattle.rules.specs.Sound.{unmasked, actionUnmasked, processUnmasked, threadUnmasked, nothingUnmaskable}
 use Rattle.rules.specs.Sending.{Fate, testing, killing, stopping, dropping, absorbing, marking, keeping, fate, infoOf, jobControl, sendChanges}
 use Rattle.rules.specs.Actions.{stored, storeChanges, actionChanges, newMask, maskChanges, blockedPending}
 use Rattle.rules.specs.Taking.{handlerMask, resets, reset, resetChanges, outcomeChanges, deliver, takeChanges, next}
 use Rattle.rules.specs.Adding.{newborn, addProcessChanges, addThreadChanges, otherThread, endThreadChanges}
-use Rattle.rules.specs.Refusals.{refusalOf}
-use Rattle.rules.specs.Calls.{send, changes, finish, step, run}
+use Rattle.rules.specs.Refusals.{refusalOf, isClear}
+use Rattle.rules.specs.Calls.{send, changes, stages, runStages, finish, step, isRefused}
 use Rattle.rules.specs.Computing.{computing}
 use Rattle.rules.proofs.Clauses.{clauses}
-use Rattle.rules.proofs.Table.{accepted-sound}
+use Rattle.rules.proofs.Table.{accepted-sound, is-clear}
 use Rattle.rules.proofs.Steps.{step-keeps}
 use Rattle.rules.proofs.Answers.{PassesWords, PassesSets, answer-passes}
 
@@ -315,14 +315,21 @@ module _ (v : View) (h : CleanView v) where
 pub stored-clean : (c : Call) (st : Store) → Clean st → Clean (step c st .0)
 stored-clean = step-keeps Clean cleanChange change-clean (λ c st h. changes-clean (view st) (clean-view st h) c)
 
--- so none is ever stored, whatever the calls from a cleared store on
-pub run-clean : (cs : List Call) (st : Store) → Clean st → Clean (run cs st .0)
-unfolding run
-run-clean [] st h = h
-run-clean (c ∷ cs) st h = run-clean cs (step c st .0) (stored-clean c st h)
+accepted-clean : (c : Call) (st : Store) → refusalOf st c ≡ 0 → Clean (finish 0 c st .0)
+unfolding finish
+accepted-clean c st e =
+    split (isClear c)
+    (λ k. subst (λ (x : Call). Clean (finish 0 x st .0)) (sym (is-clear c k)) (unfold finish stages runStages changes applyAll apply in clean-cleared))
+    (λ k. subst (λ (n : ℕ). Clean (finish n c st .0)) e (unfold step in stored-clean c st (clauses st (accepted-sound st c k e) .unmaskedSets)))
 
-pub never-stored : (cs : List Call) → Clean (run cs cleared .0)
-never-stored cs = run-clean cs cleared clean-cleared
+-- whatever the store was, a call that is not refused leaves none in it
+pub left-clean : (c : Call) (st : Store) → isRefused (step c st .1) ≡ false → Clean (step c st .0)
+unfolding step
+left-clean c st a = go (refusalOf st c) refl a
+  where
+    go : (n : ℕ) → refusalOf st c ≡ n → isRefused (finish n c st .1) ≡ false → Clean (finish n c st .0)
+    go zero e a = accepted-clean c st e
+    go (suc n) e a = unfold finish isRefused in clash refl a
 
 -- the sets of an answer have neither
 unfoldable pub cleanAnswer : Answer → Bool

@@ -1,19 +1,18 @@
 -- Soundness, clause by clause: for each clause a store that it alone refuses, and stores at the edge that none refuses.
-use Prim.Native.Nat.{ℕ, zero, suc, _-_}
+use Prim.Native.Nat.{ℕ, suc, _-_}
 use mathlib.Core.Path.{_≡_, refl}
 use mathlib.Core.Bool.{Bool, true, not}
-use mathlib.Core.List.{List, [], _∷_, _++_, map}
-use mathlib.Core.Option.{some, none}
+use mathlib.Core.List.{List, [], _∷_, map}
 use lib.Dec.{eqb}
-use lib.ListN.{take as firsts, length, replicate}
+use lib.ListN.{take as firsts, replicate}
 use Rattle.limits.specs.Limits.{processPlaces, recordLimit, largestId, largestUser, knownFlags, siQueue, SIGKILL, SIGCHLD, EFAULT}
-use Rattle.lists.specs.Lists.{range, All}
+use Rattle.lists.specs.Lists.{range}
 use Rattle.sigset.specs.Set.{bits, empty}
 use Rattle.types.specs.declared.Action.{Action}
 use Rattle.types.specs.declared.Siginfo.{Siginfo}
-use Rattle.rules.specs.Types.{Thread, addProcess, action, kill, queue, pending, clear, refused, done}
+use Rattle.rules.specs.Types.{Thread, addProcess, kill, queue, clear, refused, done}
 use Rattle.rules.specs.View.{Change, newProcess, newThread, setStopped, setAction, setMask, setMark, append, processQueue}
-use Rattle.rules.specs.Store.{Store, Place, cleared, freeProcess, applyAll}
+use Rattle.rules.specs.Store.{Store, cleared, applyAll}
 use Rattle.rules.specs.Sound.{lengthsRight, freeZero, idsInRange, idsDistinct, fieldsInRange, threadsOwned, processesPeopled, nothingUnmaskable, unmaskableDefault, allFlagsKnown, recordsLaidOut, limitKept, pendingOnce, nothingIgnored}
 use Rattle.rules.specs.Adding.{newborn}
 use Rattle.rules.specs.Calls.{run, step}

@@ -1,7 +1,7 @@
 -- The examples of docs/CALLS.md, line by line: each call and what it answers, by computation. The comments are the page's lines.
-use Prim.Native.Nat.{ℕ, zero, suc}
+use Prim.Native.Nat.{ℕ}
 use mathlib.Core.Path.{_≡_, refl}
-use mathlib.Core.List.{List, [], _∷_, _++_, map}
+use mathlib.Core.List.{List, [], _∷_, map}
 use mathlib.Core.Option.{some, none}
 use lib.ListN.{take as firsts}
 use Rattle.limits.specs.Limits.{recordLimit}
