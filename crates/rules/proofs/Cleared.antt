@@ -1,13 +1,15 @@
 -- A cleared store: it is sound, nobody lives in it, and what each call is refused with there. Assumes nothing.
 use Prim.Native.Nat.{ℕ, zero, suc}
 use mathlib.Core.Path.{_≡_, refl, ap, _∙_}
-use mathlib.Core.Bool.{Bool, true, false, not, _||_, cond}
+use mathlib.Core.Bool.{Bool, true, false, not, _&&_, _||_, cond}
+use mathlib.Core.List.{map}
 use lib.Dec.{eqb, eqb·zero-suc}
 use lib.ListN.{replicate}
 use Rattle.limits.specs.Limits.{processPlaces, threadPlaces, ESRCH, EINVAL}
+use Rattle.lists.specs.Lists.{any}
 use Rattle.lists.proofs.Bools.{and-fst, and-right}
 use Rattle.lists.proofs.Lists.{any-map, any-replicate}
-use Rattle.rules.specs.Types.{Process, Thread, noProcess, noThread, Call, clear, addProcess, addThread, endProcess, endThread, kill, queue, action, mask, pending, look, who, take, return}
+use Rattle.rules.specs.Types.{Call, clear, addProcess, addThread, endProcess, endThread, kill, queue, action, mask, pending, look, who, take, return}
 use Rattle.rules.specs.View.{isProcess, isThread, liveProcess, liveThread}
 use Rattle.rules.specs.Store.{Place, held, freeProcess, freeThread, cleared, view}
 use Rattle.rules.specs.Sound.{lengthsRight, sound}
@@ -20,25 +22,22 @@ pub sound-cleared : sound cleared ≡ true
 unfolding computing
 sound-cleared = refl
 
+-- a free place has nobody's id
+no-id : (n : ℕ) → (not (eqb n 0) && eqb 0 n) ≡ false
+no-id zero = refl
+no-id (suc n) = and-right (not (eqb (suc n) 0)) (eqb·zero-suc n)
+
+-- none of so many places that hold the same passes a test that this fails
+none-held : {A : Type 0} (p : A → Bool) (x : Place A) (n : ℕ) → p (x .holds) ≡ false → any p (map held (replicate n x)) ≡ false
+none-held {A} p x n e = any-map p held (replicate n x) ∙ any-replicate (λ (y : Place A). p (y .holds)) x e n
+
 pub no-process : (n : ℕ) → liveProcess (view cleared) n ≡ false
-unfolding liveProcess view cleared
-no-process n =
-    any-map (isProcess n) held (replicate processPlaces freeProcess)
-    ∙ any-replicate (λ (x : Place Process). isProcess n (x .holds)) freeProcess (free n) processPlaces
-  where
-    free : (n : ℕ) → isProcess n noProcess ≡ false
-    free zero = unfold isProcess in refl
-    free (suc n) = unfold isProcess in and-right (not (eqb (suc n) 0)) (eqb·zero-suc n)
+unfolding liveProcess view cleared isProcess
+no-process n = none-held (isProcess n) freeProcess processPlaces (no-id n)
 
 pub no-thread : (n : ℕ) → liveThread (view cleared) n ≡ false
-unfolding liveThread view cleared
-no-thread n =
-    any-map (isThread n) held (replicate threadPlaces freeThread)
-    ∙ any-replicate (λ (x : Place Thread). isThread n (x .holds)) freeThread (free n) threadPlaces
-  where
-    free : (n : ℕ) → isThread n noThread ≡ false
-    free zero = unfold isThread in refl
-    free (suc n) = unfold isThread in and-right (not (eqb (suc n) 0)) (eqb·zero-suc n)
+unfolding liveThread view cleared isThread
+no-thread n = none-held (isThread n) freeThread threadPlaces (no-id n)
 
 places-free : (noProcessPlace (view cleared) || noThreadPlace (view cleared)) ≡ false
 unfolding computing

@@ -1,14 +1,15 @@
 -- The refusal table: the first row that applies is the one given, and what follows for every call. Assumes nothing.
 use Prim.Native.Nat.{ℕ}
-use mathlib.Core.Path.{_≡_, refl, sym, ap, subst, _∙_}
+use mathlib.Core.Path.{_≡_, refl, sym, ap, _∙_}
 use mathlib.Core.Bool.{Bool, true, false, not, _&&_, _||_}
 use mathlib.Core.List.{List, [], _∷_, _++_}
 use lib.Dec.{eqb, ltb}
-use borrow.Author.Tests.{eqb-true, not-false}
-use Rattle.limits.specs.Limits.{EAGAIN, SIGKILL, SIGSTOP}
+use borrow.Author.Tests.{not-false}
+use Rattle.limits.specs.Limits.{EAGAIN}
 use Rattle.sigset.specs.Set.{isUnmaskable}
+use Rattle.sigset.proofs.Laws.{each-unmaskable}
 use Rattle.lists.specs.Lists.{all, any, find, pairs, All}
-use Rattle.lists.proofs.Bools.{split, clash, and-fst, and-snd, or-right, or-cases, cond-true, cond-false}
+use Rattle.lists.proofs.Bools.{split, clash, and-fst, and-snd, or-right, cond-true, cond-false}
 use Rattle.lists.proofs.Lists.{Pass, All-imp, all-All}
 use Rattle.rules.specs.Types.{Call, clear, addProcess, addThread, endProcess, endThread, kill, queue, action, mask, pending, look, who, take, return}
 use Rattle.rules.specs.View.{View}
@@ -133,10 +134,7 @@ is-clear (return t saved) e = clash e refl
 
 room-for : (v : View) (to t s : ℕ) → isUnmaskable s ≡ true → noRoom v to t s ≡ false
 unfolding noRoom fate needsRecord
-room-for v to t s u =
-    or-cases (eqb s SIGKILL) (eqb s SIGSTOP) u
-    (λ e. subst (λ (x : ℕ). noRoom v to t x ≡ false) (sym (eqb-true s SIGKILL e)) refl)
-    (λ e. subst (λ (x : ℕ). noRoom v to t x ≡ false) (sym (eqb-true s SIGSTOP e)) refl)
+room-for v to t = each-unmaskable (λ (s : ℕ). noRoom v to t s ≡ false) refl refl
 
 abbrev notFull : ℕ → Bool
 notFull n = not (eqb n EAGAIN)

@@ -10,12 +10,12 @@ use borrow.Author.Tests.{eqb-true, not-true}
 use Rattle.limits.specs.Limits.{SIGKILL, SIGSTOP, signals, sigSetmask, sigDfl, SIGCONT}
 use Rattle.sigset.specs.declared.SigSet.{SigSet}
 use Rattle.sigset.specs.Set.{Signal, has, union, without, maskable, ofSignal, empty, isUnmaskable}
-use Rattle.sigset.proofs.Laws.{has-set, has-of, has-union, has-without, has-maskable, has-empty}
+use Rattle.sigset.proofs.Laws.{each-unmaskable, has-set, has-of, has-union, has-without, has-maskable, has-empty}
 use Rattle.types.specs.declared.Action.{Action}
 use Rattle.types.specs.declared.Siginfo.{Siginfo}
 use Rattle.types.specs.Values.{defaultAction}
 use Rattle.lists.specs.Lists.{all, any, change}
-use Rattle.lists.proofs.Bools.{split, clash, and-fst, and-snd, and-both, and-left, or-both, or-cases, or-fst-false, or-snd-false}
+use Rattle.lists.proofs.Bools.{split, clash, and-fst, and-snd, and-both, and-left, or-both, or-fst-false, or-snd-false}
 use Rattle.lists.proofs.Lists.{all-map, all-imp, all-append, all-replicate, all-replaceFirst, all-change-keeps, all-map-keeps, all-getD, all-first}
 use Rattle.lists.proofs.Loops.{all-set}
 use Rattle.rules.specs.Types.{Process, Thread, Queue, noProcess, noThread, Call, clear, addProcess, addThread, endProcess, endThread, kill, queue, action, mask, pending, look, who, take, return, Next, noNext, nextMark, nextRecord, Answer, refused, done, tested, acted, dropped, absorbed, marked, kept, oldAction, oldMask, pendingSet, looked, canTake, noneCan, nothing, handler, end, stop, noAction}
@@ -50,11 +50,9 @@ unmasked-if m h = ap not (or-both (h SIGKILL kill-signal refl) (h SIGSTOP stop-s
 
 pub unmasked-has : (m : SigSet) → unmasked m ≡ true → (s : ℕ) → isUnmaskable s ≡ true → has m s ≡ false
 unfolding unmasked
-unmasked-has m h s u =
+unmasked-has m h =
     let e : (has m SIGKILL || has m SIGSTOP) ≡ false = not-true (has m SIGKILL || has m SIGSTOP) h in
-    or-cases (eqb s SIGKILL) (eqb s SIGSTOP) u
-    (λ k. subst (λ (x : ℕ). has m x ≡ false) (sym (eqb-true s SIGKILL k)) (or-fst-false (has m SIGKILL) (has m SIGSTOP) e))
-    (λ k. subst (λ (x : ℕ). has m x ≡ false) (sym (eqb-true s SIGSTOP k)) (or-snd-false (has m SIGKILL) (has m SIGSTOP) e))
+    each-unmaskable (λ (s : ℕ). has m s ≡ false) (or-fst-false (has m SIGKILL) (has m SIGSTOP) e) (or-snd-false (has m SIGKILL) (has m SIGSTOP) e)
 
 unmasked-empty : unmasked empty ≡ true
 unmasked-empty = unmasked-if empty (λ s h u. has-empty s)
@@ -234,10 +232,7 @@ isMarking keeping = false
 -- 9 and 19 are acted on, and never marked
 acted-on : (v : View) (queued : Bool) (q : Queue) (s : ℕ) → isUnmaskable s ≡ true → isMarking (fate v queued q s) ≡ false
 unfolding fate isMarking
-acted-on v queued q s u =
-    or-cases (eqb s SIGKILL) (eqb s SIGSTOP) u
-    (λ e. subst (λ (x : ℕ). isMarking (fate v queued q x) ≡ false) (sym (eqb-true s SIGKILL e)) refl)
-    (λ e. subst (λ (x : ℕ). isMarking (fate v queued q x) ≡ false) (sym (eqb-true s SIGSTOP e)) refl)
+acted-on v queued q = each-unmaskable (λ (s : ℕ). isMarking (fate v queued q s) ≡ false) refl refl
 
 fate-clean : (f : Fate) (r : Siginfo) → (isUnmaskable (r .signal) ≡ true → isMarking f ≡ false) → all cleanChange (sendChanges f r) ≡ true
 unfolding sendChanges all isMarking

@@ -25,9 +25,12 @@ verdicts st =
     lengthsRight st ∷ freeZero st ∷ idsInRange st ∷ idsDistinct st ∷ fieldsInRange st ∷ threadsOwned st ∷ processesPeopled st ∷ nothingUnmaskable st
     ∷ unmaskableDefault st ∷ allFlagsKnown st ∷ recordsLaidOut st ∷ limitKept st ∷ pendingOnce st ∷ nothingIgnored st ∷ []
 
+abbrev clauseCount : ℕ
+clauseCount = 14
+
 -- every clause but number k passes, counted from 0
 unfoldable pub onlyFails : ℕ → List Bool
-onlyFails k = map (λ n. not (eqb n k)) (range 0 14)
+onlyFails k = map (λ n. not (eqb n k)) (range 0 clauseCount)
 
 -- processes 100 and 1 with a thread each; a mark, and a record in each buffer
 unfoldable pub sample : Store
@@ -120,7 +123,7 @@ edges =
 abbrev passed : List Change → List Bool
 passed cs = verdicts (damaged cs)
 
-pub edges-pass : map passed edges ≡ map (λ _. replicate 14 true) edges
+pub edges-pass : map passed edges ≡ map (λ _. replicate clauseCount true) edges
 unfolding verdicts damaged sample times computing
 edges-pass = refl
 

@@ -70,6 +70,10 @@ processQueue p = record { process = p; thread = 0 }
 abbrev pub threadQueue : Thread → Queue
 threadQueue t = record { process = t .process; thread = t .id }
 
+-- what a send is aimed at: thread 0 is the process itself
+abbrev pub targetQueue : (to thread : ℕ) → Queue
+targetQueue to t = record { process = to; thread = t }
+
 abbrev pub queueOf : Siginfo → Queue
 queueOf r = record { process = r .process; thread = r .thread }
 

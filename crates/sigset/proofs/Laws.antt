@@ -10,8 +10,8 @@ use native.Mathlib.Omega.{arith}
 use lib.Dec.{eqb}
 use lib.Pow.{pow-pos, pow-mono, pow-add, high, shr-shr, mod-pow-add}
 use lib.Bits.{bitAnd, bitOr, or-shr, or-mod, or-lt, and-shr, and-mod, and-lt}
-use borrow.Author.Tests.{eq-eqb, ne-eqb}
-use Rattle.limits.specs.Limits.{signals}
+use borrow.Author.Tests.{eq-eqb, ne-eqb, eqb-true}
+use Rattle.limits.specs.Limits.{signals, SIGKILL, SIGSTOP}
 use Rattle.sigset.specs.declared.SigSet.{SigSet}
 use Rattle.sigset.specs.Set.{Signal, bits, has, sumOf, setOf, empty, ofSignal, union, without, intersect, isUnmaskable, unmaskable, maskable, orElse, lowestIn, lowestOf, lowest}
 
@@ -144,6 +144,17 @@ has-unmaskable = has-set isUnmaskable
 pub has-maskable : (a : SigSet) (s : ℕ) → Signal s → has (maskable a) s ≡ (has a s && not (isUnmaskable s))
 unfolding maskable
 has-maskable a s h = has-without a unmaskable s h ∙ ap (λ (y : Bool). has a s && not y) (has-unmaskable s h)
+
+-- what holds of KILL and of STOP holds of every signal of the pair
+pub each-unmaskable : (P : ℕ → Type 0) → P SIGKILL → P SIGSTOP → (s : ℕ) → isUnmaskable s ≡ true → P s
+each-unmaskable P k t s u = go (eqb s SIGKILL) refl
+  where
+    stop : (b : Bool) → b ≡ eqb s SIGKILL → b ≡ false → eqb s SIGSTOP ≡ true
+    stop b e f = sym (ap (λ (x : Bool). x || eqb s SIGSTOP) (sym e ∙ f)) ∙ u
+
+    go : (b : Bool) → b ≡ eqb s SIGKILL → P s
+    go true e = subst P (sym (eqb-true s SIGKILL (sym e))) k
+    go false e = subst P (sym (eqb-true s SIGSTOP (stop false e refl))) t
 
 pub without-out : (a u : SigSet) (s : ℕ) → Signal s → has u s ≡ true → has (without a u) s ≡ false
 without-out a u s h e = has-without a u s h ∙ ap (λ (y : Bool). has a s && not y) e ∙ and-false (has a s)
