@@ -114,3 +114,13 @@ module _ {A : Type 0} where
 pub cond-map : {A B : Type 0} (f : A → B) (b : Bool) (x y : A) → f (cond b x y) ≡ cond b (f x) (f y)
 cond-map f true x y = refl
 cond-map f false x y = refl
+
+-- ---- a test made where another passes: `not a || b`
+
+pub imp-use : (a b : Bool) → (not a || b) ≡ true → a ≡ true → b ≡ true
+imp-use true b h e = h
+imp-use false b h e = clash e refl
+
+pub imp-by : (a : Bool) {b : Bool} → (a ≡ true → b ≡ true) → (not a || b) ≡ true
+imp-by true h = h refl
+imp-by false h = refl

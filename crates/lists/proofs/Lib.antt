@@ -3,3 +3,5 @@ pub mod Lists
 pub mod Sums
 pub mod Loops
 pub mod Rows
+pub mod Finds
+pub mod Index

@@ -812,3 +812,8 @@ module _ {A : Type 0} (d : A) (n : ℕ) (xs : List A) where
       let f : n - length xs ≡ suc m = omega arith in
       let g : n - length (xs ++ (a ∷ [])) ≡ m = simp length-append (omega arith) in
       rw (e, f, set-append-seam xs d (replicate m d) a, g) (sym (append-snoc xs a (replicate m d)))
+
+-- a list of one value alone
+pub all-equal : {A : Type 0} (d : A) (l : List A) → All (λ x. x ≡ d) l → l ≡ replicate (length l) d
+all-equal d [] h = refl
+all-equal d (x ∷ l) h = ap₂ (λ y m. y ∷ m) (h .0) (all-equal d l (h .1))

@@ -11,7 +11,7 @@ use lib.ListN.{length, getD, take, drop, set, replicate, length-replicate, drop-
 use lib.Seq.{take-suc, take-all, drop-cons, map-set-same, set-getD, getD-drop, drop-drop, drop-set-lt, take-suc-set, append-snoc, paste, paste-suc, length-take-le, drop-at}
 use Rattle.lists.specs.Lists.{all, any, count, find, first, keep, leading, dropFirst, change, replaceFirst, pairs, range, padded, All}
 use Rattle.lists.proofs.Bools.{split, clash, and-fst, and-snd, and-both, and-left, and-right, or-both}
-use Rattle.lists.proofs.Lists.{Pass, All-at, All-set, all-All, All-all, all-append, any-append, all-map, any-map, count-map, all-same, any-no, any-All, find-yes, find-no, keep-yes, keep-no, count-yes, count-no, leading-yes, leading-no, change-same, any-count, count-none}
+use Rattle.lists.proofs.Lists.{Pass, All-at, All-set, all-All, All-all, all-append, any-append, all-map, any-map, count-map, all-same, any-no, all-yes, all-no, any-All, find-yes, find-no, keep-yes, keep-no, count-yes, count-no, leading-yes, leading-no, change-same, any-count, count-none}
 
 -- ---- a turn: what is left from i on
 
@@ -19,7 +19,7 @@ module _ {A : Type 0} where
   pub next : (xs : List A) (i : ℕ) (d : A) → i < length xs → drop i xs ≡ getD xs i d ∷ drop (i + 1) xs
   next xs i d h = rw add-one (drop-cons xs i d h)
 
-  upto : (xs : List A) (i : ℕ) (d : A) → i < length xs → take (i + 1) xs ≡ take i xs ++ (getD xs i d ∷ [])
+  pub upto : (xs : List A) (i : ℕ) (d : A) → i < length xs → take (i + 1) xs ≡ take i xs ++ (getD xs i d ∷ [])
   upto xs i d h = rw add-one (take-suc xs i d h)
 
 -- ---- every entry passes: `all f (take i xs) ≡ true`
@@ -211,35 +211,53 @@ change-set t g d (x ∷ xs) (suc i) c h e =
     (λ f. let z : count t (x ∷ xs) ≡ count t xs = count-no t x xs f in
     rw f (ap (λ l. x ∷ l) (change-set t g d xs i (omega arith) (le-of-suc-le-suc h) e)))
 
+-- ---- a list filled from another: `zs ≡ filled f i xs ys`, those below i are f of the entries of xs, the others are still those of ys
+
+module _ {A B : Type 0} (f : A → B) where
+  unfoldable pub filled : ℕ → List A → List B → List B
+  filled i xs ys = map f (take i xs) ++ drop i ys
+
+  pub filled-none : (xs : List A) (ys : List B) → ys ≡ filled 0 xs ys
+  unfolding filled
+  filled-none xs ys = refl
+
+  filled-next : (xs : List A) (ys : List B) (i : ℕ) (d : A) → i < length xs → length ys ≡ length xs
+      → set (filled i xs ys) i (f (getD xs i d)) ≡ filled (suc i) xs ys
+  unfolding filled
+  filled-next [] ys i d h e = absurd (not-suc-le-zero h)
+  filled-next (x ∷ xs) [] i d h e = absurd (omega arith)
+  filled-next (x ∷ xs) (y ∷ ys) zero d h e = refl
+  filled-next (x ∷ xs) (y ∷ ys) (suc i) d h e = ap {B = List B} (λ l. f x ∷ l) (filled-next xs ys i d (le-of-suc-le-suc h) (omega arith))
+
+  pub filled-more : (xs : List A) (ys : List B) (i : ℕ) (d : A) → i < length xs → length ys ≡ length xs
+      → set (filled i xs ys) i (f (getD xs i d)) ≡ filled (i + 1) xs ys
+  filled-more xs ys i d h e = rw add-one (filled-next xs ys i d h e)
+
+  pub filled-done : (xs : List A) (ys : List B) (i : ℕ) → length xs ≤ i → length ys ≤ i → filled i xs ys ≡ map f xs
+  unfolding filled
+  filled-done xs ys i h k = rw (take-all i xs h, drop-of-length-le ys k) (append-nil (map f xs))
+
 -- ---- every entry changed by f: `ys ≡ mapped f i xs`, those below i are changed, the others not yet
 
 module _ {A : Type 0} (f : A → A) where
-  unfoldable pub mapped : ℕ → List A → List A
-  mapped i xs = map f (take i xs) ++ drop i xs
+  abbrev pub mapped : ℕ → List A → List A
+  mapped i xs = filled f i xs xs
 
   pub mapped-none : (xs : List A) → xs ≡ mapped 0 xs
-  unfolding mapped
-  mapped-none xs = refl
+  mapped-none xs = filled-none f xs xs
 
   pub mapped-read : (xs : List A) (i : ℕ) (d : A) → getD (mapped i xs) i d ≡ getD xs i d
-  unfolding mapped
+  unfolding filled
   mapped-read [] zero d = refl
   mapped-read [] (suc i) d = refl
   mapped-read (x ∷ xs) zero d = refl
   mapped-read (x ∷ xs) (suc i) d = mapped-read xs i d
 
-  mapped-next : (xs : List A) (i : ℕ) (d : A) → i < length xs → set (mapped i xs) i (f (getD xs i d)) ≡ mapped (suc i) xs
-  unfolding mapped
-  mapped-next [] i d h = absurd (not-suc-le-zero h)
-  mapped-next (x ∷ xs) zero d h = refl
-  mapped-next (x ∷ xs) (suc i) d h = ap {B = List A} (λ l. f x ∷ l) (mapped-next xs i d (le-of-suc-le-suc h))
-
   pub mapped-more : (xs : List A) (i : ℕ) (d : A) → i < length xs → set (mapped i xs) i (f (getD xs i d)) ≡ mapped (i + 1) xs
-  mapped-more xs i d h = rw add-one (mapped-next xs i d h)
+  mapped-more xs i d h = filled-more f xs xs i d h refl
 
   pub mapped-done : (xs : List A) (i : ℕ) → length xs ≤ i → mapped i xs ≡ map f xs
-  unfolding mapped
-  mapped-done xs i h = rw (take-all i xs h, drop-of-length-le xs h) (append-nil (map f xs))
+  mapped-done xs i h = filled-done f xs xs i h h
 
 -- a turn as code has it: entry i of what there is now is read, changed to t and put back, or left where f leaves it
 module _ {A : Type 0} (f : A → A) (d : A) (xs ys : List A) (i : ℕ) (h : i < length xs) (k : ys ≡ mapped f i xs) where
@@ -272,6 +290,28 @@ All-range-at P k n i a b c =
     let e : k + (i - k) ≡ i = omega arith in
     let m : i - k < n = omega arith in
     subst P (getD-range k n (i - k) m ∙ e) (All-at P (range k n) (i - k) 0 (rw length-range m) c)
+
+-- a test of every number from k on, n of them: `all f (range k i) ≡ true` when the first i have passed
+range-end : (k n : ℕ) → range k (suc n) ≡ range k n ++ ((k + n) ∷ [])
+unfolding range
+range-end k zero = ap (λ m. m ∷ []) (sym (add-zero k))
+range-end k (suc n) = ap (λ l. k ∷ l) (range-end (suc k) n ∙ ap (λ m. range (suc k) n ++ (m ∷ [])) (suc-add k n ∙ sym (add-suc k n)))
+
+module _ (f : ℕ → Bool) (k : ℕ) where
+  pub range-none : all f (range k 0) ≡ true
+  unfolding range all
+  range-none = refl
+
+  pub range-more : (i : ℕ) → all f (range k i) ≡ true → f (k + i) ≡ true → all f (range k (i + 1)) ≡ true
+  unfolding all
+  range-more i a e =
+      ap (λ m. all f (range k m)) (add-one i)
+      ∙ ap (all f) (range-end k i)
+      ∙ all-append f (range k i) ((k + i) ∷ [])
+      ∙ and-both a (and-both e refl)
+
+  pub range-fails : (n i : ℕ) → i < n → f (k + i) ≡ false → all f (range k n) ≡ false
+  range-fails n i h e = all-fails f 0 (range k n) i (rw length-range h) (ap f (getD-range k n i h) ∙ e)
 
 -- ---- a count: `k + count p (drop i xs) ≡ count p xs`
 
@@ -383,3 +423,16 @@ module _ {A : Type 0} (d : A) where
       let z : n - j + (m - length rs) ≡ m - length fs = omega arith in
       ap₂ (λ x y. x ++ (replicate (n - j) d ++ y)) p (q ∙ b)
       ∙ ap (λ x. fs ++ x) (replicate-append-replicate (n - j) (m - length rs) d ∙ ap (λ i. replicate i d) z)
+
+-- ---- every entry from i on passes: `all f (drop i xs) ≡ t`, t being the test where the loop begins
+
+module _ {A : Type 0} (f : A → Bool) (d : A) (xs : List A) (i : ℕ) {t : Bool} where
+  pub rest-more : i < length xs → all f (drop i xs) ≡ t → f (getD xs i d) ≡ true → all f (drop (i + 1) xs) ≡ t
+  rest-more h a e = sym (ap (all f) (next xs i d h) ∙ all-yes f (getD xs i d) (drop (i + 1) xs) e) ∙ a
+
+  pub rest-fails : i < length xs → all f (drop i xs) ≡ t → f (getD xs i d) ≡ false → false ≡ t
+  rest-fails h a e = sym (ap (all f) (next xs i d h) ∙ all-no f (getD xs i d) (drop (i + 1) xs) e) ∙ a
+
+  pub rest-done : length xs ≤ i → all f (drop i xs) ≡ t → true ≡ t
+  unfolding all
+  rest-done h a = sym (ap (all f) (drop-of-length-le xs h)) ∙ a

@@ -5,8 +5,8 @@ use Prim.Native.Nat.{ℕ, zero, suc, _+_, _*_, _≤_, _<_}
 use native.Mathlib.Nat.{zero-mul, suc-mul, add-comm, add-assoc, add-zero, zero-add, add-suc, not-suc-le-zero, le-of-suc-le-suc}
 use native.Mathlib.Omega.{arith}
 use native.Mathlib.Numerals.{add-one, add-two, add-three}
-use lib.ListN.{length, getD, take, drop, set, take-append-drop, length-drop, length-append, drop-of-length-le}
-use lib.Seq.{take-set-le, drop-set-add, take-set-lt, drop-set-lt, drop-drop, take-take, getD-take, getD-drop, sets, sets-eq, length-take-le, take-at, drop-at}
+use lib.ListN.{length, getD, take, drop, set, replicate, take-append-drop, length-drop, length-append, drop-of-length-le, replicate-append-replicate}
+use lib.Seq.{getD-set-same, set-set, take-set-le, drop-set-add, take-set-lt, drop-set-lt, drop-drop, take-take, getD-take, getD-drop, sets, sets-eq, length-take-le, take-at, drop-at}
 use Rattle.lists.specs.Lists.{All}
 use Rattle.lists.specs.Rows.{row, rows, flat}
 
@@ -179,3 +179,62 @@ take-spell (suc n) b l h =
     sym (spelled (suc n) (take (suc n) (drop b l)) (length-take-le (suc n) (drop b l) (rw length-drop (omega arith))))
     ∙ spell-part (suc n) (suc n) b 0 l (omega arith)
     ∙ ap (λ k. getD l k 0 ∷ spellFrom n b 1 l) (add-zero b)
+
+-- ---- what all rows have, and runs of stores
+
+-- what every decoded value has, every row has
+pub All-rows : {A : Type 0} (dec : List ℕ → A) (w : ℕ) (P : A → Type 0) → ((l : List ℕ) → P (dec l)) → (n : ℕ) (ws : List ℕ)
+    → All P (rows dec w n ws)
+unfolding rows
+All-rows dec w P h zero ws = tt
+All-rows dec w P h (suc n) ws = (h (take w ws), All-rows dec w P h n (drop w ws))
+
+-- one value n times
+pub flat-replicate : {A : Type 0} (enc : A → List ℕ) (a : A) (w v : ℕ) → enc a ≡ replicate w v → (n : ℕ) → flat enc (replicate n a) ≡ replicate (n * w) v
+unfolding flat
+flat-replicate enc a w v e zero = ap (λ k. replicate k v) (sym (zero-mul w))
+flat-replicate enc a w v e (suc n) =
+    ap₂ (λ x y. x ++ y) e (flat-replicate enc a w v e n)
+    ∙ replicate-append-replicate w (n * w) v
+    ∙ ap (λ k. replicate k v) (add-comm w (n * w) ∙ sym (suc-mul n w))
+
+-- the words from b on as code with named offsets reads them: `getD l (b + 0) 0 ∷ getD l (b + 1) 0 ∷ ..` on a numeral
+pub take-spellFrom : (n b : ℕ) (l : List ℕ) → b + n ≤ length l → take n (drop b l) ≡ spellFrom n b 0 l
+take-spellFrom zero b l h = refl
+take-spellFrom (suc n) b l h = take-spell (suc n) b l h ∙ ap (λ k. getD l k 0 ∷ spellFrom n b 1 l) (sym (add-zero b))
+
+-- ---- stores
+
+module _ {A : Type 0} where
+  -- one more of the same behind a run of them
+  sets-next : (l : List A) (b n : ℕ) (a : A) → set (sets l b (replicate n a)) (b + n) a ≡ sets l b (replicate (suc n) a)
+  sets-next l b zero a = ap (λ k. set l k a) (add-zero b)
+  sets-next l b (suc n) a =
+      let e : b + suc n ≡ suc b + n = omega arith in
+      ap (λ k. set (sets (set l b a) (suc b) (replicate n a)) k a) e ∙ sets-next (set l b a) (suc b) n a
+
+  pub sets-more : (l : List A) (b n : ℕ) (a : A) → set (sets l b (replicate n a)) (b + n) a ≡ sets l b (replicate (n + 1) a)
+  sets-more l b n a = rw (add-one n) (sets-next l b n a)
+
+  -- a run of stores as code with named offsets writes them: `set (set l (b + 0) x) (b + 1) y` on a list that is written out
+  abbrev pub setsFrom : List A → ℕ → ℕ → List A → List A
+  setsFrom l b k [] = l
+  setsFrom l b k (v ∷ vs) = setsFrom (set l (b + k) v) b (suc k) vs
+
+  sets-from : (l : List A) (b k : ℕ) (vs : List A) → setsFrom l b k vs ≡ sets l (b + k) vs
+  sets-from l b k [] = refl
+  sets-from l b k (v ∷ vs) =
+      sets-from (set l (b + k) v) b (suc k) vs ∙ ap (λ n. sets (set l (b + k) v) n vs) (add-suc b k)
+
+  pub sets-at : (l : List A) (b : ℕ) (vs : List A) → setsFrom l b 0 vs ≡ sets l b vs
+  sets-at l b vs = sets-from l b 0 vs ∙ ap (λ k. sets l k vs) (add-zero b)
+
+  -- an entry changed where one was just put
+  pub set-again : (d : A) (g : A → A) (xs ys zs : List A) (i : ℕ) (x : A) → i < length xs → ys ≡ set xs i x → zs ≡ set ys i (g (getD ys i d))
+      → zs ≡ set xs i (g x)
+  set-again d g xs ys zs i x h e k = k ∙ rw (e, getD-set-same xs i x d h) (set-set xs i x (g x))
+
+-- a run of stores behind another
+pub sets-append : {A : Type 0} (s t l : List A) (i j : ℕ) → j ≡ i + length s → sets (sets l i s) j t ≡ sets l i (s ++ t)
+sets-append [] t l i j e = ap (λ k. sets l k t) (e ∙ add-zero i)
+sets-append (a ∷ s) t l i j e = sets-append s t (set l i a) (suc i) j (omega arith)

@@ -5,3 +5,10 @@ pub mod Refused
 pub mod Cleared
 pub mod Steps
 pub mod Unmaskable
+pub mod Ids
+pub mod Marks
+pub mod Parts
+pub mod Aimed
+pub mod Found
+pub mod Facts
+pub mod Room

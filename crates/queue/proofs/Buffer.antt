@@ -1,0 +1,177 @@
+-- Laws of a buffer: its bytes, its slots and the records in use. Assumes nothing.
+use mathlib.Core.Path.{_≡_, refl, sym, ap, ap₂, subst, _∙_}
+use mathlib.Core.Bool.{Bool, true, false, _&&_}
+use mathlib.Core.List.{List, _++_}
+use Prim.Native.Nat.{ℕ, _-_, _*_, _≤_, _<_}
+use native.Mathlib.Nat.{le-trans}
+use native.Mathlib.Omega.{arith}
+use lib.Dec.{eqb}
+use lib.ListN.{length, getD, drop, set, replicate, length-drop, take-append-drop}
+use lib.Seq.{sets}
+use borrow.Author.Tests.{eqb-true, eq-eqb, ne-eqb}
+use Rattle.limits.specs.Limits.{bufferRecords, bufferBytes, recordBytes}
+use Rattle.lists.specs.Lists.{all, find, dropFirst, leading, padded}
+use Rattle.lists.specs.Rows.{row}
+use Rattle.lists.proofs.Bools.{and-fst, and-snd, and-both, and-left}
+use Rattle.lists.proofs.Lists.{Pass, All-imp, all-All, All-all, all-replicate, leading-passes, leading-padded, leading-take, length-leading, getD-leading, drop-padded, all-equal}
+use Rattle.lists.proofs.Loops.{dropFirst-find, same-from}
+use Rattle.types.specs.declared.Siginfo.{Siginfo}
+use Rattle.types.specs.Values.{noSiginfo}
+use Rattle.siginfo.specs.Bytes.{Bytes, Fits, siginfoOf, bytesOf, slots, slotBytes}
+use Rattle.siginfo.proofs.Slots.{length-slots, slot-at, slot-put, slotBytes-slots}
+use Rattle.rules.specs.Store.{inUse, used, onSlots}
+use Rattle.rules.specs.Sound.{isZero, restZero}
+use Rattle.queue.specs.Queue.{slotsOf, recordsOf, isLaid, removeAt}
+
+-- ---- a free slot
+
+pub zero-is : (r : Siginfo) → isZero r ≡ true → r ≡ noSiginfo
+unfolding isZero
+zero-is r =
+    field (r .process) _ (λ e₀. field (r .thread) _ (λ e₁. field (r .signal) _ (λ e₂. field (r .code) _ (λ e₃. field (r .sender) _
+    (λ e₄. field (r .uid) _ (λ e₅ h. let e₆ : r .value ≡ 0 = eqb-true (r .value) 0 h in
+    λ i. record { process = e₀ i; thread = e₁ i; signal = e₂ i; code = e₃ i; sender = e₄ i; uid = e₅ i; value = e₆ i }))))))
+  where
+    field : (n : ℕ) (b : Bool) → (n ≡ 0 → b ≡ true → r ≡ noSiginfo) → (eqb n 0 && b) ≡ true → r ≡ noSiginfo
+    field n b f e = f (eqb-true n 0 (and-fst (eqb n 0) b e)) (and-snd (eqb n 0) b e)
+
+pub is-zero : (r : Siginfo) → r ≡ noSiginfo → isZero r ≡ true
+unfolding isZero
+is-zero r e = ap isZero e
+
+pub zero-free : inUse noSiginfo ≡ false
+unfolding inUse
+zero-free = refl
+
+-- ---- lists of slots
+
+module _ (cs : List Siginfo) where
+  pub length-used : length (used cs) ≤ length cs
+  unfolding used
+  length-used = length-leading inUse cs
+
+  pub used-inUse : all inUse (used cs) ≡ true
+  unfolding used
+  used-inUse = All-all inUse (leading inUse cs) (leading-passes inUse cs)
+
+  pub used-at : (i : ℕ) (d : Siginfo) → i < length (used cs) → getD (used cs) i d ≡ getD cs i d
+  unfolding used
+  used-at i d h = getD-leading inUse cs i d h
+
+  -- the records in use, and zero behind them
+  pub laid-padded : restZero cs ≡ true → cs ≡ padded noSiginfo (length cs) (used cs)
+  unfolding restZero used padded
+  laid-padded e =
+      let k : ℕ = length (leading inUse cs) in
+      let z : drop k cs ≡ replicate (length (drop k cs)) noSiginfo =
+      all-equal noSiginfo (drop k cs) (All-imp (Pass isZero) (λ r. r ≡ noSiginfo) zero-is (drop k cs) (all-All isZero (drop k cs) e)) in
+      sym (take-append-drop k cs) ∙ ap₂ (λ x y. x ++ y) (sym (leading-take inUse cs)) (z ∙ ap (λ n. replicate n noSiginfo) (length-drop k cs))
+
+module _ (n : ℕ) (rs : List Siginfo) (u : all inUse rs ≡ true) where
+  pub used-padded : used (padded noSiginfo n rs) ≡ rs
+  unfolding used
+  used-padded = leading-padded inUse noSiginfo n rs (all-All inUse rs u) zero-free
+
+  pub padded-laid : restZero (padded noSiginfo n rs) ≡ true
+  unfolding restZero
+  padded-laid =
+      rw (used-padded, drop-padded noSiginfo n rs) (all-replicate isZero noSiginfo (is-zero noSiginfo refl) (n - length rs))
+
+-- ---- a buffer
+
+pub length-slotsOf : (b : List ℕ) → length (slotsOf b) ≡ bufferRecords
+unfolding slotsOf
+length-slotsOf b = length-slots bufferRecords b
+
+pub length-recordsOf : (b : List ℕ) → length (recordsOf b) ≤ bufferRecords
+unfolding recordsOf
+length-recordsOf b = subst (λ n. length (used (slotsOf b)) ≤ n) (length-slotsOf b) (length-used (slotsOf b))
+
+pub inUse-recordsOf : (b : List ℕ) → all inUse (recordsOf b) ≡ true
+unfolding recordsOf
+inUse-recordsOf b = used-inUse (slotsOf b)
+
+-- bytes are determined by slots
+pub buffer-is : (b : List ℕ) → length b ≡ bufferBytes → Bytes b → b ≡ slotBytes (slotsOf b)
+unfolding slotsOf
+buffer-is b e h = sym (slotBytes-slots bufferRecords b e h)
+
+pub length-laid : (b : List ℕ) → isLaid b ≡ true → length b ≡ bufferBytes
+unfolding isLaid
+length-laid b e = eqb-true (length b) bufferBytes (and-fst (eqb (length b) bufferBytes) (restZero (slotsOf b)) e)
+
+pub laid-rest : (b : List ℕ) → isLaid b ≡ true → restZero (slotsOf b) ≡ true
+unfolding isLaid
+laid-rest b e = and-snd (eqb (length b) bufferBytes) (restZero (slotsOf b)) e
+
+pub laid-slots : (b : List ℕ) → isLaid b ≡ true → slotsOf b ≡ padded noSiginfo bufferRecords (recordsOf b)
+unfolding recordsOf
+laid-slots b e = laid-padded (slotsOf b) (laid-rest b e) ∙ ap (λ n. padded noSiginfo n (used (slotsOf b))) (length-slotsOf b)
+
+-- the test as code makes it
+pub laid-test : (b : List ℕ) → length b ≡ bufferBytes → all isZero (drop (length (recordsOf b)) (slotsOf b)) ≡ isLaid b
+unfolding isLaid restZero recordsOf
+laid-test b e = rw (eq-eqb (length b) bufferBytes e)
+
+pub not-laid : (b : List ℕ) → (length b ≡ bufferBytes → ⊥) → isLaid b ≡ false
+unfolding isLaid
+not-laid b h = and-left (restZero (slotsOf b)) (ne-eqb (length b) bufferBytes h)
+
+module _ (b : List ℕ) (rs : List Siginfo) (u : all inUse rs ≡ true) (e : slotsOf b ≡ padded noSiginfo bufferRecords rs) where
+  pub slots-records : recordsOf b ≡ rs
+  unfolding recordsOf
+  slots-records = ap used e ∙ used-padded bufferRecords rs u
+
+  pub slots-laid : length b ≡ bufferBytes → isLaid b ≡ true
+  unfolding isLaid
+  slots-laid k = and-both (eq-eqb (length b) bufferBytes k) (ap restZero e ∙ padded-laid bufferRecords rs u)
+
+-- after a change of the records
+module _ (g : List Siginfo → List Siginfo) (b b′ : List ℕ) (e : slotsOf b′ ≡ onSlots g (slotsOf b)) (u : all inUse (g (recordsOf b)) ≡ true) where
+  pub records-after : recordsOf b′ ≡ g (recordsOf b)
+  unfolding onSlots recordsOf
+  records-after = slots-records b′ (g (recordsOf b)) u e
+
+  pub laid-after : length b′ ≡ bufferBytes → isLaid b′ ≡ true
+  unfolding onSlots recordsOf
+  laid-after = slots-laid b′ (g (recordsOf b)) u e
+
+pub drop-oldest : (p : Siginfo → Bool) (rs : List Siginfo) → removeAt (find p rs) rs ≡ dropFirst p rs
+unfolding removeAt
+drop-oldest p rs = sym (dropFirst-find p rs)
+
+-- ---- what code reads and stores
+
+pub in-slots : (b : List ℕ) (i : ℕ) → i < bufferRecords → i < length (slotsOf b)
+in-slots b i h = rw length-slotsOf h
+
+pub in-buffer : (b : List ℕ) (i : ℕ) → i < length (recordsOf b) → i < bufferRecords
+in-buffer b i h = le-trans h (length-recordsOf b)
+
+pub slot-read : (b : List ℕ) (i : ℕ) (d : Siginfo) → i < bufferRecords → getD (slotsOf b) i d ≡ siginfoOf (row recordBytes b i)
+unfolding slotsOf
+slot-read b i d h = slot-at bufferRecords b i d h
+
+pub record-read : (b : List ℕ) (i : ℕ) (d : Siginfo) → i < length (recordsOf b) → getD (recordsOf b) i d ≡ siginfoOf (row recordBytes b i)
+unfolding recordsOf
+record-read b i d h = used-at (slotsOf b) i d h ∙ slot-read b i d (in-buffer b i h)
+
+-- a test that was made of what was read
+module _ (p : Siginfo → Bool) (b : List ℕ) (i : ℕ) {r : Siginfo} {t : Bool} (e : r ≡ siginfoOf (row recordBytes b i)) (f : t ≡ p r) where
+  pub slot-tested : i < bufferRecords → p (getD (slotsOf b) i noSiginfo) ≡ t
+  slot-tested h = ap p (slot-read b i noSiginfo h ∙ sym e) ∙ sym f
+
+  pub record-tested : i < length (recordsOf b) → p (getD (recordsOf b) i noSiginfo) ≡ t
+  record-tested h = ap p (record-read b i noSiginfo h ∙ sym e) ∙ sym f
+
+pub slot-written : {b′ : List ℕ} (b : List ℕ) (i : ℕ) (r : Siginfo) → length b ≡ bufferBytes → i < bufferRecords → Fits r
+    → b′ ≡ sets b (i * recordBytes) (bytesOf r) → slotsOf b′ ≡ set (slotsOf b) i r
+unfolding slotsOf
+slot-written b i r e h f p = ap (slots bufferRecords) p ∙ slot-put bufferRecords b i r h (omega arith) f
+
+-- a record in use is where it was, if the buffer is as it was from there on
+pub record-kept : (b₀ b : List ℕ) (i : ℕ) (d : Siginfo) → i < length (recordsOf b₀) → drop i (slotsOf b) ≡ drop i (slotsOf b₀)
+    → siginfoOf (row recordBytes b i) ≡ getD (recordsOf b₀) i d
+unfolding recordsOf
+record-kept b₀ b i d h e =
+    sym (slot-read b i d (in-buffer b₀ i h)) ∙ same-from d (slotsOf b) (slotsOf b₀) i e ∙ sym (used-at (slotsOf b₀) i d h)

@@ -1,0 +1,2 @@
+pub mod Buffer
+mod Changes

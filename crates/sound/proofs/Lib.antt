@@ -1,0 +1,11 @@
+pub mod Endings
+pub mod PlaceEndings
+pub mod RecordEndings
+pub mod Marks
+pub mod Passes
+pub mod Places
+pub mod Turns
+pub mod Records
+pub mod Regrouped
+pub mod Loops
+pub mod Whole

@@ -1,0 +1,164 @@
+-- The records: the tests as they are made are the rules' clauses of records, where the ids are distinct and free places zero. Assumes nothing.
+use Prim.Native.Nat.{ℕ, _+_, _≤_, _<_}
+use mathlib.Core.Path.{_≡_, sym, ap, ap₂, _∙_, fun-ext}
+use mathlib.Core.Bool.{Bool, true, not, _&&_, _||_, and-false}
+use mathlib.Core.List.{List, [], map}
+use lib.Dec.{eqb, leb}
+use lib.ListN.{length, getD, length-map, List·getD-map}
+use borrow.Author.Tests.{eqb-true, le-leb, not-true}
+use native.Mathlib.Omega.{arith}
+use Rattle.limits.specs.Limits.{processPlaces, recordLimit, signals}
+use Rattle.lists.specs.Lists.{all, count, pairs, pairsWhere}
+use Rattle.lists.proofs.Bools.{split, same-test, and-fst, and-both, and-imp, not-and}
+use Rattle.lists.proofs.Lists.{Pass, Fail, All-imp, All-any, all-same, all-and, none-count, leading-passes, pairsWhere-pairs}
+use Rattle.lists.proofs.Loops.{all-at}
+use Rattle.lists.proofs.Index.{all-each, all-below, below-all, getD-mapped}
+use Rattle.sigset.specs.Set.{has}
+use Rattle.types.specs.declared.Siginfo.{Siginfo}
+use Rattle.rules.specs.Types.{Process, Queue}
+use Rattle.rules.specs.Signals.{isSignal, standard}
+use Rattle.rules.specs.View.{isProcess, isThread, sameQueue, queueOf, threadQueue, liveProcess, liveThread, theProcess, theThread}
+use Rattle.rules.specs.Store.{Place, Store, held, freeProcess, freeThread, inUse, used, markIn, ofProcess, queuedIn, view}
+use Rattle.rules.specs.Sound.{ifLive, ifFree, processId, threadId, zeroThread, namesLive, aimedAtThread, aimedAtProcess, recordHeard, isStandard, notTwice, notMarkedToo, withinLimit, limitKept}
+use Rattle.rules.proofs.Aimed.{thread-live, thread-owner, process-live, process-own}
+use Rattle.rules.proofs.Marks.{processWith, threadWith, process-below, thread-below, process-marks, thread-marks}
+use Rattle.sound.specs.Check.{tallies, seenSets, ownQueue, isFresh, once, processPlace, threadPlace, threadRecordOk, processRecordOk, threadRecordGood, processRecordGood, threadRecordsOk, processRecordsOk, withinAt, allWithin}
+use Rattle.sound.proofs.Passes.{standard-signal, fresh-marks}
+
+-- ---- a standard signal is pending once
+
+once-where : (x y : Siginfo) → once x y ≡ (not (isStandard x) || notTwice x y)
+unfolding once isStandard notTwice
+once-where x y =
+    let same : Bool = sameQueue (queueOf x) (queueOf y) in
+    ap not
+    (split (eqb (x .signal) (y .signal))
+    (λ e. ap (λ (s : ℕ). standard s && (eqb (x .signal) (y .signal) && same)) (sym (eqb-true (x .signal) (y .signal) e)))
+    (λ e. rw e (and-false (standard (y .signal)) ∙ sym (and-false (standard (x .signal))))))
+    ∙ not-and (standard (x .signal)) (eqb (x .signal) (y .signal) && same)
+
+pub pairs-once : (rs : List Siginfo) → pairs once rs ≡ pairsWhere isStandard notTwice rs
+pairs-once rs =
+    ap (λ (f : Siginfo → Siginfo → Bool). pairs f rs) (fun-ext (λ x. fun-ext (λ y. once-where x y)))
+    ∙ sym (pairsWhere-pairs isStandard notTwice rs)
+
+-- ---- a record is not marked too
+
+standard-is : (s : ℕ) → standard s ≡ true → isSignal s ≡ true
+unfolding isSignal
+standard-is s e = let g = standard-signal s e in and-both (le-leb 1 s (g .low)) (le-leb s signals (g .high))
+
+module _ (st : Store) (r : Siginfo) where
+  -- by the marks of its place
+  marked-too : (b : Bool) → markIn st (queueOf r) (r .signal) ≡ (isSignal (r .signal) && b) → not (standard (r .signal) && b) ≡ notMarkedToo st r
+  unfolding notMarkedToo isStandard
+  marked-too b m =
+      ap not (and-imp (standard (r .signal)) (λ t. sym (m ∙ ap (λ (a : Bool). a && b) (standard-is (r .signal) t))))
+      ∙ not-and (standard (r .signal)) (markIn st (queueOf r) (r .signal))
+
+  pub thread-unmarked : aimedAtThread (view st) r ≡ true → count (isThread (r .thread)) (map held (st .threads)) ≤ 1
+      → isFresh (seenSets threadQueue (st .threads) []) (threadPlace (st .threads) r) (r .signal) ≡ notMarkedToo st r
+  unfolding threadPlace
+  thread-unmarked e c =
+      fresh-marks threadQueue freeThread (st .threads) (threadPlace (st .threads) r) (thread-below st (r .thread) (thread-live st r e)) (r .signal)
+      ∙ marked-too (has (threadWith st (r .thread) .marks) (r .signal))
+      (thread-marks st (queueOf r) (thread-live st r e) (r .signal) (thread-owner st r e) c)
+
+  pub process-unmarked : aimedAtProcess (view st) r ≡ true → count (isProcess (r .process)) (map held (st .processes)) ≤ 1
+      → all (ifFree threadId zeroThread) (st .threads) ≡ true
+      → isFresh (seenSets ownQueue (st .processes) []) (processPlace (st .processes) r) (r .signal) ≡ notMarkedToo st r
+  unfolding processPlace
+  process-unmarked e c z =
+      fresh-marks ownQueue freeProcess (st .processes) (processPlace (st .processes) r) (process-below st (r .process) (process-live st r e)) (r .signal)
+      ∙ marked-too (has (processWith st (r .process) .marks) (r .signal))
+      (ap (λ (q : Queue). markIn st q (r .signal)) (process-own st r e) ∙ process-marks st (r .process) (process-live st r e) (r .signal) c z)
+
+-- ---- the records of a buffer
+
+-- what the clauses say of the records of a buffer, by the test of where they are aimed
+abbrev pub clausesOf : Store → (Siginfo → Bool) → List Siginfo → Bool
+clausesOf st aimed rs = ((all aimed rs && all (recordHeard (view st)) rs) && all (notMarkedToo st) rs) && pairsWhere isStandard notTwice rs
+
+module _ (st : Store) where
+  regroup : (aimed good : Siginfo → Bool) (rs : List Siginfo) → ((r : Siginfo) → good r ≡ ((aimed r && recordHeard (view st) r) && notMarkedToo st r))
+      → (all good rs && pairs once rs) ≡ clausesOf st aimed rs
+  regroup aimed good rs h =
+      ap₂ (λ (a b : Bool). a && b)
+      (all-same good (λ r. (aimed r && recordHeard (view st) r) && notMarkedToo st r) rs h
+      ∙ all-and (λ r. aimed r && recordHeard (view st) r) (notMarkedToo st) rs
+      ∙ ap (λ (b : Bool). b && all (notMarkedToo st) rs) (all-and aimed (recordHeard (view st)) rs))
+      (pairs-once rs)
+
+  pub thread-records : (rs : List Siginfo) → ((n : ℕ) → count (isThread n) (map held (st .threads)) ≤ 1)
+      → threadRecordsOk (st .processes) (st .threads) rs ≡ clausesOf st (aimedAtThread (view st)) rs
+  unfolding threadRecordsOk threadRecordGood threadRecordOk aimedAtThread namesLive recordHeard liveProcess liveThread theProcess theThread view
+  thread-records rs one =
+      regroup (aimedAtThread (view st)) (threadRecordGood (st .processes) (st .threads)) rs
+      (λ r.
+      and-imp (aimedAtThread (view st) r && recordHeard (view st) r)
+      (λ e. thread-unmarked st r (and-fst (aimedAtThread (view st) r) (recordHeard (view st) r) e) (one (r .thread))))
+
+  pub process-records : (rs : List Siginfo) → ((n : ℕ) → count (isProcess n) (map held (st .processes)) ≤ 1)
+      → all (ifFree threadId zeroThread) (st .threads) ≡ true
+      → processRecordsOk (st .processes) rs ≡ clausesOf st (aimedAtProcess (view st)) rs
+  unfolding processRecordsOk processRecordGood processRecordOk aimedAtProcess namesLive recordHeard liveProcess theProcess view
+  process-records rs one z =
+      regroup (aimedAtProcess (view st)) (processRecordGood (st .processes)) rs
+      (λ r.
+      and-imp (aimedAtProcess (view st) r && recordHeard (view st) r)
+      (λ e. process-unmarked st r (and-fst (aimedAtProcess (view st) r) (recordHeard (view st) r) e) (one (r .process)) z))
+
+-- ---- the counts
+
+-- a record in use names a process other than 0
+unnamed : (l : List Siginfo) → count (ofProcess 0) (used l) ≡ 0
+unfolding used inUse
+unnamed l =
+    none-count (ofProcess 0) (used l)
+    (All-any (ofProcess 0) (used l) (All-imp (Pass inUse) (Fail (ofProcess 0)) (λ r e. not-true (eqb (r .process) 0) e) (used l) (leading-passes inUse l)))
+
+tally-at : (xs : List (Place Process)) (rs : List Siginfo) (i : ℕ) → i < length xs
+    → getD (tallies (map held xs) rs) i 0 ≡ count (ofProcess (getD xs i freeProcess .holds .id)) rs
+unfolding tallies
+tally-at xs rs i h =
+    let f : Process → ℕ = λ p. count (ofProcess (p .id)) rs in
+    let l : i < length (map held xs) = rw (length-map xs held) h in
+    getD-mapped f (map held xs) i (freeProcess .holds) 0 l ∙ ap f (List·getD-map held xs i freeProcess)
+
+module _ (st : Store) where
+  no-queued : queuedIn st 0 ≡ 0
+  unfolding queuedIn
+  no-queued = omega (arith, unnamed (st .threadBuffer), unnamed (st .processBuffer))
+
+  within-live : (x : Place Process) → withinLimit st x ≡ ifLive processId (withinLimit st) x
+  within-live x =
+      split (eqb (x .holds .id) 0)
+      (λ e.
+      let z : queuedIn st (x .holds .id) ≡ 0 = ap (queuedIn st) (eqb-true (x .holds .id) 0 e) ∙ no-queued in
+      rw e (le-leb (queuedIn st (x .holds .id)) recordLimit (omega arith)))
+      (λ e. rw e)
+
+  abbrev threadTally : List ℕ
+  threadTally = tallies (map held (st .processes)) (used (st .threadBuffer))
+
+  abbrev processTally : List ℕ
+  processTally = tallies (map held (st .processes)) (used (st .processBuffer))
+
+  within-at : (i : ℕ) → i < length (st .processes) → withinAt threadTally processTally i ≡ ifLive processId (withinLimit st) (getD (st .processes) i freeProcess)
+  unfolding withinAt queuedIn
+  within-at i h =
+      ap₂ (λ (m n : ℕ). leb (m + n) recordLimit) (tally-at (st .processes) (used (st .threadBuffer)) i h) (tally-at (st .processes) (used (st .processBuffer)) i h)
+      ∙ within-live (getD (st .processes) i freeProcess)
+
+  pub within-limit : length (st .processes) ≡ processPlaces → allWithin threadTally processTally ≡ limitKept st
+  unfolding allWithin limitKept
+  within-limit n =
+      same-test (allWithin threadTally processTally) (limitKept st)
+      (λ a.
+      all-each (ifLive processId (withinLimit st)) freeProcess (st .processes)
+      (λ i h. sym (within-at i h) ∙ below-all (withinAt threadTally processTally) processPlaces a i (omega arith)))
+      (λ a.
+      all-below (withinAt threadTally processTally) processPlaces
+      (λ i h.
+      let l : i < length (st .processes) = omega arith in
+      within-at i l ∙ all-at (ifLive processId (withinLimit st)) freeProcess (st .processes) i l a))

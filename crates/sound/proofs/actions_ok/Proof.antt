@@ -1,0 +1,101 @@
+use Prim.Native.Nat.{_≤_, _<_, _-_}
+use mathlib.Core.Path.{_≡_, sym, _∙_}
+use mathlib.Core.Bool.{true}
+use mathlib.Core.List.{[]}
+use borrow.Author.Needs.{needs}
+use borrow.Author.Tests.{not-true, not-false}
+use native.Mathlib.Omega.{arith}
+use lib.ListN.{length, take}
+use Rattle.limits.specs.Limits.{signals}
+use Rattle.lists.specs.Lists.{all}
+use Rattle.lists.proofs.Loops.{all-none, all-more, all-fails, all-done}
+use Rattle.types.specs.Values.{defaultAction}
+use Rattle.tables.specs.Tables.{processAt}
+use Rattle.tables.proofs.Words.{length-actions}
+use Rattle.sound.specs.Check.{actionOk}
+use Rattle.sound.proofs.Endings.{action-test}
+use Rattle.sound.proofs.actions_ok.Statement.{statement}
+use Rattle.sound.proofs.actions_ok.Tie as tie
+use Rattle.sound.proofs.actions_ok.Reads as reads
+use Rattle.sound.proofs.actions_ok.Lts as lts
+use Rattle.sound.proofs.action_ok.Reads as action-ok-reads
+use Rattle.tables.proofs.action_at.Reads as action-at-reads
+
+abbrev Inv-loop : tie.InvT-loop
+Inv-loop ps place i₀ i = (i ≤ signals) × (all actionOk (take i (processAt ps place .holds .actions)) ≡ true)
+
+abbrev μ-loop : tie.MeasureT-loop
+μ-loop ps place i₀ i = signals - i
+
+-- src/lib.rt:87:5
+loop-holds : tie.Need-loop-holds Inv-loop μ-loop
+loop-holds c = (search needs, all-none actionOk defaultAction [])
+
+-- src/lib.rt:88:52
+add-action-at : tie.Need-add-action-at Inv-loop μ-loop
+add-action-at c = search needs
+
+-- src/lib.rt:88:23
+action-at-requires : tie.Need-action-at-requires Inv-loop μ-loop
+action-at-requires c κs = search needs
+
+-- src/lib.rt:88:13
+action-ok-requires : tie.Need-action-ok-requires Inv-loop μ-loop
+action-ok-requires c κs = search needs
+
+-- src/lib.rt:89:13
+returns : tie.Need-returns Inv-loop μ-loop
+returns c =
+    let a = c .before .before .before .before .before .before in
+    let i = c .before .before .before .before .loop .i in
+    let p = processAt (a .args .ps .now) (a .args .place) .holds in
+    let long = length-actions (a .args .ps .now) (a .args .place) (a .pre .1) in
+    let h : i < length (p .actions) = rw long (omega arith) in
+    sym (all-fails actionOk defaultAction (p .actions) i h
+    (action-test actionOk p i (c .before .before .action-at .result) (c .before .before .action-at .ensures)
+    ∙ sym (c .before .action-ok .ensures) ∙ not-true (c .before .action-ok .result) (c .if1 .taken)))
+
+-- src/lib.rt:91:9
+add-i : tie.Need-add-i Inv-loop μ-loop
+add-i c = search needs
+
+-- src/lib.rt:87:5
+loop-less : tie.Need-loop-less Inv-loop μ-loop
+loop-less c = search needs
+
+-- src/lib.rt:87:5
+loop-again : tie.Need-loop-again Inv-loop μ-loop
+loop-again c =
+    let a = c .before .before .before .before .before .before in
+    let i = c .before .before .before .before .loop .i in
+    let p = processAt (a .args .ps .now) (a .args .place) .holds in
+    let long = length-actions (a .args .ps .now) (a .args .place) (a .pre .1) in
+    let h : i < length (p .actions) = rw long (omega arith) in (
+      omega arith,
+      all-more actionOk defaultAction (p .actions) i h (c .before .before .before .before .loop .inv .1)
+          (action-test actionOk p i (c .before .before .action-at .result) (c .before .before .action-at .ensures)
+          ∙ sym (c .before .action-ok .ensures) ∙ not-false (c .before .action-ok .result) (c .if1 .left)),
+    )
+
+-- src/lib.rt:82:1
+returns-2 : tie.Need-returns-2 Inv-loop μ-loop
+returns-2 c =
+    let a = c .before .before .before in
+    let long = length-actions (a .args .ps .now) (a .args .place) (a .pre .1) in
+    sym (all-done actionOk defaultAction (processAt (a .args .ps .now) (a .args .place) .holds .actions) (c .before .loop .i) (rw long (omega arith)) (c .before .loop .inv .1))
+
+pub actions-ok-spec : {M : Type 1} → statement M
+actions-ok-spec =
+    tie.close
+    (tie.spec
+    Inv-loop
+    μ-loop
+    loop-holds
+    add-action-at
+    action-at-requires
+    action-ok-requires
+    returns
+    add-i
+    loop-less
+    loop-again
+    returns-2)

@@ -1,0 +1,47 @@
+use mathlib.Core.Path.{sym, ap, _∙_}
+use borrow.Author.Tests.{not-true, not-false}
+use Rattle.types.specs.declared.Action.{Action}
+use Rattle.rules.specs.Signals.{ignored}
+use Rattle.rules.specs.View.{actionOf}
+use Rattle.tables.specs.Tables.{processAt}
+use Rattle.sound.proofs.Endings.{unmarked, marked}
+use borrow.Author.Needs.{needs}
+use Rattle.sound.proofs.mark_heard.Statement.{statement}
+use Rattle.sound.proofs.mark_heard.Tie as tie
+use Rattle.sound.proofs.mark_heard.Reads as reads
+use Rattle.sound.proofs.mark_heard.Lts as lts
+use Rattle.decide.proofs.is_ignored.Reads as is-ignored-reads
+use Rattle.sigset.proofs.SigSet.has.Reads as has-reads
+use Rattle.tables.proofs.action_at.Reads as action-at-reads
+
+-- src/lib.rt:128:9
+has-requires : tie.Need-has-requires
+has-requires c κs = search needs
+
+-- src/lib.rt:129:9
+returns : tie.Need-returns
+returns c =
+    let a = c .before .before .before in
+    unmarked (a .args .marks) (actionOf (processAt (a .args .ps .now) (a .args .place) .holds)) (a .args .s)
+    (sym (c .before .has .ensures) ∙ not-true (c .before .has .result) (c .if1 .taken))
+
+-- src/lib.rt:131:25
+action-at-requires : tie.Need-action-at-requires
+action-at-requires c κs = search needs
+
+-- src/lib.rt:131:6
+is-ignored-requires : tie.Need-is-ignored-requires
+is-ignored-requires c κs = search needs
+
+-- src/lib.rt:124:1
+returns-2 : tie.Need-returns-2
+returns-2 c =
+    let a = c .before .before .before .before .before in
+    let p = processAt (a .args .ps .now) (a .args .place) .holds in
+    marked (a .args .marks) (actionOf p) (a .args .s)
+    (sym (c .before .before .before .has .ensures) ∙ not-false (c .before .before .before .has .result) (c .before .before .if1 .left))
+    (c .is-ignored .ensures ∙ ap (λ (x : Action). ignored x (a .args .s)) (c .before .action-at .ensures))
+
+pub mark-heard-spec : {M : Type 1} → statement M
+mark-heard-spec =
+    tie.close (tie.spec has-requires returns action-at-requires is-ignored-requires returns-2)

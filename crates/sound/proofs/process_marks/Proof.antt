@@ -1,0 +1,95 @@
+use Prim.Native.Nat.{_≤_, _<_, _-_}
+use mathlib.Core.Path.{_≡_, sym, _∙_}
+use mathlib.Core.List.{[]}
+use borrow.Author.Needs.{needs}
+use native.Mathlib.Omega.{arith}
+use lib.ListN.{length, length-set}
+use Rattle.limits.specs.Limits.{processPlaces}
+use Rattle.lists.proofs.Loops.{filled, filled-none}
+use Rattle.rules.specs.Store.{freeProcess}
+use Rattle.tables.specs.Tables.{processesOf, headTo}
+use Rattle.tables.proofs.Words.{length-processesOf}
+use Rattle.sound.specs.Check.{seenBy, ownQueue}
+use Rattle.sound.proofs.Marks.{marks-more, marks-done}
+use Rattle.sound.proofs.process_marks.Statement.{statement}
+use Rattle.sound.proofs.process_marks.Tie as tie
+use Rattle.sound.proofs.process_marks.Reads as reads
+use Rattle.sound.proofs.process_marks.Lts as lts
+use Rattle.tables.proofs.field_at.Reads as field-at-reads
+
+abbrev Inv-loop : tie.InvT-loop
+Inv-loop ps seen₀ i₀ seen i = (i ≤ processPlaces) × ((length seen ≡ processPlaces) × (seen ≡ filled (seenBy ownQueue []) i (processesOf ps) seen₀))
+
+abbrev μ-loop : tie.MeasureT-loop
+μ-loop ps seen₀ i₀ seen i = processPlaces - i
+
+-- src/lib.rt:334:5
+loop-holds : tie.Need-loop-holds Inv-loop μ-loop
+loop-holds c =
+    let a = c .before .before in
+    (search needs, (a .pre .1, filled-none (seenBy ownQueue []) (processesOf (a .args .ps .now)) (a .args .seen .now)))
+
+-- src/lib.rt:335:19
+field-at-requires : tie.Need-field-at-requires Inv-loop μ-loop
+field-at-requires c κs = search needs
+
+-- src/lib.rt:335:9
+mul-seen : tie.Need-mul-seen Inv-loop μ-loop
+mul-seen c = search needs
+
+-- src/lib.rt:335:9
+slice-write-seen : tie.Need-slice-write-seen Inv-loop μ-loop
+slice-write-seen c = search needs
+
+-- src/lib.rt:336:9
+add-i : tie.Need-add-i Inv-loop μ-loop
+add-i c = search needs
+
+-- src/lib.rt:334:5
+loop-less : tie.Need-loop-less Inv-loop μ-loop
+loop-less c = search needs
+
+-- src/lib.rt:334:5
+loop-again : tie.Need-loop-again Inv-loop μ-loop
+unfolding headTo
+loop-again c =
+    let a = c .before .before .before .before .before in
+    let l = c .before .before in
+    let xs = processesOf (a .args .ps .now) in
+    let n = length-processesOf (a .args .ps .now) in
+    let h : l .loop .i < length xs = rw n (omega arith) in (
+      omega arith,
+      (
+        length-set (l .loop .seen) (l .loop .i) (c .field-at .result) ∙ l .loop .inv .1 .0,
+        marks-more ownQueue xs (a .args .seen .now) freeProcess (a .pre .1 ∙ sym n) (l .loop .seen) (l .loop .i) (c .field-at .result) h (l .loop .inv .1 .1)
+            (c .field-at .ensures) (omega arith),
+      ),
+    )
+
+-- src/lib.rt:329:1
+same-length : tie.Need-same-length Inv-loop μ-loop
+same-length c = search needs
+
+-- src/lib.rt:329:1
+returns : tie.Need-returns Inv-loop μ-loop
+returns c =
+    let a = c .before .before .before .before in
+    let n = length-processesOf (a .args .ps .now) in
+    c .before .loop .inv .1 .1
+    ∙ marks-done ownQueue (processesOf (a .args .ps .now)) (a .args .seen .now) freeProcess (a .pre .1 ∙ sym n) (c .before .loop .i) (rw n (omega arith))
+
+pub process-marks-spec : {M : Type 1} → statement M
+process-marks-spec =
+    tie.close
+    (tie.spec
+    Inv-loop
+    μ-loop
+    loop-holds
+    field-at-requires
+    mul-seen
+    slice-write-seen
+    add-i
+    loop-less
+    loop-again
+    same-length
+    returns)

@@ -1,0 +1,51 @@
+use mathlib.Core.Path.{sym, ap, _∙_}
+use borrow.Author.Tests.{not-true, not-false}
+use Rattle.types.specs.declared.Action.{Action}
+use Rattle.rules.specs.Signals.{ignored}
+use Rattle.tables.specs.Tables.{processAt}
+use Rattle.sound.proofs.Endings.{unnamed, delivered, nameable-range}
+use borrow.Author.Needs.{needs}
+use Rattle.sound.proofs.record_heard.Statement.{statement}
+use Rattle.sound.proofs.record_heard.Tie as tie
+use Rattle.sound.proofs.record_heard.Reads as reads
+use Rattle.sound.proofs.record_heard.Lts as lts
+use Rattle.decide.proofs.is_ignored.Reads as is-ignored-reads
+use Rattle.decide.proofs.is_nameable.Reads as is-nameable-reads
+use Rattle.tables.proofs.action_at.Reads as action-at-reads
+
+-- src/lib.rt:249:9
+is-nameable-requires : tie.Need-is-nameable-requires
+is-nameable-requires c κs = search needs
+
+-- src/lib.rt:250:9
+returns : tie.Need-returns
+returns c =
+    let a = c .before .before .before in
+    unnamed (processAt (a .args .ps .now) (a .args .place) .holds) (a .args .r)
+    (sym (c .before .is-nameable .ensures) ∙ not-true (c .before .is-nameable .result) (c .if1 .taken))
+
+-- src/lib.rt:252:38
+action-at-requires : tie.Need-action-at-requires
+action-at-requires c κs =
+    let n = nameable-range (c .before .before .before .args .r .signal)
+    (sym (c .before .is-nameable .ensures) ∙ not-false (c .before .is-nameable .result) (c .if1 .left)) in
+    (c .before .before .before .pre .0, (c .before .before .before .pre .1, n))
+
+-- src/lib.rt:252:9
+is-ignored-requires : tie.Need-is-ignored-requires
+is-ignored-requires c κs = search needs
+
+-- src/lib.rt:244:1
+returns-2 : tie.Need-returns-2
+returns-2 c =
+    let d = c .before .before .before .before in
+    let a = d .before .before in
+    let p = processAt (a .args .ps .now) (a .args .place) .holds in
+    delivered p (a .args .r)
+    (sym (d .is-nameable .ensures) ∙ not-false (d .is-nameable .result) (c .before .before .before .if1 .left))
+    (c .before .is-ignored .ensures ∙ ap (λ (x : Action). ignored x (a .args .r .signal)) (c .before .before .action-at .ensures))
+
+pub record-heard-spec : {M : Type 1} → statement M
+record-heard-spec =
+    tie.close
+    (tie.spec is-nameable-requires returns action-at-requires is-ignored-requires returns-2)

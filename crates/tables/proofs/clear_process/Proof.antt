@@ -1,0 +1,23 @@
+-- `clear_process` meets its contract: a free place is all zero. Assumes nothing.
+use borrow.Author.Needs.{needs}
+use Rattle.tables.proofs.Places.{process-cleared}
+use Rattle.tables.proofs.clear_process.Statement.{statement}
+use Rattle.tables.proofs.clear_process.Tie as tie
+
+mul-clear : tie.Need-mul-clear
+mul-clear c = search needs
+
+clear-requires : tie.Need-clear-requires
+clear-requires c κs = search needs
+
+same-length : tie.Need-same-length
+same-length c = search needs
+
+returns : tie.Need-returns
+returns c =
+    let d = c .before .before in
+    let a = d .before .before .before in
+    process-cleared (a .args .ps .now) (a .pre .0) (a .args .place) (a .pre .1) (d .clear .last .0) (d .clear .ensures)
+
+pub clear-process-spec : {M : Type 1} → statement M
+clear-process-spec = tie.close (tie.spec mul-clear clear-requires same-length returns)

@@ -1,0 +1,15 @@
+-- `free_process` meets its contract: a free place has the id 0. Assumes nothing.
+use borrow.Author.Needs.{needs}
+use Rattle.tables.specs.Tables.{hasProcessId}
+use Rattle.tables.proofs.free_process.Statement.{statement}
+use Rattle.tables.proofs.free_process.Tie as tie
+
+process-place-requires : tie.Need-process-place-requires
+process-place-requires c κs = search needs
+
+returns : tie.Need-returns
+unfolding hasProcessId
+returns c = c .process-place .ensures
+
+pub free-process-spec : {M : Type 1} → statement M
+free-process-spec = tie.close (tie.spec process-place-requires returns)
