@@ -1,6 +1,6 @@
 -- Laws of a search: the index of the first that passes, or the length. Assumes nothing.
 use Prim.Native.Nat.{ℕ, zero, suc, _≤_, _<_, zero-le, suc-le-suc}
-use mathlib.Core.Path.{_≡_, refl, sym, ap, fun-ext, _∙_}
+use mathlib.Core.Path.{_≡_, refl, sym, ap, subst, fun-ext, _∙_}
 use mathlib.Core.Bool.{Bool, true, false}
 use mathlib.Core.List.{List, [], _∷_, map}
 use mathlib.Core.Option.{Option·getD}
@@ -12,7 +12,7 @@ use lib.ListN.{length, getD}
 use Rattle.lists.specs.Lists.{any, find, first}
 use Rattle.lists.proofs.Bools.{split, or-fst-false, or-snd-false}
 use Rattle.lists.proofs.Lists.{find-yes, find-no}
-use Rattle.lists.proofs.Loops.{find-any}
+use Rattle.lists.proofs.Loops.{find-any, find-le, any-find}
 
 module _ {A : Type 0} (f : A → Bool) (d : A) where
   pub find-first : (xs : List A) (i : ℕ) → i < length xs → f (getD xs i d) ≡ true → ((j : ℕ) → j < i → f (getD xs j d) ≡ false) → find f xs ≡ i
@@ -56,3 +56,19 @@ module _ {A : Type 0} (p : A → Bool) where
 module _ {A : Type 0} (p q : A → Bool) where
   pub find-alike : (xs : List A) → ((x : A) → p x ≡ q x) → find p xs ≡ find q xs
   find-alike xs h = ap (λ (f : A → Bool). find f xs) (fun-ext h)
+
+-- ---- what was looked up, in a list of n entries: `place` is where it is, or n
+
+module _ {A : Type 0} (p : A → Bool) (d : A) (xs : List A) (n place : ℕ) (long : length xs ≡ n) (e : place ≡ find p xs) where
+  pub found-inside : (place ≡ n → ⊥) → place < n
+  found-inside z = let a = find-le p xs in omega (arith, e)
+
+  pub found-any : (place ≡ n → ⊥) → any p xs ≡ true
+  found-any z = let h = found-inside z in any-find p d xs (omega (arith, e))
+
+  pub absent-any : place ≡ n → any p xs ≡ false
+  absent-any z = sym (find-within p xs) ∙ le-ltb (find p xs) (length xs) (omega (arith, e))
+
+-- something passes, so the search ends inside
+pub any-inside : {A : Type 0} (p : A → Bool) (xs : List A) (n : ℕ) → length xs ≡ n → any p xs ≡ true → find p xs < n
+any-inside p xs n e a = subst (λ k. find p xs < k) e (find-any p xs a)

@@ -238,3 +238,12 @@ module _ {A : Type 0} where
 pub sets-append : {A : Type 0} (s t l : List A) (i j : ℕ) → j ≡ i + length s → sets (sets l i s) j t ≡ sets l i (s ++ t)
 sets-append [] t l i j e = ap (λ k. sets l k t) (e ∙ add-zero i)
 sets-append (a ∷ s) t l i j e = sets-append s t (set l i a) (suc i) j (omega arith)
+
+-- ---- n words from a place on
+
+module _ (ws : List ℕ) (from n : ℕ) (h : from + n ≤ length ws) where
+  pub part-long : length (take n (drop from ws)) ≡ n
+  part-long = length-take-le n (drop from ws) (rw length-drop (omega arith))
+
+  pub part-at : (i : ℕ) → i < n → getD (take n (drop from ws)) i 0 ≡ getD ws (from + i) 0
+  part-at i k = getD-take n (drop from ws) i 0 k ∙ getD-drop from ws i 0

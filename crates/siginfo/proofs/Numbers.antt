@@ -2,7 +2,7 @@
 use mathlib.Core.Path.{_≡_, refl, sym, ap, _∙_}
 use mathlib.Core.List.{List, [], _∷_, _++_}
 use Prim.Native.Nat.{ℕ, zero, suc, _+_, _*_, _/_, _%_, _^_, _≤_, _<_}
-use native.Mathlib.Nat.{suc-add, zero-add, add-zero, one-mul, mul-assoc, mul-comm, div-one, div-div-eq-div-mul, mod-add-div, div-lt-iff-lt-mul, add-mul-mod-self-left, add-mul-div-left, pow-zero, pow-suc, pow-le-pow-right, lt-of-lt-of-le, min-le-left}
+use native.Mathlib.Nat.{suc-add, zero-add, one-mul, mul-assoc, mul-comm, div-one, div-div-eq-div-mul, mod-add-div, div-lt-iff-lt-mul, add-mul-mod-self-left, add-mul-div-left, pow-zero, pow-suc, pow-le-pow-right, lt-of-lt-of-le, min-le-left}
 use native.Mathlib.Omega.{arith}
 use lib.Arith.{lt-one}
 use lib.Dec.{lit<}

@@ -5,8 +5,7 @@ use mathlib.Core.List.{List}
 use Prim.Native.Nat.{ℕ, _+_, _-_, _≤_, _<_}
 use native.Mathlib.Omega.{arith}
 use lib.Dec.{eqb, leb}
-use lib.ListN.{length, getD, take, drop, set, length-drop}
-use lib.Seq.{length-take-le, getD-take, getD-drop}
+use lib.ListN.{getD}
 use borrow.Author.Tests.{leb-true, le-leb, lt-leb, ne-eqb}
 use Rattle.limits.specs.Limits.{recordLimit, signals, siQueue, threadProcess}
 use Rattle.lists.specs.Lists.{any, range}
@@ -26,15 +25,6 @@ use Rattle.rules.specs.Sound.{markHeard, marksHeard, nameable}
 use Rattle.tables.specs.Tables.{threadsOf, heldThreads, threadAt, threadTo}
 use Rattle.tables.proofs.Places.{held-at}
 use Rattle.sound.specs.Check.{isFresh, withinAt, isDelivered}
-
--- ---- a part of a table
-
-module _ (ws : List ℕ) (from n : ℕ) (h : from + n ≤ length ws) where
-  pub part-long : length (take n (drop from ws)) ≡ n
-  part-long = length-take-le n (drop from ws) (rw length-drop (omega arith))
-
-  pub part-at : (i : ℕ) → i < n → getD (take n (drop from ws)) i 0 ≡ getD ws (from + i) 0
-  part-at i k = getD-take n (drop from ws) i 0 k ∙ getD-drop from ws i 0
 
 -- ---- one signal against the set of its queue
 

@@ -3,9 +3,10 @@ pub mod PlaceEndings
 pub mod RecordEndings
 pub mod Marks
 pub mod Passes
-pub mod Places
 pub mod Turns
+pub mod Places
 pub mod Records
 pub mod Regrouped
 pub mod Loops
 pub mod Whole
+pub mod Facts

@@ -1,25 +1,29 @@
--- The two loops over the records of a buffer, over plain variables: what holds after i records, and what one turn does.
+-- The two loops over the records of a buffer, over plain variables: what holds after i records, and what one turn does. Assumes nothing.
 use mathlib.Core.Path.{_≡_, refl, sym, ap, _∙_}
 use mathlib.Core.Bool.{Bool, true, false, _&&_, cond}
-use mathlib.Core.List.{List, [], map}
+use mathlib.Core.List.{List, []}
 use Prim.Native.Nat.{ℕ, _+_, _≤_, _<_}
 use native.Mathlib.Omega.{arith}
 use lib.ListN.{length, getD, take, length-map}
 use lib.Seq.{length-take-le, take-all}
-use Rattle.limits.specs.Limits.{processPlaces, threadPlaces, bufferRecords}
-use Rattle.lists.specs.Lists.{count, find}
-use Rattle.lists.proofs.Bools.{split, clash, and-fst, and-snd, and-cases}
+use Rattle.limits.specs.Limits.{processPlaces, threadPlaces, bufferRecords, recordBytes}
+use Rattle.lists.specs.Lists.{count}
+use Rattle.lists.specs.Rows.{row}
+use Rattle.lists.proofs.Bools.{clash, and-fst, and-snd}
 use Rattle.types.specs.declared.Siginfo.{Siginfo}
 use Rattle.types.specs.Values.{noSiginfo}
+use Rattle.siginfo.specs.Bytes.{siginfoOf}
 use Rattle.rules.specs.Types.{Process, Thread}
-use Rattle.rules.specs.View.{isProcess, isThread, threadQueue}
-use Rattle.rules.specs.Store.{Place, held, ofProcess}
+use Rattle.rules.specs.View.{threadQueue}
+use Rattle.rules.specs.Store.{ofProcess}
+use Rattle.queue.specs.Queue.{recordsOf}
+use Rattle.queue.proofs.Buffer.{length-recordsOf, record-read}
 use Rattle.tables.specs.Tables.{processesOf, threadsOf, heldProcesses}
 use Rattle.tables.proofs.Words.{length-processesOf, length-threadsOf, length-heldProcesses}
-use Rattle.sound.specs.Check.{tallies, seenBy, seenSets, ownQueue, isFresh, bumped, noted, smallCounts, onePlace, processPlace, threadPlace, threadRecordOk, processRecordOk, threadRecordsOk, processRecordsOk}
+use Rattle.sound.specs.Check.{placesOk, tallies, seenBy, seenSets, ownQueue, isFresh, bumped, noted, smallCounts, onePlace, processPlace, threadPlace, threadRecordOk, processRecordOk, threadRecordsOk, processRecordsOk}
 use Rattle.sound.proofs.Passes.{tally-bound}
-use Rattle.sound.proofs.Turns.{thread-none, thread-done, thread-step, thread-tally, thread-more, process-none, process-done, process-step, process-tally, process-more}
-use Rattle.sound.proofs.Turns as turns
+use Rattle.sound.proofs.Turns as turn
+use Rattle.sound.proofs.Regrouped.{places-one-process, places-one-thread}
 
 -- after i records: they are counted, their signals noted, and all of them passed
 pub record Pass (ps : List Process) (seenOf : List Siginfo → List ℕ) (passes : List Siginfo → Bool) (rs : List Siginfo) (counts seen : List ℕ) (i : ℕ) : Type 0 where
@@ -27,104 +31,144 @@ pub record Pass (ps : List Process) (seenOf : List Siginfo → List ℕ) (passes
   pub noticed : seen ≡ seenOf (take i rs)
   pub passed : passes (take i rs) ≡ true
 
-module _ (ps : List Process) (seenOf : List Siginfo → List ℕ) (passes : List Siginfo → Bool) (rs : List Siginfo) where
-  pub small : (counts seen : List ℕ) (i : ℕ) → length rs ≤ bufferRecords → i ≤ length rs → Pass ps seenOf passes rs counts seen i → smallCounts counts
-  small counts seen i h l k p =
-      let a : getD counts p 0 ≤ length (take i rs) = rw (k .counted) (tally-bound ps (take i rs) p) in
-      let b : length (take i rs) ≡ i = length-take-le i rs l in
+module _ (ps : List ℕ) (seenOf : List Siginfo → List ℕ) (passes : List Siginfo → Bool) (b : List ℕ) (counts seen : List ℕ) (i : ℕ)
+    (k : Pass (heldProcesses ps) seenOf passes (recordsOf b) counts seen i) where
+  counts-long : length counts ≡ processPlaces
+  unfolding tallies
+  counts-long =
+      ap length (k .counted)
+      ∙ length-map (heldProcesses ps) (λ (p : Process). count (ofProcess (p .id)) (take i (recordsOf b)))
+      ∙ length-heldProcesses ps
+
+  counts-small : i ≤ length (recordsOf b) → smallCounts counts
+  counts-small l p =
+      let a : getD counts p 0 ≤ length (take i (recordsOf b)) = rw (k .counted) (tally-bound (heldProcesses ps) (take i (recordsOf b)) p) in
+      let e : length (take i (recordsOf b)) ≡ i = length-take-le i (recordsOf b) l in
+      let n = length-recordsOf b in
       omega arith
 
   -- one record more
-  module _ (counts seen counts′ seen′ : List ℕ) (i p q s : ℕ) {h : Bool} (k : Pass ps seenOf passes rs counts seen i) (y : h ≡ true) where
-    pub next : counts′ ≡ cond h (bumped counts p) counts → seen′ ≡ cond h (noted seen q s) seen
-        → bumped (tallies ps (take i rs)) p ≡ tallies ps (take (i + 1) rs) → noted (seenOf (take i rs)) q s ≡ seenOf (take (i + 1) rs)
-        → passes (take (i + 1) rs) ≡ true → Pass ps seenOf passes rs counts′ seen′ (i + 1)
-    next ec es tc ts ok =
+  module _ (counts′ seen′ : List ℕ) (p q s : ℕ) {h : Bool} (y : h ≡ true) where
+    one-more : counts′ ≡ cond h (bumped counts p) counts → seen′ ≡ cond h (noted seen q s) seen
+        → bumped (tallies (heldProcesses ps) (take i (recordsOf b))) p ≡ tallies (heldProcesses ps) (take (i + 1) (recordsOf b))
+        → noted (seenOf (take i (recordsOf b))) q s ≡ seenOf (take (i + 1) (recordsOf b)) → passes (take (i + 1) (recordsOf b)) ≡ true
+        → Pass (heldProcesses ps) seenOf passes (recordsOf b) counts′ seen′ (i + 1)
+    one-more ec es tc ts ok =
         record {
-          counted = ec ∙ ap (λ b. cond b (bumped counts p) counts) y ∙ ap (λ l. bumped l p) (k .counted) ∙ tc;
-          noticed = es ∙ ap (λ b. cond b (noted seen q s) seen) y ∙ ap (λ l. noted l q s) (k .noticed) ∙ ts;
+          counted = ec ∙ ap (λ t. cond t (bumped counts p) counts) y ∙ ap (λ l. bumped l p) (k .counted) ∙ tc;
+          noticed = es ∙ ap (λ t. cond t (noted seen q s) seen) y ∙ ap (λ l. noted l q s) (k .noticed) ∙ ts;
           passed = ok;
         }
 
 -- ---- the thread buffer
 
-module _ (xs : List (Place Process)) (ys : List (Place Thread)) (rs : List Siginfo) where
+module _ (ps ts b : List ℕ) where
   abbrev pub ThreadPass : List ℕ → List ℕ → ℕ → Type 0
-  ThreadPass = Pass (map held xs) (seenSets threadQueue ys) (threadRecordsOk xs ys) rs
+  ThreadPass = Pass (heldProcesses ps) (seenSets threadQueue (threadsOf ts)) (threadRecordsOk (processesOf ps) (threadsOf ts)) (recordsOf b)
 
-  pub thread-start : (counts seen : List ℕ) → counts ≡ tallies (map held xs) [] → seen ≡ seenSets threadQueue ys [] → ThreadPass counts seen 0
-  thread-start counts seen c s = record { counted = c; noticed = s; passed = thread-none xs ys rs }
+  pub thread-start : (counts seen : List ℕ) → counts ≡ tallies (heldProcesses ps) [] → seen ≡ seenSets threadQueue (threadsOf ts) []
+      → ThreadPass counts seen 0
+  thread-start counts seen c s = record { counted = c; noticed = s; passed = turn.thread-none (processesOf ps) (threadsOf ts) (recordsOf b) }
 
-  module _ (counts seen : List ℕ) (i : ℕ) (r : Siginfo) {h : Bool} (k : ThreadPass counts seen i) (l : i < length rs) (e : r ≡ getD rs i noSiginfo)
-      (he : h ≡ (threadRecordOk xs ys r && isFresh seen (threadPlace ys r) (r .signal))) where
-    fresh-now : isFresh seen (threadPlace ys r) (r .signal) ≡ isFresh (seenSets threadQueue ys (take i rs)) (threadPlace ys r) (r .signal)
-    fresh-now = ap (λ m. isFresh m (threadPlace ys r) (r .signal)) (k .noticed)
+  pub thread-end : (counts seen : List ℕ) (i : ℕ) → length (recordsOf b) ≤ i → ThreadPass counts seen i
+      → (true ≡ threadRecordsOk (processesOf ps) (threadsOf ts) (recordsOf b)) × (true ≡ true → counts ≡ tallies (heldProcesses ps) (recordsOf b))
+  thread-end counts seen i h k = (
+    sym (turn.thread-done (processesOf ps) (threadsOf ts) (recordsOf b) i h (k .passed)),
+    λ _. k .counted ∙ ap (tallies (heldProcesses ps)) (take-all i (recordsOf b) h),
+  )
 
-    pub thread-fails : h ≡ false → false ≡ threadRecordsOk xs ys rs
-    thread-fails n = sym (turns.thread-fails xs ys rs i r l e (ap (λ b. threadRecordOk xs ys r && b) (sym fresh-now) ∙ sym he ∙ n))
+  module _ (counts seen : List ℕ) (i : ℕ) (k : ThreadPass counts seen i) (l : i < length (recordsOf b)) where
+    -- what the turn asks
+    pub thread-ready : ((length counts ≡ processPlaces) × (length seen ≡ threadPlaces)) × smallCounts counts
+    unfolding seenSets
+    thread-ready =
+        let seenOf = seenSets threadQueue (threadsOf ts) in
+        let passes = threadRecordsOk (processesOf ps) (threadsOf ts) in (
+          (counts-long ps seenOf passes b counts seen i k, ap length (k .noticed) ∙ length-map (threadsOf ts) (seenBy threadQueue (take i (recordsOf b))) ∙ length-threadsOf ts),
+          counts-small ps seenOf passes b counts seen i k (omega arith),
+        )
 
-    pub thread-next : (counts′ seen′ : List ℕ) → onePlace (map held xs) → count (isThread (r .thread)) (map held ys) ≤ 1
-        → h ≡ true
-        → counts′ ≡ cond h (bumped counts (processPlace xs r)) counts → seen′ ≡ cond h (noted seen (threadPlace ys r) (r .signal)) seen
-        → ThreadPass counts′ seen′ (i + 1)
-    thread-next counts′ seen′ op ot y ec es =
-        let both = sym he ∙ y in
-        let ok = and-fst (threadRecordOk xs ys r) (isFresh seen (threadPlace ys r) (r .signal)) both in
-        let new = and-snd (threadRecordOk xs ys r) (isFresh seen (threadPlace ys r) (r .signal)) both in
-        next (map held xs) (seenSets threadQueue ys) (threadRecordsOk xs ys) rs counts seen counts′ seen′ i (processPlace xs r) (threadPlace ys r) (r .signal) k y ec es
-        (thread-tally xs ys rs i r l e ok (op (r .process)))
-        (thread-step xs ys rs i r l e ok ot)
-        (thread-more xs ys rs i r l e ok (k .passed) (sym fresh-now ∙ new))
+    module _ (r : Siginfo) {h : Bool} (e : r ≡ siginfoOf (row recordBytes b i))
+        (he : h ≡ (threadRecordOk (processesOf ps) (threadsOf ts) r && isFresh seen (threadPlace (threadsOf ts) r) (r .signal))) where
+      this-thread : r ≡ getD (recordsOf b) i noSiginfo
+      this-thread = e ∙ sym (record-read b i noSiginfo l)
 
-  pub thread-end : (counts seen : List ℕ) (i : ℕ) → length rs ≤ i → ThreadPass counts seen i
-      → (true ≡ threadRecordsOk xs ys rs) × (true ≡ true → counts ≡ tallies (map held xs) rs)
-  thread-end counts seen i h k =
-      (sym (thread-done xs ys rs i h (k .passed)), λ _. k .counted ∙ ap (tallies (map held xs)) (take-all i rs h))
+      -- its freshness, said of the records before it
+      fresh-thread : isFresh seen (threadPlace (threadsOf ts) r) (r .signal)
+          ≡ isFresh (seenSets threadQueue (threadsOf ts) (take i (recordsOf b))) (threadPlace (threadsOf ts) r) (r .signal)
+      fresh-thread = ap (λ m. isFresh m (threadPlace (threadsOf ts) r) (r .signal)) (k .noticed)
+
+      pub thread-fails : {X : Type 0} → h ≡ false → (false ≡ threadRecordsOk (processesOf ps) (threadsOf ts) (recordsOf b)) × (false ≡ true → X)
+      thread-fails n = (
+        sym (turn.thread-fails (processesOf ps) (threadsOf ts) (recordsOf b) i r l this-thread
+            (ap (λ t. threadRecordOk (processesOf ps) (threadsOf ts) r && t) (sym fresh-thread) ∙ sym he ∙ n)),
+        λ f. clash f refl,
+      )
+
+      pub thread-next : (counts′ seen′ : List ℕ) → placesOk (processesOf ps) (threadsOf ts) ≡ true → h ≡ true
+          → counts′ ≡ cond h (bumped counts (processPlace (processesOf ps) r)) counts
+          → seen′ ≡ cond h (noted seen (threadPlace (threadsOf ts) r) (r .signal)) seen → ThreadPass counts′ seen′ (i + 1)
+      thread-next counts′ seen′ places y ec es =
+          let xs = processesOf ps in
+          let ys = threadsOf ts in
+          let ok = and-fst (threadRecordOk xs ys r) (isFresh seen (threadPlace ys r) (r .signal)) (sym he ∙ y) in
+          let new = and-snd (threadRecordOk xs ys r) (isFresh seen (threadPlace ys r) (r .signal)) (sym he ∙ y) in
+          one-more ps (seenSets threadQueue ys) (threadRecordsOk xs ys) b counts seen i k counts′ seen′ (processPlace xs r) (threadPlace ys r) (r .signal) y ec es
+          (turn.thread-tally xs ys (recordsOf b) i r l this-thread ok (places-one-process xs ys places (length-processesOf ps) (length-threadsOf ts) (r .process)))
+          (turn.thread-step xs ys (recordsOf b) i r l this-thread ok (places-one-thread xs ys places (length-processesOf ps) (length-threadsOf ts) (r .thread)))
+          (turn.thread-more xs ys (recordsOf b) i r l this-thread ok (k .passed) (sym fresh-thread ∙ new))
 
 -- ---- the process buffer
 
-module _ (xs : List (Place Process)) (rs : List Siginfo) where
+module _ (ps b : List ℕ) where
   abbrev pub ProcessPass : List ℕ → List ℕ → ℕ → Type 0
-  ProcessPass = Pass (map held xs) (seenSets ownQueue xs) (processRecordsOk xs) rs
+  ProcessPass = Pass (heldProcesses ps) (seenSets ownQueue (processesOf ps)) (processRecordsOk (processesOf ps)) (recordsOf b)
 
-  pub process-start : (counts seen : List ℕ) → counts ≡ tallies (map held xs) [] → seen ≡ seenSets ownQueue xs [] → ProcessPass counts seen 0
-  process-start counts seen c s = record { counted = c; noticed = s; passed = process-none xs rs }
+  pub process-start : (counts seen : List ℕ) → counts ≡ tallies (heldProcesses ps) [] → seen ≡ seenSets ownQueue (processesOf ps) []
+      → ProcessPass counts seen 0
+  process-start counts seen c s = record { counted = c; noticed = s; passed = turn.process-none (processesOf ps) (recordsOf b) }
 
-  module _ (counts seen : List ℕ) (i : ℕ) (r : Siginfo) {h : Bool} (k : ProcessPass counts seen i) (l : i < length rs) (e : r ≡ getD rs i noSiginfo)
-      (he : h ≡ (processRecordOk xs r && isFresh seen (processPlace xs r) (r .signal))) where
-    own-now : isFresh seen (processPlace xs r) (r .signal) ≡ isFresh (seenSets ownQueue xs (take i rs)) (processPlace xs r) (r .signal)
-    own-now = ap (λ m. isFresh m (processPlace xs r) (r .signal)) (k .noticed)
+  pub process-end : (counts seen : List ℕ) (i : ℕ) → length (recordsOf b) ≤ i → ProcessPass counts seen i
+      → (true ≡ processRecordsOk (processesOf ps) (recordsOf b)) × (true ≡ true → counts ≡ tallies (heldProcesses ps) (recordsOf b))
+  process-end counts seen i h k = (
+    sym (turn.process-done (processesOf ps) (recordsOf b) i h (k .passed)),
+    λ _. k .counted ∙ ap (tallies (heldProcesses ps)) (take-all i (recordsOf b) h),
+  )
 
-    pub process-fails : h ≡ false → false ≡ processRecordsOk xs rs
-    process-fails n = sym (turns.process-fails xs rs i r l e (ap (λ b. processRecordOk xs r && b) (sym own-now) ∙ sym he ∙ n))
+  module _ (counts seen : List ℕ) (i : ℕ) (k : ProcessPass counts seen i) (l : i < length (recordsOf b)) where
+    pub process-ready : ((length counts ≡ processPlaces) × (length seen ≡ processPlaces)) × smallCounts counts
+    unfolding seenSets
+    process-ready =
+        let seenOf = seenSets ownQueue (processesOf ps) in
+        let passes = processRecordsOk (processesOf ps) in (
+          (counts-long ps seenOf passes b counts seen i k, ap length (k .noticed) ∙ length-map (processesOf ps) (seenBy ownQueue (take i (recordsOf b))) ∙ length-processesOf ps),
+          counts-small ps seenOf passes b counts seen i k (omega arith),
+        )
 
-    pub process-next : (counts′ seen′ : List ℕ) → onePlace (map held xs) → h ≡ true
-        → counts′ ≡ cond h (bumped counts (processPlace xs r)) counts → seen′ ≡ cond h (noted seen (processPlace xs r) (r .signal)) seen
-        → ProcessPass counts′ seen′ (i + 1)
-    process-next counts′ seen′ op y ec es =
-        let both = sym he ∙ y in
-        let ok = and-fst (processRecordOk xs r) (isFresh seen (processPlace xs r) (r .signal)) both in
-        let new = and-snd (processRecordOk xs r) (isFresh seen (processPlace xs r) (r .signal)) both in
-        next (map held xs) (seenSets ownQueue xs) (processRecordsOk xs) rs counts seen counts′ seen′ i (processPlace xs r) (processPlace xs r) (r .signal) k y ec es
-        (process-tally xs rs i r l e ok (op (r .process)))
-        (process-step xs rs i r l e ok (op (r .process)))
-        (process-more xs rs i r l e ok (k .passed) (sym own-now ∙ new))
+    module _ (r : Siginfo) {h : Bool} (e : r ≡ siginfoOf (row recordBytes b i))
+        (he : h ≡ (processRecordOk (processesOf ps) r && isFresh seen (processPlace (processesOf ps) r) (r .signal))) where
+      this-process : r ≡ getD (recordsOf b) i noSiginfo
+      this-process = e ∙ sym (record-read b i noSiginfo l)
 
-  pub process-end : (counts seen : List ℕ) (i : ℕ) → length rs ≤ i → ProcessPass counts seen i
-      → (true ≡ processRecordsOk xs rs) × (true ≡ true → counts ≡ tallies (map held xs) rs)
-  process-end counts seen i h k =
-      (sym (process-done xs rs i h (k .passed)), λ _. k .counted ∙ ap (tallies (map held xs)) (take-all i rs h))
+      fresh-process : isFresh seen (processPlace (processesOf ps) r) (r .signal)
+          ≡ isFresh (seenSets ownQueue (processesOf ps) (take i (recordsOf b))) (processPlace (processesOf ps) r) (r .signal)
+      fresh-process = ap (λ m. isFresh m (processPlace (processesOf ps) r) (r .signal)) (k .noticed)
 
--- ---- lengths of the two rows of numbers
+      pub process-fails : {X : Type 0} → h ≡ false → (false ≡ processRecordsOk (processesOf ps) (recordsOf b)) × (false ≡ true → X)
+      process-fails n = (
+        sym (turn.process-fails (processesOf ps) (recordsOf b) i r l this-process
+            (ap (λ t. processRecordOk (processesOf ps) r && t) (sym fresh-process) ∙ sym he ∙ n)),
+        λ f. clash f refl,
+      )
 
-pub length-counts : (counts ws : List ℕ) (rs : List Siginfo) (i : ℕ) → counts ≡ tallies (heldProcesses ws) (take i rs) → length counts ≡ processPlaces
-unfolding tallies
-length-counts counts ws rs i e = ap length e ∙ length-map (heldProcesses ws) (λ (p : Process). count (ofProcess (p .id)) (take i rs)) ∙ length-heldProcesses ws
-
-pub length-seen : (seen vs : List ℕ) (rs : List Siginfo) (i : ℕ) → seen ≡ seenSets threadQueue (threadsOf vs) (take i rs) → length seen ≡ threadPlaces
-unfolding seenSets
-length-seen seen vs rs i e = ap length e ∙ length-map (threadsOf vs) (seenBy threadQueue (take i rs)) ∙ length-threadsOf vs
-
-pub length-own : (seen ws : List ℕ) (rs : List Siginfo) (i : ℕ) → seen ≡ seenSets ownQueue (processesOf ws) (take i rs) → length seen ≡ processPlaces
-unfolding seenSets
-length-own seen ws rs i e = ap length e ∙ length-map (processesOf ws) (seenBy ownQueue (take i rs)) ∙ length-processesOf ws
+      pub process-next : (counts′ seen′ : List ℕ) → onePlace (heldProcesses ps) → h ≡ true
+          → counts′ ≡ cond h (bumped counts (processPlace (processesOf ps) r)) counts
+          → seen′ ≡ cond h (noted seen (processPlace (processesOf ps) r) (r .signal)) seen → ProcessPass counts′ seen′ (i + 1)
+      process-next counts′ seen′ one y ec es =
+          let xs = processesOf ps in
+          let ok = and-fst (processRecordOk xs r) (isFresh seen (processPlace xs r) (r .signal)) (sym he ∙ y) in
+          let new = and-snd (processRecordOk xs r) (isFresh seen (processPlace xs r) (r .signal)) (sym he ∙ y) in
+          one-more ps (seenSets ownQueue xs) (processRecordsOk xs) b counts seen i k counts′ seen′ (processPlace xs r) (processPlace xs r) (r .signal) y ec es
+          (turn.process-tally xs (recordsOf b) i r l this-process ok (one (r .process)))
+          (turn.process-step xs (recordsOf b) i r l this-process ok (one (r .process)))
+          (turn.process-more xs (recordsOf b) i r l this-process ok (k .passed) (sym fresh-process ∙ new))

@@ -1,18 +1,17 @@
 -- The sets of what is pending before the first record: the marks, filled in place by place. Over plain variables.
 use mathlib.Core.Path.{_≡_, sym, ap, _∙_}
-use mathlib.Core.Bool.{Bool, false, _||_, or-false}
+use mathlib.Core.Bool.{false, _||_, or-false}
 use mathlib.Core.List.{List, []}
 use Prim.Native.Nat.{ℕ, _+_, _^_, _≤_, _<_}
 use native.Mathlib.Omega.{arith}
-use lib.ListN.{length, getD, set, length-set}
+use lib.ListN.{length, getD, set}
 use Rattle.limits.specs.Limits.{signals}
 use Rattle.lists.specs.Lists.{any}
-use Rattle.lists.proofs.Loops.{filled, filled-none, filled-more, filled-done}
+use Rattle.lists.proofs.Loops.{filled, filled-more, filled-done}
 use Rattle.sigset.specs.declared.SigSet.{SigSet}
-use Rattle.sigset.specs.Set.{Signal, has, setOf, union}
+use Rattle.sigset.specs.Set.{has, setOf, union}
 use Rattle.sigset.proofs.Laws.{has-set, is-set}
 use Rattle.rules.specs.Types.{Queue}
-use Rattle.rules.specs.View.{inQueue}
 use Rattle.rules.specs.Store.{Place}
 use Rattle.sound.specs.Check.{seenBy, seenSets}
 

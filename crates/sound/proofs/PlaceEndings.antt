@@ -1,18 +1,16 @@
 -- How the tests of one place end, over plain variables.
-use mathlib.Core.Path.{_≡_, refl, sym, ap, _∙_}
-use mathlib.Core.Bool.{Bool, true, false, _&&_}
+use mathlib.Core.Path.{_≡_, sym, ap, _∙_}
+use mathlib.Core.Bool.{Bool, false, _&&_}
 use mathlib.Core.List.{List}
-use Prim.Native.Nat.{ℕ, _≤_, _<_}
-use native.Mathlib.Omega.{arith}
+use Prim.Native.Nat.{ℕ, _<_}
 use lib.Dec.{eqb}
 use lib.ListN.{length, getD}
-use borrow.Author.Tests.{le-ltb, eq-eqb, ne-eqb}
+use borrow.Author.Tests.{eq-eqb, ne-eqb}
 use Rattle.limits.specs.Limits.{processPlaces, processWords, processTable, threadPlaces, threadWords, threadTable, processId, threadId, threadProcess, threadMask, threadMarks}
-use Rattle.lists.specs.Lists.{all, any, find}
+use Rattle.lists.specs.Lists.{all, find}
 use Rattle.lists.specs.Rows.{row}
 use Rattle.lists.proofs.Bools.{and-left, cond-true, cond-false}
-use Rattle.lists.proofs.Loops.{find-le, any-find}
-use Rattle.lists.proofs.Finds.{find-within}
+use Rattle.lists.proofs.Finds.{found-any, absent-any}
 use Rattle.sigset.specs.Set.{bits}
 use Rattle.rules.specs.Types.{noProcess}
 use Rattle.rules.specs.View.{isProcess, isThread, actionOf}
@@ -51,18 +49,6 @@ module _ (ws vs : List ℕ) (place w : ℕ) (e : w ≡ getD (threadTo (threadAt 
   unfolding threadOkAt threadOk threadTo
   live-thread z = sym (cond-false _ _ (ne-eqb (threadAt vs place .holds .id) 0 (λ k. z (e ∙ k))))
 
--- ---- what was looked up, in a list of n entries: `place` is where it is, or n
-
-module _ {A : Type 0} (p : A → Bool) (d : A) (xs : List A) (n place : ℕ) (long : length xs ≡ n) (e : place ≡ find p xs) where
-  pub is-inside : (place ≡ n → ⊥) → place < n
-  is-inside z = let a = find-le p xs in omega (arith, e)
-
-  pub is-there : (place ≡ n → ⊥) → any p xs ≡ true
-  is-there z = let h = is-inside z in any-find p d xs (omega (arith, e))
-
-  pub is-absent : place ≡ n → any p xs ≡ false
-  is-absent z = sym (find-within p xs) ∙ le-ltb (find p xs) (length xs) (omega (arith, e))
-
 -- ---- a live thread
 
 module _ (ws vs : List ℕ) (place owner w : ℕ) (k : w ≡ getD (threadTo (threadAt vs place)) threadProcess 0) (e : owner ≡ find (isProcess w) (heldProcesses ws)) where
@@ -72,7 +58,7 @@ module _ (ws vs : List ℕ) (place owner w : ℕ) (k : w ≡ getD (threadTo (thr
 
   pub orphan : owner ≡ processPlaces → false ≡ liveThreadOk (heldProcesses ws) (heldThreads vs) place (threadAt vs place)
   unfolding liveThreadOk
-  orphan n = sym (and-left _ (is-absent (isProcess (threadAt vs place .holds .process)) noProcess (heldProcesses ws) processPlaces owner (length-heldProcesses ws) same-owner n))
+  orphan n = sym (and-left _ (absent-any (isProcess (threadAt vs place .holds .process)) noProcess (heldProcesses ws) processPlaces owner (length-heldProcesses ws) same-owner n))
 
   pub thread-end : {i m u f h : Bool} → (owner ≡ processPlaces → ⊥)
       → i ≡ goodId (getD (threadTo (threadAt vs place)) threadId 0)
@@ -84,7 +70,7 @@ module _ (ws vs : List ℕ) (place owner w : ℕ) (k : w ≡ getD (threadTo (thr
   unfolding liveThreadOk threadTo ownerOf
   thread-end n ei em eu ef eh =
       let p = isProcess (threadAt vs place .holds .process) in
-      let live = is-there p noProcess (heldProcesses ws) processPlaces owner (length-heldProcesses ws) same-owner n in
+      let live = found-any p noProcess (heldProcesses ws) processPlaces owner (length-heldProcesses ws) same-owner n in
       let at : getD (heldProcesses ws) (find p (heldProcesses ws)) noProcess ≡ processAt ws owner .holds =
       held-at (processesOf ws) (find p (heldProcesses ws)) freeProcess ∙ ap (λ k. processAt ws k .holds) (sym same-owner) in
       rw (live, at, ei, em, eu, ef, eh)

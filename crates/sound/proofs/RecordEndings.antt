@@ -1,19 +1,18 @@
 -- How the tests of one record end, over plain variables.
-use mathlib.Core.Path.{_≡_, refl, sym, ap, subst, _∙_}
+use mathlib.Core.Path.{_≡_, refl, sym, ap, _∙_}
 use mathlib.Core.Bool.{Bool, true, false, not, _&&_, _||_, cond}
 use mathlib.Core.List.{List, []}
 use mathlib.Core.Option.{Option·getD}
 use Prim.Native.Nat.{ℕ, _<_}
 use lib.Dec.{eqb}
-use lib.ListN.{length, getD}
+use lib.ListN.{getD}
 use borrow.Author.Tests.{eqb-true, eqb-false, eq-eqb, ne-eqb, not-true, not-false}
 use Rattle.limits.specs.Limits.{processPlaces, threadPlaces, threadProcess, siQueue}
 use Rattle.lists.specs.Lists.{any, first, find}
 use Rattle.lists.proofs.Bools.{or-cases, or-fst-false, or-snd-false, and-fst, and-snd}
-use Rattle.lists.proofs.Loops.{find-any}
-use Rattle.lists.proofs.Finds.{getD-find}
+use Rattle.lists.proofs.Finds.{getD-find, found-inside, found-any, absent-any, any-inside}
 use Rattle.types.specs.declared.Siginfo.{Siginfo}
-use Rattle.rules.specs.Types.{Process, Thread, noProcess, noThread}
+use Rattle.rules.specs.Types.{Thread, noProcess, noThread}
 use Rattle.rules.specs.Signals.{ignored}
 use Rattle.rules.specs.View.{isProcess, isThread, actionOf, liveProcess, liveThread, theProcess, theThread}
 use Rattle.rules.specs.Store.{Place, view, freeProcess, freeThread}
@@ -22,7 +21,6 @@ use Rattle.tables.specs.Tables.{processesOf, threadsOf, heldProcesses, heldThre
 use Rattle.tables.proofs.Words.{length-heldProcesses, length-heldThreads}
 use Rattle.tables.proofs.Places.{held-at}
 use Rattle.sound.specs.Check.{isDelivered, isFresh, bumped, noted, placesView, processPlace, threadPlace, threadRecordOk, processRecordOk}
-use Rattle.sound.proofs.PlaceEndings.{is-inside, is-there, is-absent}
 
 -- ---- the shape of the two tests: code, signal, live process, where it is aimed, heard
 
@@ -60,7 +58,7 @@ module _ (ws : List ℕ) (r : Siginfo) (place : ℕ) (ep : place ≡ processPlac
       ∙ ap (λ k. processAt ws k .holds) (sym at-process)
 
   no-such-process : place ≡ processPlaces → any (isProcess (r .process)) (heldProcesses ws) ≡ false
-  no-such-process = is-absent (isProcess (r .process)) noProcess (heldProcesses ws) processPlaces place (length-heldProcesses ws) at-process
+  no-such-process = absent-any (isProcess (r .process)) noProcess (heldProcesses ws) processPlaces place (length-heldProcesses ws) at-process
 
   module _ {t : Bool} (z : t ≡ not (eqb (r .thread) 0)) where
     pub misaimed : (eqb place processPlaces || t) ≡ true → false ≡ processRecordOk (processesOf ws) r
@@ -72,14 +70,14 @@ module _ (ws : List ℕ) (r : Siginfo) (place : ℕ) (ep : place ≡ processPlac
 
     pub aimed-inside : (eqb place processPlaces || t) ≡ false → place < processPlaces
     aimed-inside e =
-        is-inside (isProcess (r .process)) noProcess (heldProcesses ws) processPlaces place (length-heldProcesses ws) at-process
+        found-inside (isProcess (r .process)) noProcess (heldProcesses ws) processPlaces place (length-heldProcesses ws) at-process
         (eqb-false place processPlaces (or-fst-false (eqb place processPlaces) t e))
 
     pub process-heard : (eqb place processPlaces || t) ≡ false → isDelivered (processAt ws place .holds) r ≡ processRecordOk (processesOf ws) r
     unfolding isDelivered processRecordOk aimedAtProcess namesLive recordHeard liveProcess theProcess view
     process-heard e =
         let n = eqb-false place processPlaces (or-fst-false (eqb place processPlaces) t e) in
-        let live = is-there (isProcess (r .process)) noProcess (heldProcesses ws) processPlaces place (length-heldProcesses ws) at-process n in
+        let live = found-any (isProcess (r .process)) noProcess (heldProcesses ws) processPlaces place (length-heldProcesses ws) at-process n in
         let aimed = not-false (eqb (r .thread) 0) (sym z ∙ or-snd-false (eqb place processPlaces) t e) in
         rw (live, aimed, its-process) (all-there (eqb (r .code) siQueue) (nameable (r .signal)) (not (ignored (actionOf (processAt ws place .holds) (r .signal)) (r .signal))))
 
@@ -102,17 +100,17 @@ module _ (ws vs : List ℕ) (r : Siginfo) (place queue : ℕ) (ep : place ≡ pr
       or-cases (eqb place processPlaces) (eqb queue threadPlaces) e
       (λ k. rw (no-such-process ws r place ep (eqb-true place processPlaces k))
       (no-process (eqb (r .code) siQueue) (nameable (r .signal)) (liveThread (placesView (processesOf ws) (threadsOf vs)) (r .thread) && eqb (theThread (placesView (processesOf ws) (threadsOf vs)) (r .thread) .process) (r .process)) (recordHeard (placesView (processesOf ws) (threadsOf vs)) r)))
-      (λ k. rw (is-absent (isThread (r .thread)) noThread (heldThreads vs) threadPlaces queue (length-heldThreads vs) at-thread (eqb-true queue threadPlaces k))
+      (λ k. rw (absent-any (isThread (r .thread)) noThread (heldThreads vs) threadPlaces queue (length-heldThreads vs) at-thread (eqb-true queue threadPlaces k))
       (no-aim (namesLive (placesView (processesOf ws) (threadsOf vs)) r) (recordHeard (placesView (processesOf ws) (threadsOf vs)) r)))
 
   pub process-inside : (eqb place processPlaces || eqb queue threadPlaces) ≡ false → place < processPlaces
   process-inside e =
-      is-inside (isProcess (r .process)) noProcess (heldProcesses ws) processPlaces place (length-heldProcesses ws) (at-process ws r place ep)
+      found-inside (isProcess (r .process)) noProcess (heldProcesses ws) processPlaces place (length-heldProcesses ws) (at-process ws r place ep)
       (eqb-false place processPlaces (or-fst-false (eqb place processPlaces) (eqb queue threadPlaces) e))
 
   pub thread-inside : (eqb place processPlaces || eqb queue threadPlaces) ≡ false → queue < threadPlaces
   thread-inside e =
-      is-inside (isThread (r .thread)) noThread (heldThreads vs) threadPlaces queue (length-heldThreads vs) at-thread
+      found-inside (isThread (r .thread)) noThread (heldThreads vs) threadPlaces queue (length-heldThreads vs) at-thread
       (eqb-false queue threadPlaces (or-snd-false (eqb place processPlaces) (eqb queue threadPlaces) e))
 
   module _ (w : ℕ) (ew : w ≡ getD (threadTo (threadAt vs queue)) threadProcess 0) where
@@ -130,14 +128,11 @@ module _ (ws vs : List ℕ) (r : Siginfo) (place queue : ℕ) (ep : place ≡ pr
     thread-heard e z =
         let p = eqb-false place processPlaces (or-fst-false (eqb place processPlaces) (eqb queue threadPlaces) e) in
         let t = eqb-false queue threadPlaces (or-snd-false (eqb place processPlaces) (eqb queue threadPlaces) e) in
-        let lp = is-there (isProcess (r .process)) noProcess (heldProcesses ws) processPlaces place (length-heldProcesses ws) (at-process ws r place ep) p in
-        let lt = is-there (isThread (r .thread)) noThread (heldThreads vs) threadPlaces queue (length-heldThreads vs) at-thread t in
+        let lp = found-any (isProcess (r .process)) noProcess (heldProcesses ws) processPlaces place (length-heldProcesses ws) (at-process ws r place ep) p in
+        let lt = found-any (isThread (r .thread)) noThread (heldThreads vs) threadPlaces queue (length-heldThreads vs) at-thread t in
         rw (lp, lt, its-owner, eq-eqb w (r .process) z, its-process ws r place ep) (all-there (eqb (r .code) siQueue) (nameable (r .signal)) (not (ignored (actionOf (processAt ws place .holds) (r .signal)) (r .signal))))
 
 -- ---- where a good record is counted and noted
-
-any-inside : {A : Type 0} (p : A → Bool) (xs : List A) (n : ℕ) → length xs ≡ n → any p xs ≡ true → find p xs < n
-any-inside p xs n e a = subst (λ k. find p xs < k) e (find-any p xs a)
 
 module _ (ws : List ℕ) (r : Siginfo) where
   names-inside : (vs : List (Place Thread)) → namesLive (placesView (processesOf ws) vs) r ≡ true → processPlace (processesOf ws) r < processPlaces

@@ -1,17 +1,16 @@
 -- The whole test as the code makes it: lengths of the words, buffers laid out, places, records. Over plain variables.
 use mathlib.Core.Path.{_≡_, refl, sym, ap, ap₂, _∙_}
 use mathlib.Core.Bool.{Bool, true, false, not, _&&_, _||_, and-false}
-use mathlib.Core.List.{List, [], map}
+use mathlib.Core.List.{List, []}
 use Prim.Native.Nat.{ℕ}
 use lib.Dec.{eqb}
 use lib.ListN.{length, replicate}
 use borrow.Author.Tests.{eqb-true, eq-eqb, not-true, not-false}
 use Rattle.limits.specs.Limits.{processPlaces, processTable, threadPlaces, threadTable, bufferRecords, bufferBytes}
-use Rattle.lists.specs.Lists.{all}
 use Rattle.lists.proofs.Bools.{and-both, and-left, and-right, or-cases, or-fst-false, or-snd-false}
 use Rattle.types.specs.declared.Siginfo.{Siginfo}
-use Rattle.rules.specs.Store.{held, used}
-use Rattle.rules.specs.Sound.{actionsLong, lengthsRight, restZero, sound}
+use Rattle.rules.specs.Store.{used}
+use Rattle.rules.specs.Sound.{lengthsRight, restZero}
 use Rattle.queue.specs.Queue.{slotsOf, recordsOf, isLaid}
 use Rattle.queue.proofs.Buffer.{length-slotsOf}
 use Rattle.tables.specs.Tables.{processesOf, threadsOf, heldProcesses}

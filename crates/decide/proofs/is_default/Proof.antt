@@ -2,10 +2,7 @@ use mathlib.Core.Path.{refl}
 use Rattle.rules.specs.Sound.{isDefault}
 use Rattle.decide.proofs.is_default.Statement.{statement}
 use Rattle.decide.proofs.is_default.Tie as tie
-use Rattle.decide.proofs.is_default.Reads as reads
-use Rattle.decide.proofs.is_default.Lts as lts
 
--- src/lib.rt:57:1
 returns : tie.Need-returns
 unfolding isDefault
 returns c = refl

@@ -3,14 +3,10 @@ use borrow.Author.Needs.{needs}
 use Rattle.rules.specs.Sound.{goodId}
 use Rattle.decide.proofs.is_id.Statement.{statement}
 use Rattle.decide.proofs.is_id.Tie as tie
-use Rattle.decide.proofs.is_id.Reads as reads
-use Rattle.decide.proofs.is_id.Lts as lts
 
--- src/lib.rt:83:22
 cast-result : tie.Need-cast-result
 cast-result c = search needs
 
--- src/lib.rt:80:1
 returns : tie.Need-returns
 unfolding goodId
 returns c = refl

@@ -2,10 +2,7 @@ use mathlib.Core.Path.{refl}
 use Rattle.rules.specs.Signals.{ignoring}
 use Rattle.decide.proofs.is_ignoring.Statement.{statement}
 use Rattle.decide.proofs.is_ignoring.Tie as tie
-use Rattle.decide.proofs.is_ignoring.Reads as reads
-use Rattle.decide.proofs.is_ignoring.Lts as lts
 
--- src/lib.rt:42:1
 returns : tie.Need-returns
 unfolding ignoring
 returns c = refl

@@ -2,10 +2,7 @@ use mathlib.Core.Path.{refl}
 use Rattle.rules.specs.Signals.{isSignal}
 use Rattle.decide.proofs.is_signal.Statement.{statement}
 use Rattle.decide.proofs.is_signal.Tie as tie
-use Rattle.decide.proofs.is_signal.Reads as reads
-use Rattle.decide.proofs.is_signal.Lts as lts
 
--- src/lib.rt:22:1
 returns : tie.Need-returns
 unfolding isSignal
 returns c = refl

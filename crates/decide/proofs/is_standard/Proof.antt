@@ -2,10 +2,7 @@ use mathlib.Core.Path.{refl}
 use Rattle.rules.specs.Signals.{standard}
 use Rattle.decide.proofs.is_standard.Statement.{statement}
 use Rattle.decide.proofs.is_standard.Tie as tie
-use Rattle.decide.proofs.is_standard.Reads as reads
-use Rattle.decide.proofs.is_standard.Lts as lts
 
--- src/lib.rt:28:1
 returns : tie.Need-returns
 unfolding standard
 returns c = refl

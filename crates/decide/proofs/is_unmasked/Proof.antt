@@ -2,19 +2,13 @@ use borrow.Author.Needs.{needs}
 use Rattle.rules.specs.Sound.{unmasked}
 use Rattle.decide.proofs.is_unmasked.Statement.{statement}
 use Rattle.decide.proofs.is_unmasked.Tie as tie
-use Rattle.decide.proofs.is_unmasked.Reads as reads
-use Rattle.decide.proofs.is_unmasked.Lts as lts
-use Rattle.sigset.proofs.SigSet.has.Reads as has-reads
 
--- src/lib.rt:77:7
 has-requires : tie.Need-has-requires
 has-requires c κs = search needs
 
--- src/lib.rt:77:33
 has-requires-2 : tie.Need-has-requires-2
 has-requires-2 c κs = search needs
 
--- src/lib.rt:74:1
 returns : tie.Need-returns
 unfolding unmasked
 returns c = rw (c .has2 .ensures, c .before .has .ensures)

@@ -16,10 +16,6 @@ use Rattle.sound.specs.Check.{actionOk}
 use Rattle.sound.proofs.Endings.{action-test}
 use Rattle.sound.proofs.actions_ok.Statement.{statement}
 use Rattle.sound.proofs.actions_ok.Tie as tie
-use Rattle.sound.proofs.actions_ok.Reads as reads
-use Rattle.sound.proofs.actions_ok.Lts as lts
-use Rattle.sound.proofs.action_ok.Reads as action-ok-reads
-use Rattle.tables.proofs.action_at.Reads as action-at-reads
 
 abbrev Inv-loop : tie.InvT-loop
 Inv-loop ps place i₀ i = (i ≤ signals) × (all actionOk (take i (processAt ps place .holds .actions)) ≡ true)
@@ -27,23 +23,18 @@ Inv-loop ps place i₀ i = (i ≤ signals) × (all actionOk (take i (processAt p
 abbrev μ-loop : tie.MeasureT-loop
 μ-loop ps place i₀ i = signals - i
 
--- src/lib.rt:87:5
 loop-holds : tie.Need-loop-holds Inv-loop μ-loop
 loop-holds c = (search needs, all-none actionOk defaultAction [])
 
--- src/lib.rt:88:52
 add-action-at : tie.Need-add-action-at Inv-loop μ-loop
 add-action-at c = search needs
 
--- src/lib.rt:88:23
 action-at-requires : tie.Need-action-at-requires Inv-loop μ-loop
 action-at-requires c κs = search needs
 
--- src/lib.rt:88:13
 action-ok-requires : tie.Need-action-ok-requires Inv-loop μ-loop
 action-ok-requires c κs = search needs
 
--- src/lib.rt:89:13
 returns : tie.Need-returns Inv-loop μ-loop
 returns c =
     let a = c .before .before .before .before .before .before in
@@ -55,15 +46,12 @@ returns c =
     (action-test actionOk p i (c .before .before .action-at .result) (c .before .before .action-at .ensures)
     ∙ sym (c .before .action-ok .ensures) ∙ not-true (c .before .action-ok .result) (c .if1 .taken)))
 
--- src/lib.rt:91:9
 add-i : tie.Need-add-i Inv-loop μ-loop
 add-i c = search needs
 
--- src/lib.rt:87:5
 loop-less : tie.Need-loop-less Inv-loop μ-loop
 loop-less c = search needs
 
--- src/lib.rt:87:5
 loop-again : tie.Need-loop-again Inv-loop μ-loop
 loop-again c =
     let a = c .before .before .before .before .before .before in
@@ -77,7 +65,6 @@ loop-again c =
           ∙ sym (c .before .action-ok .ensures) ∙ not-false (c .before .action-ok .result) (c .if1 .left)),
     )
 
--- src/lib.rt:82:1
 returns-2 : tie.Need-returns-2 Inv-loop μ-loop
 returns-2 c =
     let a = c .before .before .before in

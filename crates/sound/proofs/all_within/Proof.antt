@@ -11,9 +11,6 @@ use Rattle.lists.proofs.Loops.{range-none, range-more, range-fails}
 use Rattle.sound.specs.Check.{withinAt, allWithin}
 use Rattle.sound.proofs.all_within.Statement.{statement}
 use Rattle.sound.proofs.all_within.Tie as tie
-use Rattle.sound.proofs.all_within.Reads as reads
-use Rattle.sound.proofs.all_within.Lts as lts
-use Rattle.sound.proofs.within_at.Reads as within-at-reads
 
 abbrev Inv-loop : tie.InvT-loop
 Inv-loop cs ds i₀ i = (i ≤ processPlaces) × (all (withinAt cs ds) (range 0 i) ≡ true)
@@ -21,34 +18,27 @@ Inv-loop cs ds i₀ i = (i ≤ processPlaces) × (all (withinAt cs ds) (range 0 
 abbrev μ-loop : tie.MeasureT-loop
 μ-loop cs ds i₀ i = processPlaces - i
 
--- src/lib.rt:96:5
 loop-holds : tie.Need-loop-holds Inv-loop μ-loop
 loop-holds c = (search needs, range-none (withinAt (c .before .before .args .cs .now) (c .before .before .args .ds .now)) 0)
 
--- src/lib.rt:97:13
 within-at-requires : tie.Need-within-at-requires Inv-loop μ-loop
 within-at-requires c κs = search needs
 
--- src/lib.rt:98:13
 returns : tie.Need-returns Inv-loop μ-loop
 unfolding allWithin
 returns c =
     sym (range-fails (withinAt (c .before .before .before .before .before .before .args .cs .now) (c .before .before .before .before .before .before .args .ds .now)) 0 processPlaces (c .before .before .before .loop .i) (omega arith) (ap (withinAt (c .before .before .before .before .before .before .args .cs .now) (c .before .before .before .before .before .before .args .ds .now)) (zero-add (c .before .before .before .loop .i)) ∙ sym (c .before .within-at .ensures) ∙ not-true (c .before .within-at .result) (c .if1 .taken)))
 
--- src/lib.rt:100:9
 add-i : tie.Need-add-i Inv-loop μ-loop
 add-i c = search needs
 
--- src/lib.rt:96:5
 loop-less : tie.Need-loop-less Inv-loop μ-loop
 loop-less c = search needs
 
--- src/lib.rt:96:5
 loop-again : tie.Need-loop-again Inv-loop μ-loop
 loop-again c =
     (omega arith, range-more (withinAt (c .before .before .before .before .before .before .args .cs .now) (c .before .before .before .before .before .before .args .ds .now)) 0 (c .before .before .before .loop .i) (c .before .before .before .loop .inv .1) (ap (withinAt (c .before .before .before .before .before .before .args .cs .now) (c .before .before .before .before .before .before .args .ds .now)) (zero-add (c .before .before .before .loop .i)) ∙ sym (c .before .within-at .ensures) ∙ not-false (c .before .within-at .result) (c .if1 .left)))
 
--- src/lib.rt:91:1
 returns-2 : tie.Need-returns-2 Inv-loop μ-loop
 unfolding allWithin
 returns-2 c =

@@ -16,9 +16,6 @@ use Rattle.tables.proofs.Words.{length-heldThreads}
 use Rattle.sound.proofs.Endings.{belongs-none, belongs-test}
 use Rattle.sound.proofs.has_thread.Statement.{statement}
 use Rattle.sound.proofs.has_thread.Tie as tie
-use Rattle.sound.proofs.has_thread.Reads as reads
-use Rattle.sound.proofs.has_thread.Lts as lts
-use Rattle.tables.proofs.thread_field_at.Reads as thread-field-at-reads
 
 abbrev Inv-loop : tie.InvT-loop
 Inv-loop ts id i₀ i = (i ≤ threadPlaces) × (any (belongsTo id) (take i (heldThreads ts)) ≡ false)
@@ -26,21 +23,17 @@ Inv-loop ts id i₀ i = (i ≤ threadPlaces) × (any (belongsTo id) (take i (hel
 abbrev μ-loop : tie.MeasureT-loop
 μ-loop ts id i₀ i = threadPlaces - i
 
--- src/lib.rt:140:9
 returns : tie.Need-returns Inv-loop μ-loop
 returns c =
     let a = c .before .before in
     sym (ap (λ n. any (belongsTo n) (heldThreads (a .args .ts .now))) (c .if1 .taken) ∙ belongs-none (heldThreads (a .args .ts .now)))
 
--- src/lib.rt:143:5
 loop-holds : tie.Need-loop-holds Inv-loop μ-loop
 loop-holds c = (search needs, any-none (belongsTo (c .before .before .args .id)) noThread [])
 
--- src/lib.rt:144:12
 thread-field-at-requires : tie.Need-thread-field-at-requires Inv-loop μ-loop
 thread-field-at-requires c κs = search needs
 
--- src/lib.rt:145:13
 returns-2 : tie.Need-returns-2 Inv-loop μ-loop
 returns-2 c =
     let a = c .before .before .before .before .before .before in
@@ -51,15 +44,12 @@ returns-2 c =
     (belongs-test (a .args .ts .now) i (a .args .id) (c .before .thread-field-at .result) (c .before .thread-field-at .ensures)
     (c .before .before .before .before .if1 .left) ∙ eq-eqb _ _ (c .if2 .taken)))
 
--- src/lib.rt:147:9
 add-i : tie.Need-add-i Inv-loop μ-loop
 add-i c = search needs
 
--- src/lib.rt:143:5
 loop-less : tie.Need-loop-less Inv-loop μ-loop
 loop-less c = search needs
 
--- src/lib.rt:143:5
 loop-again : tie.Need-loop-again Inv-loop μ-loop
 loop-again c =
     let a = c .before .before .before .before .before .before in
@@ -72,7 +62,6 @@ loop-again c =
           (c .before .before .before .before .if1 .left) ∙ ne-eqb _ _ (c .if2 .left)),
     )
 
--- src/lib.rt:135:1
 returns-3 : tie.Need-returns-3 Inv-loop μ-loop
 returns-3 c =
     let a = c .before .before .before .before in

@@ -4,66 +4,46 @@ use Rattle.sound.specs.Check.{headOk}
 use borrow.Author.Needs.{needs}
 use Rattle.sound.proofs.head_ok.Statement.{statement}
 use Rattle.sound.proofs.head_ok.Tie as tie
-use Rattle.sound.proofs.head_ok.Reads as reads
-use Rattle.sound.proofs.head_ok.Lts as lts
-use Rattle.decide.proofs.is_id.Reads as is-id-reads
-use Rattle.decide.proofs.is_unmasked.Reads as is-unmasked-reads
-use Rattle.decide.proofs.is_user.Reads as is-user-reads
-use Rattle.tables.proofs.field_at.Reads as field-at-reads
 
--- src/lib.rt:64:28
 field-at-requires : tie.Need-field-at-requires
 field-at-requires c κs = search needs
 
--- src/lib.rt:64:9
 is-id-requires : tie.Need-is-id-requires
 is-id-requires c κs = search needs
 
--- src/lib.rt:65:32
 field-at-requires-2 : tie.Need-field-at-requires-2
 field-at-requires-2 c κs = search needs
 
--- src/lib.rt:65:9
 is-user-requires : tie.Need-is-user-requires
 is-user-requires c κs = search needs
 
--- src/lib.rt:66:37
 field-at-requires-3 : tie.Need-field-at-requires-3
 field-at-requires-3 c κs = search needs
 
--- src/lib.rt:66:9
 is-user-requires-2 : tie.Need-is-user-requires-2
 is-user-requires-2 c κs = search needs
 
--- src/lib.rt:67:33
 field-at-requires-4 : tie.Need-field-at-requires-4
 field-at-requires-4 c κs = search needs
 
--- src/lib.rt:67:9
 is-user-requires-3 : tie.Need-is-user-requires-3
 is-user-requires-3 c κs = search needs
 
--- src/lib.rt:68:35
 field-at-requires-5 : tie.Need-field-at-requires-5
 field-at-requires-5 c κs = search needs
 
--- src/lib.rt:68:9
 is-user-requires-4 : tie.Need-is-user-requires-4
 is-user-requires-4 c κs = search needs
 
--- src/lib.rt:69:9
 field-at-requires-6 : tie.Need-field-at-requires-6
 field-at-requires-6 c κs = search needs
 
--- src/lib.rt:70:44
 field-at-requires-7 : tie.Need-field-at-requires-7
 field-at-requires-7 c κs = search needs
 
--- src/lib.rt:70:9
 is-unmasked-requires : tie.Need-is-unmasked-requires
 is-unmasked-requires c κs = search needs
 
--- src/lib.rt:60:1
 returns : tie.Need-returns
 unfolding headOk fieldsFit headTo
 returns c =

@@ -2,79 +2,60 @@ use mathlib.Core.Path.{ap, _∙_}
 use lib.Dec.{eqb}
 use Rattle.limits.specs.Limits.{processPlaces}
 use Rattle.lists.specs.Lists.{find}
+use Rattle.lists.proofs.Finds.{found-inside}
 use Rattle.sigset.specs.Set.{bits}
 use Rattle.rules.specs.Types.{noProcess}
 use Rattle.rules.specs.View.{isProcess, isThread, actionOf}
 use Rattle.rules.specs.Sound.{goodId, unmasked, marksHeard}
 use Rattle.tables.specs.Tables.{heldProcesses, heldThreads, processAt}
 use Rattle.tables.proofs.Words.{length-heldProcesses}
-use Rattle.sound.proofs.PlaceEndings.{orphan, is-inside, thread-end}
+use Rattle.sound.proofs.PlaceEndings.{orphan, thread-end}
 use borrow.Author.Needs.{needs}
 use Rattle.sound.proofs.live_thread_ok.Statement.{statement}
 use Rattle.sound.proofs.live_thread_ok.Tie as tie
-use Rattle.sound.proofs.live_thread_ok.Reads as reads
-use Rattle.sound.proofs.live_thread_ok.Lts as lts
-use Rattle.decide.proofs.is_id.Reads as is-id-reads
-use Rattle.decide.proofs.is_unmasked.Reads as is-unmasked-reads
-use Rattle.sound.proofs.marks_heard.Reads as marks-heard-reads
-use Rattle.tables.proofs.find_process.Reads as find-process-reads
-use Rattle.tables.proofs.find_thread.Reads as find-thread-reads
-use Rattle.tables.proofs.thread_field_at.Reads as thread-field-at-reads
 
--- src/lib.rt:180:42
 thread-field-at-requires : tie.Need-thread-field-at-requires
 thread-field-at-requires c κs = search needs
 
--- src/lib.rt:180:9
 find-process-requires : tie.Need-find-process-requires
 find-process-requires c κs = search needs
 
--- src/lib.rt:182:9
 returns : tie.Need-returns
 returns c =
     let a = c .before .before .before .before .before in
     orphan (a .args .ps .now) (a .args .ts .now) (a .args .place) (c .before .find-process .result) (c .before .before .thread-field-at .result)
     (c .before .before .thread-field-at .ensures) (c .before .find-process .ensures) (c .if1 .taken)
 
--- src/lib.rt:184:9
 thread-field-at-requires-2 : tie.Need-thread-field-at-requires-2
 thread-field-at-requires-2 c κs = search needs
 
--- src/lib.rt:185:24
 thread-field-at-requires-3 : tie.Need-thread-field-at-requires-3
 thread-field-at-requires-3 c κs = search needs
 
--- src/lib.rt:186:43
 thread-field-at-requires-4 : tie.Need-thread-field-at-requires-4
 thread-field-at-requires-4 c κs = search needs
 
--- src/lib.rt:186:9
 is-unmasked-requires : tie.Need-is-unmasked-requires
 is-unmasked-requires c κs = search needs
 
--- src/lib.rt:187:17
 find-thread-requires : tie.Need-find-thread-requires
 find-thread-requires c κs = search needs
 
--- src/lib.rt:188:9
 marks-heard-requires : tie.Need-marks-heard-requires
 marks-heard-requires c κs =
     let d = c .before .before .before .before .before .before in
     let a = d .before .before .before .before in (
       a .pre .0,
-      is-inside (isProcess (d .before .thread-field-at .result)) noProcess (heldProcesses (a .args .ps .now)) processPlaces (d .find-process .result)
+      found-inside (isProcess (d .before .thread-field-at .result)) noProcess (heldProcesses (a .args .ps .now)) processPlaces (d .find-process .result)
           (length-heldProcesses (a .args .ps .now)) (d .find-process .ensures) (c .before .before .before .before .before .if1 .left),
     )
 
--- src/lib.rt:189:5
 is-id-requires : tie.Need-is-id-requires
 is-id-requires c κs = search needs
 
--- src/lib.rt:189:34
 is-unmasked-requires-2 : tie.Need-is-unmasked-requires-2
 is-unmasked-requires-2 c κs = search needs
 
--- src/lib.rt:176:1
 returns-2 : tie.Need-returns-2
 returns-2 c =
     let f = c .before .before .before .before .before in

@@ -8,32 +8,22 @@ use Rattle.sound.proofs.Endings.{unmarked, marked}
 use borrow.Author.Needs.{needs}
 use Rattle.sound.proofs.mark_heard.Statement.{statement}
 use Rattle.sound.proofs.mark_heard.Tie as tie
-use Rattle.sound.proofs.mark_heard.Reads as reads
-use Rattle.sound.proofs.mark_heard.Lts as lts
-use Rattle.decide.proofs.is_ignored.Reads as is-ignored-reads
-use Rattle.sigset.proofs.SigSet.has.Reads as has-reads
-use Rattle.tables.proofs.action_at.Reads as action-at-reads
 
--- src/lib.rt:128:9
 has-requires : tie.Need-has-requires
 has-requires c κs = search needs
 
--- src/lib.rt:129:9
 returns : tie.Need-returns
 returns c =
     let a = c .before .before .before in
     unmarked (a .args .marks) (actionOf (processAt (a .args .ps .now) (a .args .place) .holds)) (a .args .s)
     (sym (c .before .has .ensures) ∙ not-true (c .before .has .result) (c .if1 .taken))
 
--- src/lib.rt:131:25
 action-at-requires : tie.Need-action-at-requires
 action-at-requires c κs = search needs
 
--- src/lib.rt:131:6
 is-ignored-requires : tie.Need-is-ignored-requires
 is-ignored-requires c κs = search needs
 
--- src/lib.rt:124:1
 returns-2 : tie.Need-returns-2
 returns-2 c =
     let a = c .before .before .before .before .before in

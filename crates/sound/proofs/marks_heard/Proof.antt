@@ -14,9 +14,6 @@ use Rattle.tables.specs.Tables.{processAt}
 use Rattle.sound.proofs.Endings.{no-marks}
 use Rattle.sound.proofs.marks_heard.Statement.{statement}
 use Rattle.sound.proofs.marks_heard.Tie as tie
-use Rattle.sound.proofs.marks_heard.Reads as reads
-use Rattle.sound.proofs.marks_heard.Lts as lts
-use Rattle.sound.proofs.mark_heard.Reads as mark-heard-reads
 
 abbrev Inv-loop : tie.InvT-loop
 Inv-loop ps place marks i₀ i = (i ≤ signals) × (all (markHeard marks (actionOf (processAt ps place .holds))) (range 1 i) ≡ true)
@@ -24,27 +21,22 @@ Inv-loop ps place marks i₀ i = (i ≤ signals) × (all (markHeard marks (actio
 abbrev μ-loop : tie.MeasureT-loop
 μ-loop ps place marks i₀ i = signals - i
 
--- src/lib.rt:112:9
 returns : tie.Need-returns Inv-loop μ-loop
 returns c =
     no-marks (c .before .before .before .args .marks)
     (actionOf (processAt (c .before .before .before .args .ps .now) (c .before .before .before .args .place) .holds)) (c .if1 .taken)
 
--- src/lib.rt:115:5
 loop-holds : tie.Need-loop-holds Inv-loop μ-loop
 loop-holds c =
     let a = c .before .before .before in
     (search needs, range-none (markHeard (a .args .marks) (actionOf (processAt (a .args .ps .now) (a .args .place) .holds))) 1)
 
--- src/lib.rt:116:42
 add-mark-heard : tie.Need-add-mark-heard Inv-loop μ-loop
 add-mark-heard c = search needs
 
--- src/lib.rt:116:13
 mark-heard-requires : tie.Need-mark-heard-requires Inv-loop μ-loop
 mark-heard-requires c κs = search needs
 
--- src/lib.rt:117:13
 returns-2 : tie.Need-returns-2 Inv-loop μ-loop
 unfolding marksHeard
 returns-2 c =
@@ -54,15 +46,12 @@ returns-2 c =
     sym (range-fails f 1 signals i (omega arith)
     (ap f (add-comm 1 i) ∙ sym (c .before .mark-heard .ensures) ∙ not-true (c .before .mark-heard .result) (c .if2 .taken)))
 
--- src/lib.rt:119:9
 add-i : tie.Need-add-i Inv-loop μ-loop
 add-i c = search needs
 
--- src/lib.rt:115:5
 loop-less : tie.Need-loop-less Inv-loop μ-loop
 loop-less c = search needs
 
--- src/lib.rt:115:5
 loop-again : tie.Need-loop-again Inv-loop μ-loop
 loop-again c =
     let a = c .before .before .before .before .before .before .before in
@@ -73,7 +62,6 @@ loop-again c =
           (ap f (add-comm 1 i) ∙ sym (c .before .mark-heard .ensures) ∙ not-false (c .before .mark-heard .result) (c .if2 .left)),
     )
 
--- src/lib.rt:106:1
 returns-3 : tie.Need-returns-3 Inv-loop μ-loop
 unfolding marksHeard
 returns-3 c =

@@ -5,25 +5,17 @@ use Rattle.sound.specs.Check.{placesOk}
 use borrow.Author.Needs.{needs}
 use Rattle.sound.proofs.places_ok.Statement.{statement}
 use Rattle.sound.proofs.places_ok.Tie as tie
-use Rattle.sound.proofs.places_ok.Reads as reads
-use Rattle.sound.proofs.places_ok.Lts as lts
-use Rattle.sound.proofs.processes_ok.Reads as processes-ok-reads
-use Rattle.sound.proofs.threads_ok.Reads as threads-ok-reads
 
--- src/lib.rt:236:9
 processes-ok-requires : tie.Need-processes-ok-requires
 processes-ok-requires c κs = search needs
 
--- src/lib.rt:237:9
 returns : tie.Need-returns
 unfolding placesOk
 returns c = sym (and-left _ (sym (c .before .processes-ok .ensures) ∙ not-true (c .before .processes-ok .result) (c .if1 .taken)))
 
--- src/lib.rt:239:5
 threads-ok-requires : tie.Need-threads-ok-requires
 threads-ok-requires c κs = search needs
 
--- src/lib.rt:232:1
 returns-2 : tie.Need-returns-2
 unfolding placesOk
 returns-2 c =

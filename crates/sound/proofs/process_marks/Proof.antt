@@ -13,9 +13,6 @@ use Rattle.sound.specs.Check.{seenBy, ownQueue}
 use Rattle.sound.proofs.Marks.{marks-more, marks-done}
 use Rattle.sound.proofs.process_marks.Statement.{statement}
 use Rattle.sound.proofs.process_marks.Tie as tie
-use Rattle.sound.proofs.process_marks.Reads as reads
-use Rattle.sound.proofs.process_marks.Lts as lts
-use Rattle.tables.proofs.field_at.Reads as field-at-reads
 
 abbrev Inv-loop : tie.InvT-loop
 Inv-loop ps seen₀ i₀ seen i = (i ≤ processPlaces) × ((length seen ≡ processPlaces) × (seen ≡ filled (seenBy ownQueue []) i (processesOf ps) seen₀))
@@ -23,33 +20,26 @@ Inv-loop ps seen₀ i₀ seen i = (i ≤ processPlaces) × ((length seen ≡ pro
 abbrev μ-loop : tie.MeasureT-loop
 μ-loop ps seen₀ i₀ seen i = processPlaces - i
 
--- src/lib.rt:334:5
 loop-holds : tie.Need-loop-holds Inv-loop μ-loop
 loop-holds c =
     let a = c .before .before in
     (search needs, (a .pre .1, filled-none (seenBy ownQueue []) (processesOf (a .args .ps .now)) (a .args .seen .now)))
 
--- src/lib.rt:335:19
 field-at-requires : tie.Need-field-at-requires Inv-loop μ-loop
 field-at-requires c κs = search needs
 
--- src/lib.rt:335:9
 mul-seen : tie.Need-mul-seen Inv-loop μ-loop
 mul-seen c = search needs
 
--- src/lib.rt:335:9
 slice-write-seen : tie.Need-slice-write-seen Inv-loop μ-loop
 slice-write-seen c = search needs
 
--- src/lib.rt:336:9
 add-i : tie.Need-add-i Inv-loop μ-loop
 add-i c = search needs
 
--- src/lib.rt:334:5
 loop-less : tie.Need-loop-less Inv-loop μ-loop
 loop-less c = search needs
 
--- src/lib.rt:334:5
 loop-again : tie.Need-loop-again Inv-loop μ-loop
 unfolding headTo
 loop-again c =
@@ -66,11 +56,9 @@ loop-again c =
       ),
     )
 
--- src/lib.rt:329:1
 same-length : tie.Need-same-length Inv-loop μ-loop
 same-length c = search needs
 
--- src/lib.rt:329:1
 returns : tie.Need-returns Inv-loop μ-loop
 returns c =
     let a = c .before .before .before .before in

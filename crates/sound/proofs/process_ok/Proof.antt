@@ -3,36 +3,25 @@ use Rattle.sound.proofs.PlaceEndings.{free-process, live-process}
 use borrow.Author.Needs.{needs}
 use Rattle.sound.proofs.process_ok.Statement.{statement}
 use Rattle.sound.proofs.process_ok.Tie as tie
-use Rattle.sound.proofs.process_ok.Reads as reads
-use Rattle.sound.proofs.process_ok.Lts as lts
-use Rattle.sound.proofs.live_process_ok.Reads as live-process-ok-reads
-use Rattle.sound.proofs.zeros.Reads as zeros-reads
-use Rattle.tables.proofs.field_at.Reads as field-at-reads
 
--- src/lib.rt:170:8
 field-at-requires : tie.Need-field-at-requires
 field-at-requires c κs = search needs
 
--- src/lib.rt:171:26
 mul-zeros : tie.Need-mul-zeros
 mul-zeros c = search needs
 
--- src/lib.rt:171:9
 zeros-requires : tie.Need-zeros-requires
 zeros-requires c κs = search needs
 
--- src/lib.rt:171:9
 returns : tie.Need-returns
 returns c =
     let a = c .before .before .before .before .before in
     c .zeros .ensures
     ∙ free-process (a .args .ps .now) (a .args .ts .now) (a .args .place) (c .before .before .field-at .result) (c .before .before .field-at .ensures) (a .pre .0) (a .pre .1 .1) (c .before .if1 .taken)
 
--- src/lib.rt:173:5
 live-process-ok-requires : tie.Need-live-process-ok-requires
 live-process-ok-requires c κs = search needs
 
--- src/lib.rt:166:1
 returns-2 : tie.Need-returns-2
 returns-2 c =
     let a = c .before .before .before .before .before in

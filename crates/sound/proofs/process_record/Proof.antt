@@ -6,30 +6,20 @@ use Rattle.sound.proofs.RecordEndings.{process-counted, admitted}
 use borrow.Author.Needs.{needs}
 use Rattle.sound.proofs.process_record.Statement.{statement}
 use Rattle.sound.proofs.process_record.Tie as tie
-use Rattle.sound.proofs.process_record.Reads as reads
-use Rattle.sound.proofs.process_record.Lts as lts
-use Rattle.sound.proofs.admit.Reads as admit-reads
-use Rattle.sound.proofs.process_record_ok.Reads as process-record-ok-reads
-use Rattle.tables.proofs.find_process.Reads as find-process-reads
 
--- src/lib.rt:323:42
 cast-find-process : tie.Need-cast-find-process
 cast-find-process c = search needs
 
--- src/lib.rt:323:9
 find-process-requires : tie.Need-find-process-requires
 find-process-requires c κs = search needs
 
--- src/lib.rt:324:9
 process-record-ok-requires : tie.Need-process-record-ok-requires
 unfolding processPlace
 process-record-ok-requires c κs = (c .before .before .before .before .before .pre .0, c .find-process .ensures)
 
--- src/lib.rt:325:9
 returns : tie.Need-returns
 returns c = (sym (and-left _ (sym (c .before .process-record-ok .ensures) ∙ not-true (c .before .process-record-ok .result) (c .if1 .taken))), (refl, refl))
 
--- src/lib.rt:327:5
 admit-requires : tie.Need-admit-requires
 unfolding processPlace
 admit-requires c κs =
@@ -41,15 +31,12 @@ admit-requires c κs =
       a .pre .1 .1 (c .before .before .before .before .find-process .result),
     )
 
--- src/lib.rt:315:1
 same-length : tie.Need-same-length
 same-length c = search needs
 
--- src/lib.rt:315:1
 same-length-2 : tie.Need-same-length-2
 same-length-2 c = search needs
 
--- src/lib.rt:315:1
 returns-2 : tie.Need-returns-2
 unfolding processPlace
 returns-2 c =

@@ -12,9 +12,6 @@ use Rattle.tables.specs.Tables.{processesOf, threadsOf}
 use Rattle.sound.specs.Check.{processOkAt}
 use Rattle.sound.proofs.processes_ok.Statement.{statement}
 use Rattle.sound.proofs.processes_ok.Tie as tie
-use Rattle.sound.proofs.processes_ok.Reads as reads
-use Rattle.sound.proofs.processes_ok.Lts as lts
-use Rattle.sound.proofs.process_ok.Reads as process-ok-reads
 
 abbrev Inv-loop : tie.InvT-loop
 Inv-loop ps ts i₀ i = (i ≤ processPlaces) × (all (processOkAt (processesOf ps) (threadsOf ts)) (range 0 i) ≡ true)
@@ -22,33 +19,26 @@ Inv-loop ps ts i₀ i = (i ≤ processPlaces) × (all (processOkAt (processesOf 
 abbrev μ-loop : tie.MeasureT-loop
 μ-loop ps ts i₀ i = processPlaces - i
 
--- src/lib.rt:209:5
 loop-holds : tie.Need-loop-holds Inv-loop μ-loop
 loop-holds c = (search needs, range-none (processOkAt (processesOf (c .before .before .args .ps .now)) (threadsOf (c .before .before .args .ts .now))) 0)
 
--- src/lib.rt:210:13
 process-ok-requires : tie.Need-process-ok-requires Inv-loop μ-loop
 process-ok-requires c κs = search needs
 
--- src/lib.rt:211:13
 returns : tie.Need-returns Inv-loop μ-loop
 returns c =
     sym (range-fails (processOkAt (processesOf (c .before .before .before .before .before .before .args .ps .now)) (threadsOf (c .before .before .before .before .before .before .args .ts .now))) 0 processPlaces (c .before .before .before .loop .i) (omega arith) (ap (processOkAt (processesOf (c .before .before .before .before .before .before .args .ps .now)) (threadsOf (c .before .before .before .before .before .before .args .ts .now))) (zero-add (c .before .before .before .loop .i)) ∙ sym (c .before .process-ok .ensures) ∙ not-true (c .before .process-ok .result) (c .if1 .taken)))
 
--- src/lib.rt:213:9
 add-i : tie.Need-add-i Inv-loop μ-loop
 add-i c = search needs
 
--- src/lib.rt:209:5
 loop-less : tie.Need-loop-less Inv-loop μ-loop
 loop-less c = search needs
 
--- src/lib.rt:209:5
 loop-again : tie.Need-loop-again Inv-loop μ-loop
 loop-again c =
     (omega arith, range-more (processOkAt (processesOf (c .before .before .before .before .before .before .args .ps .now)) (threadsOf (c .before .before .before .before .before .before .args .ts .now))) 0 (c .before .before .before .loop .i) (c .before .before .before .loop .inv .1) (ap (processOkAt (processesOf (c .before .before .before .before .before .before .args .ps .now)) (threadsOf (c .before .before .before .before .before .before .args .ts .now))) (zero-add (c .before .before .before .loop .i)) ∙ sym (c .before .process-ok .ensures) ∙ not-false (c .before .process-ok .result) (c .if1 .left)))
 
--- src/lib.rt:204:1
 returns-2 : tie.Need-returns-2 Inv-loop μ-loop
 returns-2 c =
     let e : c .before .loop .i ≡ processPlaces = omega arith in

@@ -7,35 +7,25 @@ use Rattle.sound.proofs.Endings.{unnamed, delivered, nameable-range}
 use borrow.Author.Needs.{needs}
 use Rattle.sound.proofs.record_heard.Statement.{statement}
 use Rattle.sound.proofs.record_heard.Tie as tie
-use Rattle.sound.proofs.record_heard.Reads as reads
-use Rattle.sound.proofs.record_heard.Lts as lts
-use Rattle.decide.proofs.is_ignored.Reads as is-ignored-reads
-use Rattle.decide.proofs.is_nameable.Reads as is-nameable-reads
-use Rattle.tables.proofs.action_at.Reads as action-at-reads
 
--- src/lib.rt:249:9
 is-nameable-requires : tie.Need-is-nameable-requires
 is-nameable-requires c κs = search needs
 
--- src/lib.rt:250:9
 returns : tie.Need-returns
 returns c =
     let a = c .before .before .before in
     unnamed (processAt (a .args .ps .now) (a .args .place) .holds) (a .args .r)
     (sym (c .before .is-nameable .ensures) ∙ not-true (c .before .is-nameable .result) (c .if1 .taken))
 
--- src/lib.rt:252:38
 action-at-requires : tie.Need-action-at-requires
 action-at-requires c κs =
     let n = nameable-range (c .before .before .before .args .r .signal)
     (sym (c .before .is-nameable .ensures) ∙ not-false (c .before .is-nameable .result) (c .if1 .left)) in
     (c .before .before .before .pre .0, (c .before .before .before .pre .1, n))
 
--- src/lib.rt:252:9
 is-ignored-requires : tie.Need-is-ignored-requires
 is-ignored-requires c κs = search needs
 
--- src/lib.rt:244:1
 returns-2 : tie.Need-returns-2
 returns-2 c =
     let d = c .before .before .before .before in

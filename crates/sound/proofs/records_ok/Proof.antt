@@ -8,60 +8,45 @@ use Rattle.sound.proofs.Whole.{zero-counts, threads-fail, processes-fai
 use borrow.Author.Needs.{needs}
 use Rattle.sound.proofs.records_ok.Statement.{statement}
 use Rattle.sound.proofs.records_ok.Tie as tie
-use Rattle.sound.proofs.records_ok.Reads as reads
-use Rattle.sound.proofs.records_ok.Lts as lts
-use Rattle.sound.proofs.all_within.Reads as all-within-reads
-use Rattle.sound.proofs.process_buffer_ok.Reads as process-buffer-ok-reads
-use Rattle.sound.proofs.thread_buffer_ok.Reads as thread-buffer-ok-reads
 
--- src/lib.rt:451:38
 slice-aggregate-thread-buffer-ok : tie.Need-slice-aggregate-thread-buffer-ok
 slice-aggregate-thread-buffer-ok c = search needs
 
--- src/lib.rt:451:9
 thread-buffer-ok-requires : tie.Need-thread-buffer-ok-requires
 thread-buffer-ok-requires c κs =
     let a = c .before .before .before .before .before in
     ((a .pre .0 .0, (a .pre .0 .1, a .pre .1 .0 .0)), (a .pre .1 .1, zero-counts (a .args .ps .now)))
 
--- src/lib.rt:452:9
 returns : tie.Need-returns
 returns c =
     let a = c .before .before .before .before .before .before .before .before in
     let d = c .before .before in
     threads-fail (a .args .ps .now) (a .args .ts .now) (recordsOf (a .args .tb .now)) (recordsOf (a .args .pb .now)) (sym (d .thread-buffer-ok .ensures .0) ∙ not-true (d .thread-buffer-ok .result) (c .if1 .taken))
 
--- src/lib.rt:454:35
 slice-aggregate-process-buffer-ok : tie.Need-slice-aggregate-process-buffer-ok
 slice-aggregate-process-buffer-ok c = search needs
 
--- src/lib.rt:454:9
 process-buffer-ok-requires : tie.Need-process-buffer-ok-requires
 process-buffer-ok-requires c κs =
     let a = c .before .before .before .before .before .before .before .before .before in
     let one = places-one-process (processesOf (a .args .ps .now)) (threadsOf (a .args .ts .now)) (a .pre .1 .1) (length-processesOf (a .args .ps .now)) (length-threadsOf (a .args .ts .now)) in
     ((a .pre .0 .0, a .pre .1 .0 .1), (one, zero-counts (a .args .ps .now)))
 
--- src/lib.rt:455:9
 returns-2 : tie.Need-returns-2
 returns-2 c =
     let a = c .before .before .before .before .before .before .before .before .before .before .before .before in
     let d = c .before .before in
     processes-fail (a .args .ps .now) (a .args .ts .now) (recordsOf (a .args .tb .now)) (recordsOf (a .args .pb .now)) (sym (d .process-buffer-ok .ensures .0) ∙ not-true (d .process-buffer-ok .result) (c .if2 .taken))
 
--- src/lib.rt:457:16
 slice-aggregate-all-within : tie.Need-slice-aggregate-all-within
 slice-aggregate-all-within c = search needs
 
--- src/lib.rt:457:29
 slice-aggregate-all-within-2 : tie.Need-slice-aggregate-all-within-2
 slice-aggregate-all-within-2 c = search needs
 
--- src/lib.rt:457:5
 all-within-requires : tie.Need-all-within-requires
 all-within-requires c κs = search needs
 
--- src/lib.rt:443:1
 returns-3 : tie.Need-returns-3
 returns-3 c =
     let a = c .before .before .before .before .before .before .before .before .before .before .before .before .before .before .before in

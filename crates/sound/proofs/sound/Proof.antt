@@ -5,33 +5,23 @@ use Rattle.sound.proofs.Whole.{wrong-length, processes-long, threads-lo
 use borrow.Author.Needs.{needs}
 use Rattle.sound.proofs.sound.Statement.{statement}
 use Rattle.sound.proofs.sound.Tie as tie
-use Rattle.sound.proofs.sound.Reads as reads
-use Rattle.sound.proofs.sound.Lts as lts
-use Rattle.queue.proofs.is_laid.Reads as is-laid-reads
-use Rattle.sound.proofs.places_ok.Reads as places-ok-reads
-use Rattle.sound.proofs.records_ok.Reads as records-ok-reads
 
--- src/lib.rt:467:9
 returns : tie.Need-returns
 returns c =
     let a = c .before .before .before .before .before in
     wrong-length (a .args .ps .now) (a .args .ts .now) (a .args .tb .now) (a .args .pb .now) (c .if1 .taken)
 
--- src/lib.rt:469:9
 is-laid-requires : tie.Need-is-laid-requires
 is-laid-requires c κs = search needs
 
--- src/lib.rt:470:9
 returns-2 : tie.Need-returns-2
 returns-2 c =
     let a = c .before .before .before .before .before .before .before in
     threads-unlaid (a .args .ps .now) (a .args .ts .now) (a .args .tb .now) (a .args .pb .now) (c .before .before .if1 .left) (sym (c .before .is-laid .ensures) ∙ not-true (c .before .is-laid .result) (c .if2 .taken))
 
--- src/lib.rt:472:9
 is-laid-requires-2 : tie.Need-is-laid-requires-2
 is-laid-requires-2 c κs = search needs
 
--- src/lib.rt:473:9
 returns-3 : tie.Need-returns-3
 returns-3 c =
     let a = c .before .before .before .before .before .before .before .before .before in
@@ -39,13 +29,11 @@ returns-3 c =
     processes-unlaid (a .args .ps .now) (a .args .ts .now) (a .args .tb .now) (a .args .pb .now) (t .before .if1 .left) (sym (t .is-laid .ensures) ∙ not-false (t .is-laid .result) (c .before .before .if2 .left))
     (sym (c .before .is-laid2 .ensures) ∙ not-true (c .before .is-laid2 .result) (c .if3 .taken))
 
--- src/lib.rt:475:9
 places-ok-requires : tie.Need-places-ok-requires
 places-ok-requires c κs =
     let a = c .before .before .before .before .before .before .before .before .before in
     (processes-long (a .args .ps .now) (a .args .ts .now) (a .args .tb .now) (a .args .pb .now) (c .before .before .before .before .if1 .left), threads-long (a .args .ps .now) (a .args .ts .now) (a .args .tb .now) (a .args .pb .now) (c .before .before .before .before .if1 .left))
 
--- src/lib.rt:476:9
 returns-4 : tie.Need-returns-4
 returns-4 c =
     let a = c .before .before .before .before .before .before .before .before .before .before .before in
@@ -55,7 +43,6 @@ returns-4 c =
     (sym (p .is-laid2 .ensures) ∙ not-false (p .is-laid2 .result) (c .before .before .if3 .left))
     (sym (c .before .places-ok .ensures) ∙ not-true (c .before .places-ok .result) (c .if4 .taken))
 
--- src/lib.rt:478:5
 records-ok-requires : tie.Need-records-ok-requires
 records-ok-requires c κs =
     let a = c .before .before .before .before .before .before .before .before .before .before .before in
@@ -72,7 +59,6 @@ records-ok-requires c κs =
       ),
     )
 
--- src/lib.rt:463:1
 returns-5 : tie.Need-returns-5
 returns-5 c =
     let a = c .before .before .before .before .before .before .before .before .before .before .before .before in

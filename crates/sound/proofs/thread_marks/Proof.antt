@@ -14,9 +14,6 @@ use Rattle.sound.specs.Check.{seenBy}
 use Rattle.sound.proofs.Marks.{marks-more, marks-done}
 use Rattle.sound.proofs.thread_marks.Statement.{statement}
 use Rattle.sound.proofs.thread_marks.Tie as tie
-use Rattle.sound.proofs.thread_marks.Reads as reads
-use Rattle.sound.proofs.thread_marks.Lts as lts
-use Rattle.tables.proofs.thread_field_at.Reads as thread-field-at-reads
 
 abbrev Inv-loop : tie.InvT-loop
 Inv-loop ts seen₀ i₀ seen i = (i ≤ threadPlaces) × ((length seen ≡ threadPlaces) × (seen ≡ filled (seenBy threadQueue []) i (threadsOf ts) seen₀))
@@ -24,33 +21,26 @@ Inv-loop ts seen₀ i₀ seen i = (i ≤ threadPlaces) × ((length seen ≡ thre
 abbrev μ-loop : tie.MeasureT-loop
 μ-loop ts seen₀ i₀ seen i = threadPlaces - i
 
--- src/lib.rt:323:5
 loop-holds : tie.Need-loop-holds Inv-loop μ-loop
 loop-holds c =
     let a = c .before .before in
     (search needs, (a .pre .1, filled-none (seenBy threadQueue []) (threadsOf (a .args .ts .now)) (a .args .seen .now)))
 
--- src/lib.rt:324:19
 thread-field-at-requires : tie.Need-thread-field-at-requires Inv-loop μ-loop
 thread-field-at-requires c κs = search needs
 
--- src/lib.rt:324:9
 mul-seen : tie.Need-mul-seen Inv-loop μ-loop
 mul-seen c = search needs
 
--- src/lib.rt:324:9
 slice-write-seen : tie.Need-slice-write-seen Inv-loop μ-loop
 slice-write-seen c = search needs
 
--- src/lib.rt:325:9
 add-i : tie.Need-add-i Inv-loop μ-loop
 add-i c = search needs
 
--- src/lib.rt:323:5
 loop-less : tie.Need-loop-less Inv-loop μ-loop
 loop-less c = search needs
 
--- src/lib.rt:323:5
 loop-again : tie.Need-loop-again Inv-loop μ-loop
 unfolding threadTo
 loop-again c =
@@ -67,11 +57,9 @@ loop-again c =
       ),
     )
 
--- src/lib.rt:318:1
 same-length : tie.Need-same-length Inv-loop μ-loop
 same-length c = search needs
 
--- src/lib.rt:318:1
 returns : tie.Need-returns Inv-loop μ-loop
 returns c =
     let a = c .before .before .before .before in

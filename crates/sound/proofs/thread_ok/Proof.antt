@@ -3,36 +3,25 @@ use Rattle.sound.proofs.PlaceEndings.{free-thread, live-thread}
 use borrow.Author.Needs.{needs}
 use Rattle.sound.proofs.thread_ok.Statement.{statement}
 use Rattle.sound.proofs.thread_ok.Tie as tie
-use Rattle.sound.proofs.thread_ok.Reads as reads
-use Rattle.sound.proofs.thread_ok.Lts as lts
-use Rattle.sound.proofs.live_thread_ok.Reads as live-thread-ok-reads
-use Rattle.sound.proofs.zeros.Reads as zeros-reads
-use Rattle.tables.proofs.thread_field_at.Reads as thread-field-at-reads
 
--- src/lib.rt:196:8
 thread-field-at-requires : tie.Need-thread-field-at-requires
 thread-field-at-requires c κs = search needs
 
--- src/lib.rt:197:26
 mul-zeros : tie.Need-mul-zeros
 mul-zeros c = search needs
 
--- src/lib.rt:197:9
 zeros-requires : tie.Need-zeros-requires
 zeros-requires c κs = search needs
 
--- src/lib.rt:197:9
 returns : tie.Need-returns
 returns c =
     let a = c .before .before .before .before .before in
     c .zeros .ensures
     ∙ free-thread (a .args .ps .now) (a .args .ts .now) (a .args .place) (c .before .before .thread-field-at .result) (c .before .before .thread-field-at .ensures) (a .pre .1 .0) (a .pre .1 .1) (c .before .if1 .taken)
 
--- src/lib.rt:199:5
 live-thread-ok-requires : tie.Need-live-thread-ok-requires
 live-thread-ok-requires c κs = search needs
 
--- src/lib.rt:192:1
 returns-2 : tie.Need-returns-2
 returns-2 c =
     let a = c .before .before .before .before .before in

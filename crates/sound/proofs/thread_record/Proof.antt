@@ -6,39 +6,26 @@ use Rattle.sound.proofs.RecordEndings.{thread-counted, thread-noted, ad
 use borrow.Author.Needs.{needs}
 use Rattle.sound.proofs.thread_record.Statement.{statement}
 use Rattle.sound.proofs.thread_record.Tie as tie
-use Rattle.sound.proofs.thread_record.Reads as reads
-use Rattle.sound.proofs.thread_record.Lts as lts
-use Rattle.sound.proofs.admit.Reads as admit-reads
-use Rattle.sound.proofs.thread_record_ok.Reads as thread-record-ok-reads
-use Rattle.tables.proofs.find_process.Reads as find-process-reads
-use Rattle.tables.proofs.find_thread.Reads as find-thread-reads
 
--- src/lib.rt:297:42
 cast-find-process : tie.Need-cast-find-process
 cast-find-process c = search needs
 
--- src/lib.rt:297:9
 find-process-requires : tie.Need-find-process-requires
 find-process-requires c κs = search needs
 
--- src/lib.rt:298:41
 cast-find-thread : tie.Need-cast-find-thread
 cast-find-thread c = search needs
 
--- src/lib.rt:298:9
 find-thread-requires : tie.Need-find-thread-requires
 find-thread-requires c κs = search needs
 
--- src/lib.rt:299:9
 thread-record-ok-requires : tie.Need-thread-record-ok-requires
 unfolding processPlace threadPlace
 thread-record-ok-requires c κs = (c .before .before .before .before .before .before .before .before .pre .0, (c .before .before .find-process .ensures, c .find-thread .ensures))
 
--- src/lib.rt:300:9
 returns : tie.Need-returns
 returns c = (sym (and-left _ (sym (c .before .thread-record-ok .ensures) ∙ not-true (c .before .thread-record-ok .result) (c .if1 .taken))), (refl, refl))
 
--- src/lib.rt:302:5
 admit-requires : tie.Need-admit-requires
 unfolding processPlace threadPlace
 admit-requires c κs =
@@ -52,15 +39,12 @@ admit-requires c κs =
       a .pre .1 .1 (c .before .before .before .before .before .before .find-process .result),
     )
 
--- src/lib.rt:289:1
 same-length : tie.Need-same-length
 same-length c = search needs
 
--- src/lib.rt:289:1
 same-length-2 : tie.Need-same-length-2
 same-length-2 c = search needs
 
--- src/lib.rt:289:1
 returns-2 : tie.Need-returns-2
 unfolding processPlace threadPlace
 returns-2 c =

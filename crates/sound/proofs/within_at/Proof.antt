@@ -2,42 +2,31 @@ use Rattle.sound.proofs.Endings.{over, room-left}
 use borrow.Author.Needs.{needs}
 use Rattle.sound.proofs.within_at.Statement.{statement}
 use Rattle.sound.proofs.within_at.Tie as tie
-use Rattle.sound.proofs.within_at.Reads as reads
-use Rattle.sound.proofs.within_at.Lts as lts
 
--- src/lib.rt:85:23
 mul-if1 : tie.Need-mul-if1
 mul-if1 c = search needs
 
--- src/lib.rt:85:23
 shared-slice-read-if1 : tie.Need-shared-slice-read-if1
 shared-slice-read-if1 c = search needs
 
--- src/lib.rt:86:9
 returns : tie.Need-returns
 returns c = over (c .before .before .args .cs .now) (c .before .before .args .ds .now) (c .before .before .args .i) (c .if1 .taken)
 
--- src/lib.rt:88:5
 mul-result : tie.Need-mul-result
 mul-result c = search needs
 
--- src/lib.rt:88:5
 shared-slice-read-result : tie.Need-shared-slice-read-result
 shared-slice-read-result c = search needs
 
--- src/lib.rt:88:29
 mul-result-2 : tie.Need-mul-result-2
 mul-result-2 c = search needs
 
--- src/lib.rt:88:29
 shared-slice-read-result-2 : tie.Need-shared-slice-read-result-2
 shared-slice-read-result-2 c = search needs
 
--- src/lib.rt:88:14
 sub-result : tie.Need-sub-result
 sub-result c = search needs
 
--- src/lib.rt:81:1
 returns-2 : tie.Need-returns-2
 returns-2 c =
     let a = c .before .before .before .before in

@@ -8,12 +8,10 @@ use native.Mathlib.Omega.{arith}
 use lib.ListN.{length, take, drop}
 use Rattle.lists.specs.Lists.{all}
 use Rattle.lists.proofs.Loops.{all-none, all-more, all-fails, all-done}
+use Rattle.lists.proofs.Rows.{part-long, part-at}
 use Rattle.sound.specs.Check.{isNought}
-use Rattle.sound.proofs.Endings.{part-long, part-at}
 use Rattle.sound.proofs.zeros.Statement.{statement}
 use Rattle.sound.proofs.zeros.Tie as tie
-use Rattle.sound.proofs.zeros.Reads as reads
-use Rattle.sound.proofs.zeros.Lts as lts
 
 abbrev Inv-loop : tie.InvT-loop
 Inv-loop ws from n i₀ i = (i ≤ n) × (all isNought (take i (take n (drop from ws))) ≡ true)
@@ -21,23 +19,18 @@ Inv-loop ws from n i₀ i = (i ≤ n) × (all isNought (take i (take n (drop fro
 abbrev μ-loop : tie.MeasureT-loop
 μ-loop ws from n i₀ i = n - i
 
--- src/lib.rt:49:5
 loop-holds : tie.Need-loop-holds Inv-loop μ-loop
 loop-holds c = (search needs, all-none isNought 0 [])
 
--- src/lib.rt:50:15
 add-if1 : tie.Need-add-if1 Inv-loop μ-loop
 add-if1 c = search needs
 
--- src/lib.rt:50:12
 mul-if1 : tie.Need-mul-if1 Inv-loop μ-loop
 mul-if1 c = search needs
 
--- src/lib.rt:50:12
 shared-slice-read-if1 : tie.Need-shared-slice-read-if1 Inv-loop μ-loop
 shared-slice-read-if1 c = search needs
 
--- src/lib.rt:51:13
 returns : tie.Need-returns Inv-loop μ-loop
 unfolding isNought
 returns c =
@@ -48,15 +41,12 @@ returns c =
     sym (all-fails isNought 0 (take (a .args .n) (drop (a .args .from) (a .args .ws .now))) i h
     (ap isNought (part-at (a .args .ws .now) (a .args .from) (a .args .n) (omega arith) i (omega arith)) ∙ ne-eqb _ _ (c .if1 .taken)))
 
--- src/lib.rt:53:9
 add-i : tie.Need-add-i Inv-loop μ-loop
 add-i c = search needs
 
--- src/lib.rt:49:5
 loop-less : tie.Need-loop-less Inv-loop μ-loop
 loop-less c = search needs
 
--- src/lib.rt:49:5
 loop-again : tie.Need-loop-again Inv-loop μ-loop
 unfolding isNought
 loop-again c =
@@ -69,7 +59,6 @@ loop-again c =
           (ap isNought (part-at (a .args .ws .now) (a .args .from) (a .args .n) (omega arith) i (omega arith)) ∙ eq-eqb _ _ (c .if1 .left)),
     )
 
--- src/lib.rt:44:1
 returns-2 : tie.Need-returns-2 Inv-loop μ-loop
 returns-2 c =
     let a = c .before .before in

@@ -1,0 +1,96 @@
+-- What sound tables give a call: their lengths, buffers laid out, a sound store (and with it every fact of the rules' Facts), room. Assumes nothing.
+use mathlib.Core.Path.{_≡_}
+use mathlib.Core.Bool.{true, _&&_}
+use mathlib.Core.List.{List}
+use Prim.Native.Nat.{ℕ, _≤_, _<_}
+use lib.Dec.{eqb}
+use lib.ListN.{length}
+use borrow.Author.Tests.{eqb-true, eq-eqb}
+use Rattle.limits.specs.Limits.{processPlaces, processTable, threadPlaces, threadTable, bufferRecords, bufferBytes, recordLimit}
+use Rattle.lists.specs.Lists.{count, find}
+use Rattle.lists.proofs.Bools.{and-fst, and-snd, and-both}
+use Rattle.lists.proofs.Finds.{any-inside}
+use Rattle.rules.specs.View.{isProcess, isThread, liveProcess, liveThread, theProcess, theThread}
+use Rattle.rules.specs.Store.{queuedIn, view}
+use Rattle.rules.specs.Sound.{sound}
+use Rattle.rules.proofs.Facts as rule
+use Rattle.rules.proofs.Marks.{the-process, the-thread}
+use Rattle.rules.proofs.Room as rooms
+use Rattle.queue.specs.Queue.{recordsOf, isLaid}
+use Rattle.tables.specs.Tables.{heldProcesses, heldThreads, processAt, threadAt}
+use Rattle.tables.proofs.Words.{length-heldProcesses, length-heldThreads}
+use Rattle.sound.specs.Lent.{storeOf, lengthsAre, soundTables}
+
+module _ (ps ts tb pb : List ℕ) (e : soundTables ps ts tb pb ≡ true) where
+  right-lengths : lengthsAre ps ts tb pb ≡ true
+  unfolding soundTables
+  right-lengths = and-fst (lengthsAre ps ts tb pb) _ e
+
+  pub store-sound : sound (storeOf ps ts tb pb) ≡ true
+  unfolding soundTables
+  store-sound = and-snd (lengthsAre ps ts tb pb) _ e
+
+  -- ---- lengths
+
+  pub processes-long : length ps ≡ processTable
+  unfolding lengthsAre
+  processes-long = eqb-true (length ps) processTable (and-fst (eqb (length ps) processTable) _ right-lengths)
+
+  pub threads-long : length ts ≡ threadTable
+  unfolding lengthsAre
+  threads-long = eqb-true (length ts) threadTable (and-fst (eqb (length ts) threadTable) _ (and-snd (eqb (length ps) processTable) _ right-lengths))
+
+  buffers-long : (eqb (length tb) bufferBytes && eqb (length pb) bufferBytes) ≡ true
+  unfolding lengthsAre
+  buffers-long = and-snd (eqb (length ts) threadTable) _ (and-snd (eqb (length ps) processTable) _ right-lengths)
+
+  pub thread-buffer-long : length tb ≡ bufferBytes
+  thread-buffer-long = eqb-true (length tb) bufferBytes (and-fst (eqb (length tb) bufferBytes) (eqb (length pb) bufferBytes) buffers-long)
+
+  pub process-buffer-long : length pb ≡ bufferBytes
+  process-buffer-long = eqb-true (length pb) bufferBytes (and-snd (eqb (length tb) bufferBytes) (eqb (length pb) bufferBytes) buffers-long)
+
+  -- ---- buffers
+
+  pub thread-buffer-laid : isLaid tb ≡ true
+  unfolding isLaid storeOf
+  thread-buffer-laid = and-both (eq-eqb (length tb) bufferBytes thread-buffer-long) (rule.thread-rest (storeOf ps ts tb pb) store-sound)
+
+  pub process-buffer-laid : isLaid pb ≡ true
+  unfolding isLaid storeOf
+  process-buffer-laid = and-both (eq-eqb (length pb) bufferBytes process-buffer-long) (rule.process-rest (storeOf ps ts tb pb) store-sound)
+
+  -- a process below its limit finds a free slot in either buffer
+  pub room : (p : ℕ) → liveProcess (view (storeOf ps ts tb pb)) p ≡ true → queuedIn (storeOf ps ts tb pb) p < recordLimit
+      → (length (recordsOf tb) < bufferRecords) × (length (recordsOf pb) < bufferRecords)
+  unfolding recordsOf storeOf
+  room p l q = rooms.room (storeOf ps ts tb pb) store-sound p l q
+
+  -- ---- places
+
+  pub one-process : (n : ℕ) → count (isProcess n) (heldProcesses ps) ≤ 1
+  unfolding storeOf view
+  one-process = rule.one-process (storeOf ps ts tb pb) store-sound
+
+  pub one-thread : (n : ℕ) → count (isThread n) (heldThreads ts) ≤ 1
+  unfolding storeOf view
+  one-thread = rule.one-thread (storeOf ps ts tb pb) store-sound
+
+-- ---- a live id is found, and what is found is the one that the rules mean; this asks no soundness
+
+module _ (ps ts tb pb : List ℕ) where
+  pub process-found : (n : ℕ) → liveProcess (view (storeOf ps ts tb pb)) n ≡ true → find (isProcess n) (heldProcesses ps) < processPlaces
+  unfolding liveProcess view storeOf
+  process-found n l = any-inside (isProcess n) (heldProcesses ps) processPlaces (length-heldProcesses ps) l
+
+  pub thread-found : (n : ℕ) → liveThread (view (storeOf ps ts tb pb)) n ≡ true → find (isThread n) (heldThreads ts) < threadPlaces
+  unfolding liveThread view storeOf
+  thread-found n l = any-inside (isThread n) (heldThreads ts) threadPlaces (length-heldThreads ts) l
+
+  pub process-there : (n : ℕ) → theProcess (view (storeOf ps ts tb pb)) n ≡ processAt ps (find (isProcess n) (heldProcesses ps)) .holds
+  unfolding storeOf
+  process-there n = the-process (storeOf ps ts tb pb) n
+
+  pub thread-there : (n : ℕ) → theThread (view (storeOf ps ts tb pb)) n ≡ threadAt ts (find (isThread n) (heldThreads ts)) .holds
+  unfolding storeOf
+  thread-there n = the-thread (storeOf ps ts tb pb) n
