@@ -22,9 +22,9 @@ use Rattle.rules.specs.Sound.{processId, threadId, goodId, goodProcessId
 use Rattle.rules.proofs.Aimed.{thread-process-live, process-live}
 use Rattle.rules.proofs.Ids.{one-held}
 use Rattle.rules.proofs.Marks.{processWith, threadWith, the-process, the-thread, process-is, thread-is, process-marks, thread-marks}
-use Rattle.rules.proofs.Found.{default-is, heard-at, empty-unmasked, every-process, every-thread, live-process-has, live-thread-has, none-queued}
+use Rattle.rules.proofs.Found.{default-is, heard-at, every-process, every-thread, live-process-has, live-thread-has, none-queued}
 use Rattle.rules.proofs.Parts.{parts}
-use Rattle.rules.proofs.Unmaskable.{unmasked-has}
+use Rattle.rules.proofs.Unmaskable.{unmasked-empty, unmasked-has}
 
 pub record UsersFit (p : Process) : Type 0 where
   pub real : goodUser (p .real) ≡ true
@@ -114,11 +114,11 @@ module _ (st : Store) (e : sound st ≡ true) where
 
   process-sets : (p : ℕ) → processUnmasked (processWith st p) ≡ true
   unfolding processUnmasked actionUnmasked
-  process-sets = every-process st processUnmasked (and-both empty-unmasked (all-replicate actionUnmasked defaultAction empty-unmasked signals)) (parts st e .processSets)
+  process-sets = every-process st processUnmasked (and-both unmasked-empty (all-replicate actionUnmasked defaultAction unmasked-empty signals)) (parts st e .processSets)
 
   thread-sets : (t : ℕ) → threadUnmasked (threadWith st t) ≡ true
   unfolding threadUnmasked
-  thread-sets = every-thread st threadUnmasked (and-both empty-unmasked empty-unmasked) (parts st e .threadSets)
+  thread-sets = every-thread st threadUnmasked (and-both unmasked-empty unmasked-empty) (parts st e .threadSets)
 
   pub mask-unmasked : (t : ℕ) → unmasked (theThread (view st) t .mask) ≡ true
   unfolding threadUnmasked
@@ -153,7 +153,7 @@ module _ (st : Store) (e : sound st ≡ true) where
   unfolding processUnmasked actionUnmasked actionOf
   action-unmasked p s =
       let a : all actionUnmasked (processWith st p .holds .actions) ≡ true = and-snd (unmasked (processWith st p .marks)) _ (process-sets p) in
-      rw (the-process st p) (all-getD actionUnmasked (processWith st p .holds .actions) (s - 1) defaultAction empty-unmasked a)
+      rw (the-process st p) (all-getD actionUnmasked (processWith st p .holds .actions) (s - 1) defaultAction unmasked-empty a)
 
   defaults : (p : ℕ) → killStopDefault (processWith st p) ≡ true
   unfolding killStopDefault actionOf isDefault

@@ -4,16 +4,15 @@ use mathlib.Core.Path.{_≡_, sym, ap, ap₂, _∙_}
 use mathlib.Core.Bool.{Bool, true, false, not}
 use mathlib.Core.List.{List, map}
 use native.Mathlib.Omega.{arith}
-use lib.Dec.{eqb, leb}
-use borrow.Author.Tests.{eqb-true, leb-true, not-true}
+use lib.Dec.{eqb}
+use borrow.Author.Tests.{eqb-true, not-true}
 use Rattle.limits.specs.Limits.{signals}
 use Rattle.lists.specs.Lists.{all, count, find, range}
 use Rattle.lists.proofs.Bools.{split, clash, and-fst, and-snd, imp-use}
 use Rattle.lists.proofs.Lists.{Pass, Fail, All-imp, all-All, All-any, all-getD, none-count}
 use Rattle.lists.proofs.Loops.{all-at, All-range-at}
 use Rattle.sigset.specs.declared.SigSet.{SigSet}
-use Rattle.sigset.specs.Set.{has, bits, empty}
-use Rattle.sigset.proofs.Laws.{has-empty}
+use Rattle.sigset.specs.Set.{has, bits}
 use Rattle.types.specs.declared.Action.{Action}
 use Rattle.types.specs.declared.Siginfo.{Siginfo}
 use Rattle.types.specs.Values.{defaultAction}
@@ -21,9 +20,9 @@ use Rattle.rules.specs.Types.{Process, Thread}
 use Rattle.rules.specs.Signals.{isSignal, ignored}
 use Rattle.rules.specs.View.{isProcess, isThread, liveProcess, liveThread}
 use Rattle.rules.specs.Store.{Place, Store, held, freeProcess, freeThread, ofProcess, view}
-use Rattle.rules.specs.Sound.{ifLive, isLive, processId, threadId, unmasked, isDefault, markHeard, marksHeard}
+use Rattle.rules.specs.Sound.{ifLive, isLive, processId, threadId, isDefault, markHeard, marksHeard}
 use Rattle.rules.proofs.Marks.{processWith, threadWith, process-below, thread-below, process-is, thread-is, process-named, thread-named}
-use Rattle.rules.proofs.Unmaskable.{unmasked-if}
+use Rattle.rules.proofs.Signals.{is-signal}
 
 -- ---- single values
 
@@ -41,17 +40,14 @@ default-is a e =
 
 -- a signal that is marked is heard
 pub heard-at : (m : SigSet) (f : ℕ → Action) → marksHeard m f ≡ true → (s : ℕ) → isSignal s ≡ true → has m s ≡ true → ignored (f s) s ≡ false
-unfolding marksHeard isSignal
+unfolding marksHeard
 heard-at m f e s g h =
-    let l : 1 ≤ s = leb-true 1 s (and-fst (leb 1 s) (leb s signals) g) in
-    let u : s ≤ signals = leb-true s signals (and-snd (leb 1 s) (leb s signals) g) in
+    let l : 1 ≤ s = is-signal s g .low in
+    let u : s ≤ signals = is-signal s g .high in
     not-true (ignored (f s) s)
     (imp-use (has m s) (not (ignored (f s) s)) (All-range-at (Pass (markHeard m f)) 1 signals s l (omega arith) (all-All (markHeard m f) (range 1 signals) e)) h)
 
 -- ---- the place that is looked for, by a test that all places pass
-
-pub empty-unmasked : unmasked empty ≡ true
-empty-unmasked = unmasked-if empty (λ s h u. has-empty s)
 
 module _ (st : Store) where
   -- found or not, if a free place passes it

@@ -5,6 +5,7 @@ pub mod Refused
 pub mod Cleared
 pub mod Steps
 pub mod Unmaskable
+pub mod Signals
 pub mod Ids
 pub mod Marks
 pub mod Parts

@@ -54,7 +54,7 @@ unmasked-has m h =
     let e : (has m SIGKILL || has m SIGSTOP) ≡ false = not-true (has m SIGKILL || has m SIGSTOP) h in
     each-unmaskable (λ (s : ℕ). has m s ≡ false) (or-fst-false (has m SIGKILL) (has m SIGSTOP) e) (or-snd-false (has m SIGKILL) (has m SIGSTOP) e)
 
-unmasked-empty : unmasked empty ≡ true
+pub unmasked-empty : unmasked empty ≡ true
 unmasked-empty = unmasked-if empty (λ s h u. has-empty s)
 
 unmasked-maskable : (m : SigSet) → unmasked (maskable m) ≡ true

@@ -9,7 +9,7 @@ use lib.ListN.{getD}
 use borrow.Author.Tests.{leb-true, le-leb, lt-leb, ne-eqb}
 use Rattle.limits.specs.Limits.{recordLimit, signals, siQueue, threadProcess}
 use Rattle.lists.specs.Lists.{any, range}
-use Rattle.lists.proofs.Bools.{same-test, and-fst, and-snd}
+use Rattle.lists.proofs.Bools.{same-test}
 use Rattle.lists.proofs.Lists.{Pass, Fail, All-every, All-all, All-any}
 use Rattle.sigset.specs.declared.SigSet.{SigSet}
 use Rattle.sigset.specs.Set.{bits, has}
@@ -18,7 +18,7 @@ use Rattle.types.specs.declared.Action.{Action}
 use Rattle.types.specs.declared.Siginfo.{Siginfo}
 use Rattle.types.specs.Values.{defaultAction}
 use Rattle.rules.specs.Types.{Process, Thread, noThread}
-use Rattle.rules.specs.Signals.{isSignal, standard, ignored}
+use Rattle.rules.specs.Signals.{standard, ignored}
 use Rattle.rules.specs.View.{actionOf, belongsTo}
 use Rattle.rules.specs.Store.{freeThread}
 use Rattle.rules.specs.Sound.{markHeard, marksHeard, nameable}
@@ -68,13 +68,6 @@ module _ (p : Process) (r : Siginfo) where
   pub delivered : {b : Bool} → nameable (r .signal) ≡ true → b ≡ ignored (actionOf p (r .signal)) (r .signal) → (eqb (r .code) siQueue && not b) ≡ isDelivered p r
   unfolding isDelivered
   delivered e k = rw (e, k)
-
--- a signal that a record may name is a signal
-pub nameable-range : (s : ℕ) → nameable s ≡ true → (1 ≤ s) × (s ≤ signals)
-unfolding nameable isSignal
-nameable-range s e =
-    let k : (leb 1 s && leb s signals) ≡ true = and-fst (leb 1 s && leb s signals) _ e in
-    (leb-true 1 s (and-fst (leb 1 s) (leb s signals) k), leb-true s signals (and-snd (leb 1 s) (leb s signals) k))
 
 -- a queue without marks is heard
 pub no-marks : (marks : SigSet) (actions : ℕ → Action) → marks .0 ≡ 0 → true ≡ marksHeard marks actions

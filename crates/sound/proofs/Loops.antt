@@ -6,14 +6,14 @@ use Prim.Native.Nat.{ℕ, _+_, _≤_, _<_}
 use native.Mathlib.Omega.{arith}
 use lib.ListN.{length, getD, take, length-map}
 use lib.Seq.{length-take-le, take-all}
-use Rattle.limits.specs.Limits.{processPlaces, threadPlaces, bufferRecords, recordBytes}
+use Rattle.limits.specs.Limits.{processPlaces, threadPlaces, recordBytes}
 use Rattle.lists.specs.Lists.{count}
 use Rattle.lists.specs.Rows.{row}
 use Rattle.lists.proofs.Bools.{clash, and-fst, and-snd}
 use Rattle.types.specs.declared.Siginfo.{Siginfo}
 use Rattle.types.specs.Values.{noSiginfo}
 use Rattle.siginfo.specs.Bytes.{siginfoOf}
-use Rattle.rules.specs.Types.{Process, Thread}
+use Rattle.rules.specs.Types.{Process}
 use Rattle.rules.specs.View.{threadQueue}
 use Rattle.rules.specs.Store.{ofProcess}
 use Rattle.queue.specs.Queue.{recordsOf}
@@ -24,6 +24,10 @@ use Rattle.sound.specs.Check.{placesOk, tallies, seenBy, seenSets, ownQu
 use Rattle.sound.proofs.Passes.{tally-bound}
 use Rattle.sound.proofs.Turns as turn
 use Rattle.sound.proofs.Regrouped.{places-one-process, places-one-thread}
+
+-- what was read is the record at i
+this-record : (b : List ℕ) (i : ℕ) (r : Siginfo) → i < length (recordsOf b) → r ≡ siginfoOf (row recordBytes b i) → r ≡ getD (recordsOf b) i noSiginfo
+this-record b i r l e = e ∙ sym (record-read b i noSiginfo l)
 
 -- after i records: they are counted, their signals noted, and all of them passed
 pub record Pass (ps : List Process) (seenOf : List Siginfo → List ℕ) (passes : List Siginfo → Bool) (rs : List Siginfo) (counts seen : List ℕ) (i : ℕ) : Type 0 where
@@ -90,9 +94,6 @@ module _ (ps ts b : List ℕ) where
 
     module _ (r : Siginfo) {h : Bool} (e : r ≡ siginfoOf (row recordBytes b i))
         (he : h ≡ (threadRecordOk (processesOf ps) (threadsOf ts) r && isFresh seen (threadPlace (threadsOf ts) r) (r .signal))) where
-      this-thread : r ≡ getD (recordsOf b) i noSiginfo
-      this-thread = e ∙ sym (record-read b i noSiginfo l)
-
       -- its freshness, said of the records before it
       fresh-thread : isFresh seen (threadPlace (threadsOf ts) r) (r .signal)
           ≡ isFresh (seenSets threadQueue (threadsOf ts) (take i (recordsOf b))) (threadPlace (threadsOf ts) r) (r .signal)
@@ -100,7 +101,7 @@ module _ (ps ts b : List ℕ) where
 
       pub thread-fails : {X : Type 0} → h ≡ false → (false ≡ threadRecordsOk (processesOf ps) (threadsOf ts) (recordsOf b)) × (false ≡ true → X)
       thread-fails n = (
-        sym (turn.thread-fails (processesOf ps) (threadsOf ts) (recordsOf b) i r l this-thread
+        sym (turn.thread-fails (processesOf ps) (threadsOf ts) (recordsOf b) i r l (this-record b i r l e)
             (ap (λ t. threadRecordOk (processesOf ps) (threadsOf ts) r && t) (sym fresh-thread) ∙ sym he ∙ n)),
         λ f. clash f refl,
       )
@@ -114,9 +115,9 @@ module _ (ps ts b : List ℕ) where
           let ok = and-fst (threadRecordOk xs ys r) (isFresh seen (threadPlace ys r) (r .signal)) (sym he ∙ y) in
           let new = and-snd (threadRecordOk xs ys r) (isFresh seen (threadPlace ys r) (r .signal)) (sym he ∙ y) in
           one-more ps (seenSets threadQueue ys) (threadRecordsOk xs ys) b counts seen i k counts′ seen′ (processPlace xs r) (threadPlace ys r) (r .signal) y ec es
-          (turn.thread-tally xs ys (recordsOf b) i r l this-thread ok (places-one-process xs ys places (length-processesOf ps) (length-threadsOf ts) (r .process)))
-          (turn.thread-step xs ys (recordsOf b) i r l this-thread ok (places-one-thread xs ys places (length-processesOf ps) (length-threadsOf ts) (r .thread)))
-          (turn.thread-more xs ys (recordsOf b) i r l this-thread ok (k .passed) (sym fresh-thread ∙ new))
+          (turn.thread-tally xs ys (recordsOf b) i r l (this-record b i r l e) ok (places-one-process xs ys places (length-processesOf ps) (length-threadsOf ts) (r .process)))
+          (turn.thread-step xs ys (recordsOf b) i r l (this-record b i r l e) ok (places-one-thread xs ys places (length-processesOf ps) (length-threadsOf ts) (r .thread)))
+          (turn.thread-more xs ys (recordsOf b) i r l (this-record b i r l e) ok (k .passed) (sym fresh-thread ∙ new))
 
 -- ---- the process buffer
 
@@ -147,16 +148,13 @@ module _ (ps b : List ℕ) where
 
     module _ (r : Siginfo) {h : Bool} (e : r ≡ siginfoOf (row recordBytes b i))
         (he : h ≡ (processRecordOk (processesOf ps) r && isFresh seen (processPlace (processesOf ps) r) (r .signal))) where
-      this-process : r ≡ getD (recordsOf b) i noSiginfo
-      this-process = e ∙ sym (record-read b i noSiginfo l)
-
       fresh-process : isFresh seen (processPlace (processesOf ps) r) (r .signal)
           ≡ isFresh (seenSets ownQueue (processesOf ps) (take i (recordsOf b))) (processPlace (processesOf ps) r) (r .signal)
       fresh-process = ap (λ m. isFresh m (processPlace (processesOf ps) r) (r .signal)) (k .noticed)
 
       pub process-fails : {X : Type 0} → h ≡ false → (false ≡ processRecordsOk (processesOf ps) (recordsOf b)) × (false ≡ true → X)
       process-fails n = (
-        sym (turn.process-fails (processesOf ps) (recordsOf b) i r l this-process
+        sym (turn.process-fails (processesOf ps) (recordsOf b) i r l (this-record b i r l e)
             (ap (λ t. processRecordOk (processesOf ps) r && t) (sym fresh-process) ∙ sym he ∙ n)),
         λ f. clash f refl,
       )
@@ -169,6 +167,6 @@ module _ (ps b : List ℕ) where
           let ok = and-fst (processRecordOk xs r) (isFresh seen (processPlace xs r) (r .signal)) (sym he ∙ y) in
           let new = and-snd (processRecordOk xs r) (isFresh seen (processPlace xs r) (r .signal)) (sym he ∙ y) in
           one-more ps (seenSets ownQueue xs) (processRecordsOk xs) b counts seen i k counts′ seen′ (processPlace xs r) (processPlace xs r) (r .signal) y ec es
-          (turn.process-tally xs (recordsOf b) i r l this-process ok (one (r .process)))
-          (turn.process-step xs (recordsOf b) i r l this-process ok (one (r .process)))
-          (turn.process-more xs (recordsOf b) i r l this-process ok (k .passed) (sym fresh-process ∙ new))
+          (turn.process-tally xs (recordsOf b) i r l (this-record b i r l e) ok (one (r .process)))
+          (turn.process-step xs (recordsOf b) i r l (this-record b i r l e) ok (one (r .process)))
+          (turn.process-more xs (recordsOf b) i r l (this-record b i r l e) ok (k .passed) (sym fresh-process ∙ new))

@@ -5,10 +5,9 @@ use mathlib.Core.Bool.{Bool, true, false, not, _&&_, _||_, cond, or-false, or-as
 use mathlib.Core.List.{List, [], _∷_, map}
 use native.Mathlib.Omega.{arith}
 use native.Mathlib.Nat.{add-zero}
-use lib.Dec.{eqb, leb}
+use lib.Dec.{eqb}
 use lib.ListN.{length, getD, take, set, replicate}
-use borrow.Author.Tests.{eqb-true, eq-eqb, leb-true}
-use Rattle.limits.specs.Limits.{lastStandard}
+use borrow.Author.Tests.{eqb-true, eq-eqb}
 use Rattle.lists.specs.Lists.{all, any, count, find}
 use Rattle.lists.proofs.Bools.{split, clash, same-test, and-fst, and-snd, and-both, and-left, and-imp, not-or}
 use Rattle.lists.proofs.Lists.{all-same, any-append, any-and, count-append, count-le-length, not-any}
@@ -23,6 +22,7 @@ use Rattle.rules.specs.Types.{Process, Queue, noProcess}
 use Rattle.rules.specs.Signals.{standard}
 use Rattle.rules.specs.View.{isProcess, sameQueue, queueOf, inQueue}
 use Rattle.rules.specs.Store.{Place, ofProcess}
+use Rattle.rules.proofs.Signals.{standard-signal}
 use Rattle.rules.proofs.Marks.{queue-same, same-queue}
 use Rattle.sound.specs.Check.{tallies, seenBy, seenSets, isFresh, bumped, noted, once}
 
@@ -73,13 +73,6 @@ module _ (ps : List Process) (rs : List Siginfo) (i : ℕ) (r : Siginfo) (h : i 
       ps q c l t)
 
 -- ---- the signals seen in each queue
-
-pub standard-signal : (s : ℕ) → standard s ≡ true → Signal s
-unfolding standard
-standard-signal s e =
-    let l : 1 ≤ s = leb-true 1 s (and-fst (leb 1 s) (leb s lastStandard) e) in
-    let h : s ≤ lastStandard = leb-true s lastStandard (and-snd (leb 1 s) (leb s lastStandard) e) in
-    record { low = l; high = omega arith }
 
 same-comm : (a b : Queue) → sameQueue a b ≡ sameQueue b a
 same-comm a b =

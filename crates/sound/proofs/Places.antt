@@ -20,7 +20,8 @@ use Rattle.rules.specs.Types.{Process, Thread, noProcess}
 use Rattle.rules.specs.View.{View, isProcess, isThread, belongsTo, actionOf, liveProcess, theProcess, threadAction}
 use Rattle.rules.specs.Store.{Place, Store}
 use Rattle.rules.specs.Sound.{ifLive, ifFree, isLive, processId, threadId, zeroProcess, zeroThread, goodId, goodProcessId, goodThreadId, goodUser, fieldsFit, belongs, hasThread, unmasked, actionUnmasked, processUnmasked, threadUnmasked, isDefault, killStopDefault, flagsKnown, processFlagsKnown, marksHeard, processHeard, threadHeard}
-use Rattle.rules.proofs.Found.{default-is, empty-unmasked}
+use Rattle.rules.proofs.Found.{default-is}
+use Rattle.rules.proofs.Unmaskable.{unmasked-empty}
 use Rattle.tables.specs.Tables.{actionTo, headTo, processTo, threadTo}
 use Rattle.sound.specs.Check.{isNought, headOk, actionOk, liveProcessOk, processOk, ownerOf, liveThreadOk, threadOk}
 
@@ -54,11 +55,11 @@ zero-fits : (n k : ℕ) → eqb n 0 ≡ true → leb n k ≡ true
 zero-fits n k e = le-leb n k (let z : n ≡ 0 = eqb-true n 0 e in omega arith)
 
 zero-unmasked : (m : SigSet) → eqb (m .0) 0 ≡ true → unmasked m ≡ true
-zero-unmasked m e = ap (λ (n : ℕ). unmasked (bits n)) (eqb-true (m .0) 0 e) ∙ empty-unmasked
+zero-unmasked m e = ap (λ (n : ℕ). unmasked (bits n)) (eqb-true (m .0) 0 e) ∙ unmasked-empty
 
 default-unmasked : (a : Action) → isDefault a ≡ true → actionUnmasked a ≡ true
 unfolding actionUnmasked
-default-unmasked a e = ap actionUnmasked (default-is a e) ∙ empty-unmasked
+default-unmasked a e = ap actionUnmasked (default-is a e) ∙ unmasked-empty
 
 default-known : (a : Action) → isDefault a ≡ true → flagsKnown a ≡ true
 unfolding flagsKnown

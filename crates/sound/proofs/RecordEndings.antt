@@ -9,17 +9,19 @@ use lib.ListN.{getD}
 use borrow.Author.Tests.{eqb-true, eqb-false, eq-eqb, ne-eqb, not-true, not-false}
 use Rattle.limits.specs.Limits.{processPlaces, threadPlaces, threadProcess, siQueue}
 use Rattle.lists.specs.Lists.{any, first, find}
-use Rattle.lists.proofs.Bools.{or-cases, or-fst-false, or-snd-false, and-fst, and-snd}
-use Rattle.lists.proofs.Finds.{getD-find, found-inside, found-any, absent-any, any-inside}
+use Rattle.lists.proofs.Bools.{or-cases, or-fst-false, or-snd-false, and-fst}
+use Rattle.lists.proofs.Finds.{found-inside, found-any, absent-any, any-inside}
 use Rattle.types.specs.declared.Siginfo.{Siginfo}
 use Rattle.rules.specs.Types.{Thread, noProcess, noThread}
 use Rattle.rules.specs.Signals.{ignored}
 use Rattle.rules.specs.View.{isProcess, isThread, actionOf, liveProcess, liveThread, theProcess, theThread}
-use Rattle.rules.specs.Store.{Place, view, freeProcess, freeThread}
+use Rattle.rules.specs.Store.{view, freeProcess, freeThread}
 use Rattle.rules.specs.Sound.{nameable, namesLive, aimedAtThread, aimedAtProcess, recordHeard}
+use Rattle.rules.proofs.Marks.{first-held}
+use Rattle.rules.proofs.Aimed.{thread-live, thread-process-live, process-live}
 use Rattle.tables.specs.Tables.{processesOf, threadsOf, heldProcesses, heldThreads, processAt, threadAt, threadTo}
 use Rattle.tables.proofs.Words.{length-heldProcesses, length-heldThreads}
-use Rattle.tables.proofs.Places.{held-at}
+use Rattle.sound.proofs.Places.{placesStore}
 use Rattle.sound.specs.Check.{isDelivered, isFresh, bumped, noted, placesView, processPlace, threadPlace, threadRecordOk, processRecordOk}
 
 -- ---- the shape of the two tests: code, signal, live process, where it is aimed, heard
@@ -53,9 +55,7 @@ module _ (ws : List ℕ) (r : Siginfo) (place : ℕ) (ep : place ≡ processPlac
 
   its-process : Option·getD (first (isProcess (r .process)) (heldProcesses ws)) noProcess ≡ processAt ws place .holds
   its-process =
-      getD-find (isProcess (r .process)) noProcess (heldProcesses ws)
-      ∙ held-at (processesOf ws) (find (isProcess (r .process)) (heldProcesses ws)) freeProcess
-      ∙ ap (λ k. processAt ws k .holds) (sym at-process)
+      first-held freeProcess (isProcess (r .process)) (processesOf ws) ∙ ap (λ k. processAt ws k .holds) (sym at-process)
 
   no-such-process : place ≡ processPlaces → any (isProcess (r .process)) (heldProcesses ws) ≡ false
   no-such-process = absent-any (isProcess (r .process)) noProcess (heldProcesses ws) processPlaces place (length-heldProcesses ws) at-process
@@ -90,9 +90,7 @@ module _ (ws vs : List ℕ) (r : Siginfo) (place queue : ℕ) (ep : place ≡ pr
 
   its-thread : Option·getD (first (isThread (r .thread)) (heldThreads vs)) noThread ≡ threadAt vs queue .holds
   its-thread =
-      getD-find (isThread (r .thread)) noThread (heldThreads vs)
-      ∙ held-at (threadsOf vs) (find (isThread (r .thread)) (heldThreads vs)) freeThread
-      ∙ ap (λ k. threadAt vs k .holds) (sym at-thread)
+      first-held freeThread (isThread (r .thread)) (threadsOf vs) ∙ ap (λ k. threadAt vs k .holds) (sym at-thread)
 
   pub lost : (eqb place processPlaces || eqb queue threadPlaces) ≡ true → false ≡ threadRecordOk (processesOf ws) (threadsOf vs) r
   unfolding threadRecordOk aimedAtThread namesLive liveProcess liveThread view
@@ -135,25 +133,28 @@ module _ (ws vs : List ℕ) (r : Siginfo) (place queue : ℕ) (ep : place ≡ pr
 -- ---- where a good record is counted and noted
 
 module _ (ws : List ℕ) (r : Siginfo) where
-  names-inside : (vs : List (Place Thread)) → namesLive (placesView (processesOf ws) vs) r ≡ true → processPlace (processesOf ws) r < processPlaces
-  unfolding namesLive liveProcess view processPlace
-  names-inside vs e =
-      any-inside (isProcess (r .process)) (heldProcesses ws) processPlaces (length-heldProcesses ws)
-      (and-snd (nameable (r .signal)) _ (and-snd (eqb (r .code) siQueue) _ e))
-
   pub process-counted : processRecordOk (processesOf ws) r ≡ true → processPlace (processesOf ws) r < processPlaces
-  unfolding processRecordOk aimedAtProcess
-  process-counted e = names-inside [] (and-fst _ _ (and-fst _ _ e))
+  unfolding processRecordOk liveProcess view processPlace
+  process-counted e =
+      any-inside (isProcess (r .process)) (heldProcesses ws) processPlaces (length-heldProcesses ws)
+      (process-live (placesStore (processesOf ws) []) r (and-fst (aimedAtProcess (placesView (processesOf ws) []) r) _ e))
 
-  pub thread-counted : (vs : List ℕ) → threadRecordOk (processesOf ws) (threadsOf vs) r ≡ true → processPlace (processesOf ws) r < processPlaces
-  unfolding threadRecordOk aimedAtThread
-  thread-counted vs e = names-inside (threadsOf vs) (and-fst _ _ (and-fst _ _ e))
+  module _ (vs : List ℕ) (e : threadRecordOk (processesOf ws) (threadsOf vs) r ≡ true) where
+    aimed : aimedAtThread (placesView (processesOf ws) (threadsOf vs)) r ≡ true
+    unfolding threadRecordOk
+    aimed = and-fst (aimedAtThread (placesView (processesOf ws) (threadsOf vs)) r) _ e
 
-  pub thread-noted : (vs : List ℕ) → threadRecordOk (processesOf ws) (threadsOf vs) r ≡ true → threadPlace (threadsOf vs) r < threadPlaces
-  unfolding threadRecordOk aimedAtThread liveThread view threadPlace
-  thread-noted vs e =
-      any-inside (isThread (r .thread)) (heldThreads vs) threadPlaces (length-heldThreads vs)
-      (and-fst (any (isThread (r .thread)) (heldThreads vs)) _ (and-snd (namesLive (placesView (processesOf ws) (threadsOf vs)) r) _ (and-fst _ _ e)))
+    pub thread-counted : processPlace (processesOf ws) r < processPlaces
+    unfolding liveProcess view processPlace
+    thread-counted =
+        any-inside (isProcess (r .process)) (heldProcesses ws) processPlaces (length-heldProcesses ws)
+        (thread-process-live (placesStore (processesOf ws) (threadsOf vs)) r aimed)
+
+    pub thread-noted : threadPlace (threadsOf vs) r < threadPlaces
+    unfolding liveThread view threadPlace
+    thread-noted =
+        any-inside (isThread (r .thread)) (heldThreads vs) threadPlaces (length-heldThreads vs)
+        (thread-live (placesStore (processesOf ws) (threadsOf vs)) r aimed)
 
 -- what `admit` did, said of the places that the record names
 module _ (seen counts : List ℕ) (s : ℕ) {ok h : Bool} {place place′ queue queue′ : ℕ} {seen′ counts′ : List ℕ} where

@@ -7,9 +7,9 @@ use lib.Dec.{eqb, leb}
 use lib.ListN.{length, getD, length-map, List·getD-map}
 use borrow.Author.Tests.{eqb-true, le-leb, not-true}
 use native.Mathlib.Omega.{arith}
-use Rattle.limits.specs.Limits.{processPlaces, recordLimit, signals}
+use Rattle.limits.specs.Limits.{processPlaces, recordLimit}
 use Rattle.lists.specs.Lists.{all, count, pairs, pairsWhere}
-use Rattle.lists.proofs.Bools.{split, same-test, and-fst, and-both, and-imp, not-and}
+use Rattle.lists.proofs.Bools.{split, same-test, and-fst, and-imp, not-and}
 use Rattle.lists.proofs.Lists.{Pass, Fail, All-imp, All-any, all-same, all-and, none-count, leading-passes, pairsWhere-pairs}
 use Rattle.lists.proofs.Loops.{all-at}
 use Rattle.lists.proofs.Index.{all-each, all-below, below-all, getD-mapped}
@@ -21,9 +21,10 @@ use Rattle.rules.specs.View.{isProcess, isThread, sameQueue, queueOf, threadQue
 use Rattle.rules.specs.Store.{Place, Store, held, freeProcess, freeThread, inUse, used, markIn, ofProcess, queuedIn, view}
 use Rattle.rules.specs.Sound.{ifLive, ifFree, processId, threadId, zeroThread, namesLive, aimedAtThread, aimedAtProcess, recordHeard, isStandard, notTwice, notMarkedToo, withinLimit, limitKept}
 use Rattle.rules.proofs.Aimed.{thread-live, thread-owner, process-live, process-own}
+use Rattle.rules.proofs.Signals.{standard-is}
 use Rattle.rules.proofs.Marks.{processWith, threadWith, process-below, thread-below, process-marks, thread-marks}
 use Rattle.sound.specs.Check.{tallies, seenSets, ownQueue, isFresh, once, processPlace, threadPlace, threadRecordOk, processRecordOk, threadRecordGood, processRecordGood, threadRecordsOk, processRecordsOk, withinAt, allWithin}
-use Rattle.sound.proofs.Passes.{standard-signal, fresh-marks}
+use Rattle.sound.proofs.Passes.{fresh-marks}
 
 -- ---- a standard signal is pending once
 
@@ -43,10 +44,6 @@ pairs-once rs =
     ∙ sym (pairsWhere-pairs isStandard notTwice rs)
 
 -- ---- a record is not marked too
-
-standard-is : (s : ℕ) → standard s ≡ true → isSignal s ≡ true
-unfolding isSignal
-standard-is s e = let g = standard-signal s e in and-both (le-leb 1 s (g .low)) (le-leb s signals (g .high))
 
 module _ (st : Store) (r : Siginfo) where
   -- by the marks of its place

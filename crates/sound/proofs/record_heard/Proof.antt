@@ -2,8 +2,9 @@ use mathlib.Core.Path.{sym, ap, _∙_}
 use borrow.Author.Tests.{not-true, not-false}
 use Rattle.types.specs.declared.Action.{Action}
 use Rattle.rules.specs.Signals.{ignored}
+use Rattle.rules.proofs.Signals.{nameable-signal}
 use Rattle.tables.specs.Tables.{processAt}
-use Rattle.sound.proofs.Endings.{unnamed, delivered, nameable-range}
+use Rattle.sound.proofs.Endings.{unnamed, delivered}
 use borrow.Author.Needs.{needs}
 use Rattle.sound.proofs.record_heard.Statement.{statement}
 use Rattle.sound.proofs.record_heard.Tie as tie
@@ -19,9 +20,9 @@ returns c =
 
 action-at-requires : tie.Need-action-at-requires
 action-at-requires c κs =
-    let n = nameable-range (c .before .before .before .args .r .signal)
+    let n = nameable-signal (c .before .before .before .args .r .signal)
     (sym (c .before .is-nameable .ensures) ∙ not-false (c .before .is-nameable .result) (c .if1 .left)) in
-    (c .before .before .before .pre .0, (c .before .before .before .pre .1, n))
+    (c .before .before .before .pre .0, (c .before .before .before .pre .1, (n .low, n .high)))
 
 is-ignored-requires : tie.Need-is-ignored-requires
 is-ignored-requires c κs = search needs
