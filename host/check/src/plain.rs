@@ -1,8 +1,9 @@
-//! The clauses of soundness as a Rust programmer would write them. One pass over each table, as the proved check has it, so that the two differ in
-//! nothing but the language.
+//! The clauses of soundness as a Rust programmer would write them. Like the proved check it goes by place and by record, counts and notes what is pending
+//! as it goes, and allocates nothing; unlike it, it looks at the rest of a buffer after its records and not before the places.
 
 use crate::limits::*;
 use crate::Tables;
+use std::array;
 
 const UNMASKABLE: u64 = 1 << (SIGKILL - 1) | 1 << (SIGSTOP - 1);
 
@@ -116,12 +117,12 @@ fn is_zero(bytes: &[u8]) -> bool {
 }
 
 /// What one pass over a buffer has found so far.
-struct Pass {
+struct Pass<const QUEUES: usize> {
     counts: [usize; PROCESS_PLACES],
-    seen: Vec<u64>,
+    seen: [u64; QUEUES],
 }
 
-impl Pass {
+impl<const QUEUES: usize> Pass<QUEUES> {
     fn record_ok(&mut self, places: &Places, record: &[u8], aimed_at_thread: bool) -> bool {
         let process = word(record, RECORD_PROCESS) as u64;
         let Some(place) = places.process(process) else {
@@ -189,19 +190,11 @@ pub fn is_sound(tables: &Tables) -> bool {
     }
     let mut to_threads = Pass {
         counts: [0; PROCESS_PLACES],
-        seen: tables
-            .threads
-            .chunks_exact(THREAD_WORDS)
-            .map(|t| t[THREAD_MARKS])
-            .collect(),
+        seen: array::from_fn::<u64, THREAD_PLACES, _>(|i| places.thread_at(i)[THREAD_MARKS]),
     };
     let mut to_processes = Pass {
         counts: [0; PROCESS_PLACES],
-        seen: tables
-            .processes
-            .chunks_exact(PROCESS_WORDS)
-            .map(|p| p[PROCESS_MARKS])
-            .collect(),
+        seen: array::from_fn::<u64, PROCESS_PLACES, _>(|i| places.process_at(i)[PROCESS_MARKS]),
     };
     to_threads.buffer_ok(&places, &tables.thread_buffer, true)
         && to_processes.buffer_ok(&places, &tables.process_buffer, false)
