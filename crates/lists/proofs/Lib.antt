@@ -5,3 +5,6 @@ pub mod Loops
 pub mod Rows
 pub mod Finds
 pub mod Index
+pub mod Sublists
+pub mod Members
+pub mod Changes

@@ -160,17 +160,19 @@ module _ {A : Type 0} where
   All-keep P n [] c = tt
   All-keep P n (x ∷ xs) c = split (n x) (λ e. rw e ((c .0, e), All-keep P n xs (c .1))) (λ e. rw e (All-keep P n xs (c .1)))
 
-  pub All-dropFirst : (P : A → Type 0) (p : A → Bool) (l : List A) → All P l → All P (dropFirst p l)
-  unfolding dropFirst
-  All-dropFirst P p [] c = tt
-  All-dropFirst P p (x ∷ xs) c = split (p x) (λ e. rw e (c .1)) (λ e. rw e (c .0, All-dropFirst P p xs (c .1)))
+  -- what passes is changed, what holds of the rest is kept
+  pub All-changed : (P Q : A → Type 0) (t : A → Bool) (g : A → A) → ((x : A) → t x ≡ true → P x → Q (g x)) → ((x : A) → t x ≡ false → P x → Q x)
+      → (l : List A) → All P l → All Q (change t g l)
+  unfolding change
+  All-changed P Q t g h k [] c = tt
+  All-changed P Q t g h k (x ∷ xs) c =
+      split (t x)
+      (λ e. rw e (h x e (c .0), All-changed P Q t g h k xs (c .1)))
+      (λ e. rw e (k x e (c .0), All-changed P Q t g h k xs (c .1)))
 
   pub All-change : (P : A → Type 0) (t : A → Bool) (g : A → A) → ((x : A) → t x ≡ true → P x → P (g x)) → (l : List A) → All P l
       → All P (change t g l)
-  unfolding change
-  All-change P t g h [] c = tt
-  All-change P t g h (x ∷ xs) c =
-      split (t x) (λ e. rw e (h x e (c .0), All-change P t g h xs (c .1))) (λ e. rw e (c .0, All-change P t g h xs (c .1)))
+  All-change P t g h = All-changed P P t g h (λ x _ c. c)
 
   pub All-replaceFirst : (P : A → Type 0) (t : A → Bool) (a : A) → P a → (l : List A) → All P l → All P (replaceFirst t a l)
   unfolding replaceFirst
@@ -228,6 +230,10 @@ module _ {A : Type 0} (p : A → Bool) where
   all-append [] ys = refl
   all-append (x ∷ xs) ys = ap (λ b. p x && b) (all-append xs ys) ∙ sym (and-assoc (p x) (all p xs) (all p ys))
 
+  pub all-end : (l : List A) (x : A) → all p l ≡ true → p x ≡ true → all p (l ++ (x ∷ [])) ≡ true
+  unfolding all
+  all-end l x e h = all-append l (x ∷ []) ∙ and-both e (and-both h refl)
+
   pub any-map : {B : Type 0} (f : B → A) (l : List B) → any p (map f l) ≡ any (λ x. p (f x)) l
   unfolding any
   any-map f [] = refl
@@ -252,13 +258,10 @@ module _ {A : Type 0} (p : A → Bool) where
   pub all-replaceFirst : (t : A → Bool) (a : A) → p a ≡ true → (l : List A) → all p l ≡ true → all p (replaceFirst t a l) ≡ true
   all-replaceFirst t a h l e = All-all (replaceFirst t a l) (All-replaceFirst (Pass p) t a h l (all-All l e))
 
-  -- a change, and a map, that the test survives
+  -- a change that the test survives
   pub all-change-keeps : (t : A → Bool) (g : A → A) → ((x : A) → t x ≡ true → p x ≡ true → p (g x) ≡ true) → (l : List A)
       → all p l ≡ true → all p (change t g l) ≡ true
   all-change-keeps t g h l e = All-all (change t g l) (All-change (Pass p) t g h l (all-All l e))
-
-  pub all-map-keeps : (f : A → A) → ((x : A) → p x ≡ true → p (f x) ≡ true) → (l : List A) → all p l ≡ true → all p (map f l) ≡ true
-  all-map-keeps f h l e = All-all (map f l) (All-map (Pass p) f l (All-imp (Pass p) (λ x. Pass p (f x)) h l (all-All l e)))
 
   -- a default that passes does as well as a member
   pub all-getD : (l : List A) (i : ℕ) (d : A) → p d ≡ true → all p l ≡ true → p (getD l i d) ≡ true
@@ -272,9 +275,6 @@ module _ {A : Type 0} (p : A → Bool) where
   all-first t [] d h e = h
   all-first t (x ∷ xs) d h e =
       split (t x) (λ f. rw f (and-fst (p x) (all p xs) e)) (λ f. rw f (all-first t xs d h (and-snd (p x) (all p xs) e)))
-
-  pub all-keep : (n : A → Bool) (l : List A) → all p l ≡ true → all p (keep n l) ≡ true
-  all-keep n l e = All-all (keep n l) (All-imp (λ x. Pass p x × (n x ≡ true)) (Pass p) (λ x c. c .0) (keep n l) (All-keep (Pass p) n l (all-All l e)))
 
   -- what is kept passes
   pub all-kept : (l : List A) → all p (keep p l) ≡ true
@@ -425,6 +425,9 @@ module _ {A : Type 0} where
   isSome-first p [] = refl
   isSome-first p (x ∷ xs) = split (p x) (λ e. rw e) (λ e. rw e (isSome-first p xs))
 
+  pub any-first : (p : A → Bool) (xs ys : List A) → first p xs ≡ first p ys → any p xs ≡ any p ys
+  any-first p xs ys e = sym (isSome-first p xs) ∙ ap isSome e ∙ isSome-first p ys
+
   pub first-none : (p : A → Bool) (l : List A) → any p l ≡ false → first p l ≡ none
   first-none p l e = isSome-no (first p l) (isSome-first p l ∙ e)
 
@@ -437,12 +440,16 @@ module _ {A : Type 0} where
   pub first-same : (p q : A → Bool) (l : List A) → ((x : A) → p x ≡ q x) → first p l ≡ first q l
   first-same p q l h = ap (λ (f : A → Bool). first f l) (fun-ext h)
 
+  -- a test that x passes is passed in the list
+  abbrev pub Stands : List A → A → Type 0
+  Stands l x = (p : A → Bool) → p x ≡ true → any p l ≡ true
+
   -- the first that passes: it passes, and stands in the list
   pub record Found (p : A → Bool) (l : List A) : Type 0 where
     pub it : A
     pub is-first : first p l ≡ some it
     pub passes : p it ≡ true
-    pub stands : (q : A → Bool) → q it ≡ true → any q l ≡ true
+    pub stands : Stands l it
 
   pub found : (p : A → Bool) (l : List A) → any p l ≡ true → Found p l
   unfolding any
@@ -455,7 +462,7 @@ module _ {A : Type 0} where
       record { it = r .it; is-first = first-no p x xs f ∙ r .is-first; passes = r .passes; stands = λ q h. or-right (q x) (r .stands q h) })
 
   -- the same of one that is known to be the first
-  pub first-found : (p : A → Bool) (l : List A) (a : A) → first p l ≡ some a → (p a ≡ true) × ((q : A → Bool) → q a ≡ true → any q l ≡ true)
+  pub first-found : (p : A → Bool) (l : List A) (a : A) → first p l ≡ some a → (p a ≡ true) × Stands l a
   first-found p l a e =
       let r : Found p l = found p l (some-first p l a e) in
       let z : r .it ≡ a = cc (r .is-first) in
@@ -605,16 +612,6 @@ module _ {A : Type 0} (p : A → Bool) where
   count-replaceFirst-le t a [] = omega arith
   count-replaceFirst-le t a (x ∷ xs) = split (t x) (λ e. rw e (omega arith)) (λ e. rw e (omega (arith, count-replaceFirst-le t a xs)))
 
-  pub count-keep-le : (n : A → Bool) (l : List A) → count p (keep n l) ≤ count p l
-  unfolding count keep
-  count-keep-le n [] = omega arith
-  count-keep-le n (x ∷ xs) = split (n x) (λ e. rw e (omega (arith, count-keep-le n xs))) (λ e. rw e (omega (arith, count-keep-le n xs)))
-
-  pub count-dropFirst-le : (n : A → Bool) (l : List A) → count p (dropFirst n l) ≤ count p l
-  unfolding count dropFirst
-  count-dropFirst-le n [] = omega arith
-  count-dropFirst-le n (x ∷ xs) = split (n x) (λ e. rw e (omega arith)) (λ e. rw e (omega (arith, count-dropFirst-le n xs)))
-
   pub count-dropFirst : (l : List A) → any p l ≡ true → suc (count p (dropFirst p l)) ≡ count p l
   unfolding count dropFirst any
   count-dropFirst [] e = clash e refl
@@ -655,9 +652,6 @@ module _ {A : Type 0} (p t : A → Bool) (g : A → A) (l : List A) where
   count-changed h = count-change ∙ count-same (λ x. cond (t x) (p (g x)) (p x)) p l (λ x. cond-kept (t x) (h x))
 
 module _ {A : Type 0} (p : A → Bool) where
-  pub length-keep : (l : List A) → length (keep p l) ≤ length l
-  length-keep l = omega (arith, count-keep p l, count-le-length p l)
-
   pub length-change : (g : A → A) (l : List A) → length (change p g l) ≡ length l
   length-change g l = ap length (change-map p g l) ∙ length-map l (λ x. cond (p x) (g x) x)
 
@@ -672,12 +666,6 @@ module _ {A : Type 0} (p : A → Bool) where
   length-dropFirst (x ∷ xs) e =
       split (p x) (λ f. rw f) (λ f. rw f (ap suc (length-dropFirst xs (sym (any-no p x xs f) ∙ e))))
 
-  pub length-dropFirst-le : (l : List A) → length (dropFirst p l) ≤ length l
-  length-dropFirst-le l =
-      split (any p l)
-      (λ e. omega (arith, length-dropFirst l e))
-      (λ e. omega (arith, ap length (dropFirst-same p l e)))
-
 -- ---- every two members
 
 module _ {A : Type 0} where
@@ -691,13 +679,6 @@ module _ {A : Type 0} where
   pairs-imp r s h [] e = e
   pairs-imp r s h (x ∷ xs) e =
       and-both (all-imp (r x) (s x) (h x) xs (and-fst (all (r x) xs) (pairs r xs) e)) (pairs-imp r s h xs (and-snd (all (r x) xs) (pairs r xs) e))
-
-  pub pairs-keep : (r : A → A → Bool) (p : A → Bool) (l : List A) → pairs r l ≡ true → pairs r (keep p l) ≡ true
-  unfolding pairs keep
-  pairs-keep r p [] e = e
-  pairs-keep r p (x ∷ xs) e =
-      let i : pairs r (keep p xs) ≡ true = pairs-keep r p xs (and-snd (all (r x) xs) (pairs r xs) e) in
-      split (p x) (λ f. rw f (and-both (all-keep (r x) p xs (and-fst (all (r x) xs) (pairs r xs) e)) i)) (λ f. rw f i)
 
   all-or : (b : Bool) (q : A → Bool) (l : List A) → (b || all q l) ≡ all (λ x. b || q x) l
   all-or true q l = sym (All-all (λ _. true) l (All-every (λ _. true ≡ true) (λ _. refl) l))

@@ -11,7 +11,7 @@ use lib.ListN.{length, getD, take, drop, set, replicate, length-replicate, drop-
 use lib.Seq.{take-suc, take-all, drop-cons, map-set-same, set-getD, getD-drop, drop-drop, drop-set-lt, take-suc-set, append-snoc, paste, paste-suc, length-take-le, drop-at}
 use Rattle.lists.specs.Lists.{all, any, count, find, first, keep, leading, dropFirst, change, replaceFirst, pairs, range, padded, All}
 use Rattle.lists.proofs.Bools.{split, clash, and-fst, and-snd, and-both, and-left, and-right, or-both}
-use Rattle.lists.proofs.Lists.{Pass, All-at, All-set, all-All, All-all, all-append, any-append, all-map, any-map, count-map, all-same, any-no, all-yes, all-no, any-All, find-yes, find-no, keep-yes, keep-no, count-yes, count-no, leading-yes, leading-no, change-same, any-count, count-none}
+use Rattle.lists.proofs.Lists.{Pass, All-at, All-set, all-All, All-all, all-append, all-end, any-append, all-map, any-map, count-map, all-same, any-no, all-yes, all-no, any-All, find-yes, find-no, keep-yes, keep-no, count-yes, count-no, leading-yes, leading-no, change-same, any-count, count-none}
 
 -- ---- a turn: what is left from i on
 
@@ -33,9 +33,7 @@ module _ {A : Type 0} (f : A → Bool) (d : A) where
   all-none xs = refl
 
   pub all-more : (xs : List A) (i : ℕ) → i < length xs → all f (take i xs) ≡ true → f (getD xs i d) ≡ true → all f (take (i + 1) xs) ≡ true
-  unfolding all
-  all-more xs i h a e =
-      ap (all f) (upto xs i d h) ∙ all-append f (take i xs) (getD xs i d ∷ []) ∙ and-both a (and-both e refl)
+  all-more xs i h a e = ap (all f) (upto xs i d h) ∙ all-end f (take i xs) (getD xs i d) a e
 
   pub all-fails : (xs : List A) (i : ℕ) → i < length xs → f (getD xs i d) ≡ false → all f xs ≡ false
   all-fails xs i h e = split (all f xs) (λ a. clash (all-at xs i h a) e) (λ a. a)
@@ -303,12 +301,7 @@ module _ (f : ℕ → Bool) (k : ℕ) where
   range-none = refl
 
   pub range-more : (i : ℕ) → all f (range k i) ≡ true → f (k + i) ≡ true → all f (range k (i + 1)) ≡ true
-  unfolding all
-  range-more i a e =
-      ap (λ m. all f (range k m)) (add-one i)
-      ∙ ap (all f) (range-end k i)
-      ∙ all-append f (range k i) ((k + i) ∷ [])
-      ∙ and-both a (and-both e refl)
+  range-more i a e = ap (λ m. all f (range k m)) (add-one i) ∙ ap (all f) (range-end k i) ∙ all-end f (range k i) (k + i) a e
 
   pub range-fails : (n i : ℕ) → i < n → f (k + i) ≡ false → all f (range k n) ≡ false
   range-fails n i h e = all-fails f 0 (range k n) i (rw length-range h) (ap f (getD-range k n i h) ∙ e)

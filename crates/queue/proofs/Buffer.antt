@@ -1,81 +1,27 @@
 -- Laws of a buffer: its bytes, its slots and the records in use. Assumes nothing.
-use mathlib.Core.Path.{_≡_, refl, sym, ap, ap₂, subst, _∙_}
-use mathlib.Core.Bool.{Bool, true, false, _&&_}
-use mathlib.Core.List.{List, _++_}
-use Prim.Native.Nat.{ℕ, _-_, _*_, _≤_, _<_}
+use mathlib.Core.Path.{_≡_, sym, ap, subst, _∙_}
+use mathlib.Core.Bool.{Bool, true, false}
+use mathlib.Core.List.{List, append-nil}
+use Prim.Native.Nat.{ℕ, _*_, _≤_, _<_}
 use native.Mathlib.Nat.{le-trans}
 use native.Mathlib.Omega.{arith}
 use lib.Dec.{eqb}
-use lib.ListN.{length, getD, drop, set, replicate, length-drop, take-append-drop}
+use lib.ListN.{length, getD, drop, set, replicate, drop-of-length-le}
 use lib.Seq.{sets}
 use borrow.Author.Tests.{eqb-true, eq-eqb, ne-eqb}
 use Rattle.limits.specs.Limits.{bufferRecords, bufferBytes, recordBytes}
-use Rattle.lists.specs.Lists.{all, find, dropFirst, leading, padded}
+use Rattle.lists.specs.Lists.{all, find, dropFirst, padded}
 use Rattle.lists.specs.Rows.{row}
 use Rattle.lists.proofs.Bools.{and-fst, and-snd, and-both, and-left}
-use Rattle.lists.proofs.Lists.{Pass, All-imp, all-All, All-all, all-replicate, leading-passes, leading-padded, leading-take, length-leading, getD-leading, drop-padded, all-equal}
-use Rattle.lists.proofs.Loops.{dropFirst-find, same-from}
+use Rattle.lists.proofs.Loops.{cleared, dropFirst-find, same-from}
 use Rattle.types.specs.declared.Siginfo.{Siginfo}
 use Rattle.types.specs.Values.{noSiginfo}
 use Rattle.siginfo.specs.Bytes.{Bytes, Fits, siginfoOf, bytesOf, slots, slotBytes}
 use Rattle.siginfo.proofs.Slots.{length-slots, slot-at, slot-put, slotBytes-slots}
 use Rattle.rules.specs.Store.{inUse, used, onSlots}
 use Rattle.rules.specs.Sound.{isZero, restZero}
+use Rattle.rules.proofs.Slots.{length-used, used-inUse, used-at, laid-padded, used-padded, padded-laid}
 use Rattle.queue.specs.Queue.{slotsOf, recordsOf, isLaid, removeAt}
-
--- ---- a free slot
-
-pub zero-is : (r : Siginfo) → isZero r ≡ true → r ≡ noSiginfo
-unfolding isZero
-zero-is r =
-    field (r .process) _ (λ e₀. field (r .thread) _ (λ e₁. field (r .signal) _ (λ e₂. field (r .code) _ (λ e₃. field (r .sender) _
-    (λ e₄. field (r .uid) _ (λ e₅ h. let e₆ : r .value ≡ 0 = eqb-true (r .value) 0 h in
-    λ i. record { process = e₀ i; thread = e₁ i; signal = e₂ i; code = e₃ i; sender = e₄ i; uid = e₅ i; value = e₆ i }))))))
-  where
-    field : (n : ℕ) (b : Bool) → (n ≡ 0 → b ≡ true → r ≡ noSiginfo) → (eqb n 0 && b) ≡ true → r ≡ noSiginfo
-    field n b f e = f (eqb-true n 0 (and-fst (eqb n 0) b e)) (and-snd (eqb n 0) b e)
-
-pub is-zero : (r : Siginfo) → r ≡ noSiginfo → isZero r ≡ true
-unfolding isZero
-is-zero r e = ap isZero e
-
-pub zero-free : inUse noSiginfo ≡ false
-unfolding inUse
-zero-free = refl
-
--- ---- lists of slots
-
-module _ (cs : List Siginfo) where
-  pub length-used : length (used cs) ≤ length cs
-  unfolding used
-  length-used = length-leading inUse cs
-
-  pub used-inUse : all inUse (used cs) ≡ true
-  unfolding used
-  used-inUse = All-all inUse (leading inUse cs) (leading-passes inUse cs)
-
-  pub used-at : (i : ℕ) (d : Siginfo) → i < length (used cs) → getD (used cs) i d ≡ getD cs i d
-  unfolding used
-  used-at i d h = getD-leading inUse cs i d h
-
-  -- the records in use, and zero behind them
-  pub laid-padded : restZero cs ≡ true → cs ≡ padded noSiginfo (length cs) (used cs)
-  unfolding restZero used padded
-  laid-padded e =
-      let k : ℕ = length (leading inUse cs) in
-      let z : drop k cs ≡ replicate (length (drop k cs)) noSiginfo =
-      all-equal noSiginfo (drop k cs) (All-imp (Pass isZero) (λ r. r ≡ noSiginfo) zero-is (drop k cs) (all-All isZero (drop k cs) e)) in
-      sym (take-append-drop k cs) ∙ ap₂ (λ x y. x ++ y) (sym (leading-take inUse cs)) (z ∙ ap (λ n. replicate n noSiginfo) (length-drop k cs))
-
-module _ (n : ℕ) (rs : List Siginfo) (u : all inUse rs ≡ true) where
-  pub used-padded : used (padded noSiginfo n rs) ≡ rs
-  unfolding used
-  used-padded = leading-padded inUse noSiginfo n rs (all-All inUse rs u) zero-free
-
-  pub padded-laid : restZero (padded noSiginfo n rs) ≡ true
-  unfolding restZero
-  padded-laid =
-      rw (used-padded, drop-padded noSiginfo n rs) (all-replicate isZero noSiginfo (is-zero noSiginfo refl) (n - length rs))
 
 -- ---- a buffer
 
@@ -135,6 +81,13 @@ module _ (g : List Siginfo → List Siginfo) (b b′ : List ℕ) (e : slotsOf b�
   pub laid-after : length b′ ≡ bufferBytes → isLaid b′ ≡ true
   unfolding onSlots recordsOf
   laid-after = slots-laid b′ (g (recordsOf b)) u e
+
+-- all slots cleared
+pub all-cleared : (b : List ℕ) → cleared noSiginfo (slotsOf b) 0 bufferRecords ≡ replicate bufferRecords noSiginfo
+unfolding cleared
+all-cleared b =
+    let over : length (slotsOf b) ≤ bufferRecords = omega (arith, length-slotsOf b) in
+    rw (drop-of-length-le (slotsOf b) over) (append-nil (replicate bufferRecords noSiginfo))
 
 pub drop-oldest : (p : Siginfo → Bool) (rs : List Siginfo) → removeAt (find p rs) rs ≡ dropFirst p rs
 unfolding removeAt

@@ -5,8 +5,13 @@ use mathlib.Core.List.{List, [], _∷_, _++_}
 use lib.Dec.{eqb}
 use lib.ListN.{length, take, drop}
 use Rattle.limits.specs.Limits.{bufferRecords, bufferBytes}
+use Rattle.lists.specs.Lists.{any}
+use Rattle.sigset.specs.declared.SigSet.{SigSet}
+use Rattle.sigset.specs.Set.{setOf}
 use Rattle.types.specs.declared.Siginfo.{Siginfo}
 use Rattle.siginfo.specs.Bytes.{slots}
+use Rattle.rules.specs.Types.{Queue}
+use Rattle.rules.specs.View.{inQueue}
 use Rattle.rules.specs.Store.{used, spared}
 use Rattle.rules.specs.Sound.{restZero}
 use Rattle.queue.specs.declared.Doomed.{Doomed}
@@ -23,6 +28,10 @@ recordsOf b = used (slotsOf b)
 -- of a buffer's length, and zero behind the records in use
 unfoldable pub isLaid : List ℕ → Bool
 isLaid b = eqb (length b) bufferBytes && restZero (slotsOf b)
+
+-- the signals that have a record of the queue
+unfoldable pub signalsIn : Queue → List Siginfo → SigSet
+signalsIn q rs = setOf (λ s. any (inQueue q s) rs)
 
 -- ---- what the operations do to the records
 

@@ -2,7 +2,7 @@
 ghost use mathlib.Core.Path.{_≡_};
 ghost use mathlib.Core.Bool.{true};
 ghost use Prim.Native.Nat.{_≤_, _<_};
-ghost use lib.ListN.{length, drop};
+ghost use lib.ListN.{length, drop, replicate};
 ghost use Rattle.limits.specs.Limits.{bufferRecords, bufferBytes};
 ghost use Rattle.lists.specs.Lists.{all, find, count, keep};
 ghost use Rattle.lists.proofs.Loops.{cleared};
@@ -10,7 +10,7 @@ ghost use Rattle.types.specs.Values.{noSiginfo};
 ghost use Rattle.rules.specs.View.{inQueue, targetQueue};
 ghost use Rattle.rules.specs.Store.{inUse, onSlots, ofProcess};
 ghost use Rattle.rules.specs.Sound.{isZero};
-ghost use Rattle.queue.specs.Queue.{slotsOf, recordsOf, isLaid, appended, removeAt, spares};
+ghost use Rattle.queue.specs.Queue.{slotsOf, recordsOf, isLaid, appended, removeAt, spares, signalsIn};
 use limits::BUFFER_BYTES;
 use limits::BUFFER_RECORDS;
 use sigset::SigSet;
@@ -101,6 +101,24 @@ pub fn first_of(b: &[u8], process: u32, thread: u32, signal: u32) -> usize
     i
 }
 
+// The signals that have a record of a queue.
+pub fn signals_of(b: &[u8], process: u32, thread: u32) -> SigSet
+    requires { ⌜ length (now b) ≡ bufferBytes ⌝ }
+    ensures { λ s. ⌜ s ≡ signalsIn (targetQueue process thread) (recordsOf (now (b .entry))) ⌝ }
+{
+    let n = used(b);
+    let mut i: usize = 0;
+    let mut set = SigSet::EMPTY;
+    while i < n {
+        let r = siginfo::read(b, i);
+        if (process == r.process) & (thread == r.thread) {
+            set = SigSet::union(set, SigSet::of_signal(r.signal));
+        }
+        i += 1;
+    }
+    set
+}
+
 // How many records a process has in the buffer.
 pub fn count_of(b: &[u8], process: u32) -> usize
     requires { ⌜ length (now b) ≡ bufferBytes ⌝ }
@@ -158,6 +176,14 @@ fn clear(b: &mut [u8], j: usize, n: usize)
         siginfo::write(b, j + t, NO_SIGINFO);
         t += 1;
     }
+}
+
+// No record is left, whatever the buffer held.
+pub fn empty(b: &mut [u8])
+    requires { ⌜ length (now b) ≡ bufferBytes ⌝ }
+    ensures { λ _. ⌜ slotsOf (now (b .exit)) ≡ replicate bufferRecords noSiginfo ⌝ }
+{
+    clear(b, 0, BUFFER_RECORDS);
 }
 
 // One record more, behind the others.

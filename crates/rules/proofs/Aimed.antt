@@ -26,9 +26,13 @@ module _ {A : Type 0} (p t : A → Bool) (xs : List (Place A)) where
       omega (arith, count-map p held xs)
 
 module _ (st : Store) (r : Siginfo) where
-  names-process : namesLive (view st) r ≡ true → liveProcess (view st) (r .process) ≡ true
+  pub names-process : namesLive (view st) r ≡ true → liveProcess (view st) (r .process) ≡ true
   unfolding namesLive
   names-process e = and-snd (nameable (r .signal)) _ (and-snd (eqb (r .code) siQueue) _ e)
+
+  pub names-signal : namesLive (view st) r ≡ true → nameable (r .signal) ≡ true
+  unfolding namesLive
+  names-signal e = and-fst (nameable (r .signal)) _ (and-snd (eqb (r .code) siQueue) _ e)
 
   module _ (e : aimedAtThread (view st) r ≡ true) where
     pub thread-live : liveThread (view st) (r .thread) ≡ true

@@ -23,7 +23,7 @@ unfolding computing
 sound-cleared = refl
 
 -- a free place has nobody's id
-no-id : (n : ℕ) → (not (eqb n 0) && eqb 0 n) ≡ false
+pub no-id : (n : ℕ) → (not (eqb n 0) && eqb 0 n) ≡ false
 no-id zero = refl
 no-id (suc n) = and-right (not (eqb (suc n) 0)) (eqb·zero-suc n)
 

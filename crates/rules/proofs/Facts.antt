@@ -1,17 +1,16 @@
 -- What a sound store gives a call, fact by fact. Assumes nothing.
 use Prim.Native.Nat.{ℕ, _-_, _≤_}
 use mathlib.Core.Path.{_≡_, refl, sym, ap, _∙_}
-use mathlib.Core.Bool.{true, false, not, _&&_}
+use mathlib.Core.Bool.{true, false, _&&_}
 use mathlib.Core.List.{List}
 use native.Mathlib.Omega.{arith}
-use lib.ListN.{length, replicate, length-replicate}
-use borrow.Author.Tests.{eqb-true, eq-eqb, leb-true, not-true}
+use lib.ListN.{length}
+use borrow.Author.Tests.{eqb-true, leb-true}
 use Rattle.limits.specs.Limits.{processPlaces, threadPlaces, bufferRecords, signals, recordLimit, SIGKILL, SIGSTOP}
 use Rattle.lists.specs.Lists.{all, any, count, All}
-use Rattle.lists.proofs.Bools.{split, and-fst, and-snd, and-both, and-right, or-both, imp-use}
-use Rattle.lists.proofs.Lists.{Pass, Fail, All-imp, all-All, All-any, all-getD, all-replicate}
+use Rattle.lists.proofs.Bools.{split, and-fst, and-snd, and-right, or-both}
+use Rattle.lists.proofs.Lists.{Pass, Fail, All-imp, all-All, All-any, all-getD}
 use Rattle.sigset.specs.Set.{has, isUnmaskable}
-use Rattle.types.specs.declared.Action.{Action}
 use Rattle.types.specs.declared.Siginfo.{Siginfo}
 use Rattle.types.specs.Values.{defaultAction}
 use Rattle.rules.specs.Types.{Process, Queue}
@@ -22,7 +21,8 @@ use Rattle.rules.specs.Sound.{processId, threadId, goodId, goodProcessId
 use Rattle.rules.proofs.Aimed.{thread-process-live, process-live}
 use Rattle.rules.proofs.Ids.{one-held}
 use Rattle.rules.proofs.Marks.{processWith, threadWith, the-process, the-thread, process-is, thread-is, process-marks, thread-marks}
-use Rattle.rules.proofs.Found.{default-is, heard-at, every-process, every-thread, live-process-has, live-thread-has, none-queued}
+use Rattle.rules.proofs.Found.{default-is, heard-at, not-marked, every-process, every-thread, live-process-has, live-thread-has, none-queued}
+use Rattle.rules.proofs.Members.{own-free-process, own-free-thread}
 use Rattle.rules.proofs.Parts.{parts}
 use Rattle.rules.proofs.Unmaskable.{unmasked-empty, unmasked-has}
 
@@ -50,8 +50,7 @@ module _ (st : Store) (e : sound st ≡ true) where
   pub actions-length : (p : ℕ) → length (theProcess (view st) p .actions) ≡ signals
   unfolding actionsLong
   actions-length p =
-      let a : actionsLong (processWith st p) ≡ true =
-      every-process st actionsLong (eq-eqb _ signals (length-replicate signals defaultAction)) (parts st e .lengths .actions) p in
+      let a : actionsLong (processWith st p) ≡ true = every-process st actionsLong (own-free-process .long) (parts st e .lengths .actions) p in
       rw (the-process st p) (eqb-true (length (processWith st p .holds .actions)) signals a)
 
   -- ids
@@ -84,8 +83,7 @@ module _ (st : Store) (e : sound st ≡ true) where
   -- the fields of a process
 
   process-fits : (p : ℕ) → fieldsFit (processWith st p) ≡ true
-  unfolding fieldsFit goodUser
-  process-fits = every-process st fieldsFit refl (parts st e .fields)
+  process-fits = every-process st fieldsFit (own-free-process .fields) (parts st e .fields)
 
   pub users-fit : (p : ℕ) → UsersFit (theProcess (view st) p)
   unfolding fieldsFit
@@ -113,12 +111,10 @@ module _ (st : Store) (e : sound st ≡ true) where
   -- sets without 9 and 19
 
   process-sets : (p : ℕ) → processUnmasked (processWith st p) ≡ true
-  unfolding processUnmasked actionUnmasked
-  process-sets = every-process st processUnmasked (and-both unmasked-empty (all-replicate actionUnmasked defaultAction unmasked-empty signals)) (parts st e .processSets)
+  process-sets = every-process st processUnmasked (own-free-process .sets) (parts st e .processSets)
 
   thread-sets : (t : ℕ) → threadUnmasked (threadWith st t) ≡ true
-  unfolding threadUnmasked
-  thread-sets = every-thread st threadUnmasked (and-both unmasked-empty unmasked-empty) (parts st e .threadSets)
+  thread-sets = every-thread st threadUnmasked (own-free-thread .sets) (parts st e .threadSets)
 
   pub mask-unmasked : (t : ℕ) → unmasked (theThread (view st) t .mask) ≡ true
   unfolding threadUnmasked
@@ -156,13 +152,7 @@ module _ (st : Store) (e : sound st ≡ true) where
       rw (the-process st p) (all-getD actionUnmasked (processWith st p .holds .actions) (s - 1) defaultAction unmasked-empty a)
 
   defaults : (p : ℕ) → killStopDefault (processWith st p) ≡ true
-  unfolding killStopDefault actionOf isDefault
-  defaults =
-      let l : List Action = replicate signals defaultAction in
-      let a : all isDefault l ≡ true = all-replicate isDefault defaultAction refl signals in
-      every-process st killStopDefault
-      (and-both (all-getD isDefault l (SIGKILL - 1) defaultAction refl a) (all-getD isDefault l (SIGSTOP - 1) defaultAction refl a))
-      (parts st e .defaults)
+  defaults = every-process st killStopDefault (own-free-process .defaults) (parts st e .defaults)
 
   pub kill-default : (p : ℕ) → actionOf (theProcess (view st) p) SIGKILL ≡ defaultAction
   unfolding killStopDefault
@@ -177,8 +167,7 @@ module _ (st : Store) (e : sound st ≡ true) where
   pub flags-known : (p s : ℕ) → flagsKnown (actionOf (theProcess (view st) p) s) ≡ true
   unfolding processFlagsKnown actionOf flagsKnown
   flags-known p s =
-      let a : all flagsKnown (processWith st p .holds .actions) ≡ true =
-      every-process st processFlagsKnown (all-replicate flagsKnown defaultAction refl signals) (parts st e .flags) p in
+      let a : all flagsKnown (processWith st p .holds .actions) ≡ true = every-process st processFlagsKnown (own-free-process .flags) (parts st e .flags) p in
       rw (the-process st p) (all-getD flagsKnown (processWith st p .holds .actions) (s - 1) defaultAction refl a)
 
   -- records
@@ -221,18 +210,15 @@ module _ (st : Store) (e : sound st ≡ true) where
   abbrev unmarked : Siginfo → Type 0
   unmarked r = standard (r .signal) ≡ true → markIn st (queueOf r) (r .signal) ≡ false
 
-  not-marked : (rs : List Siginfo) → all (notMarkedToo st) rs ≡ true → All unmarked rs
-  unfolding notMarkedToo isStandard
-  not-marked rs a =
-      All-imp (Pass (notMarkedToo st)) unmarked
-      (λ r h s. not-true (markIn st (queueOf r) (r .signal)) (imp-use (standard (r .signal)) (not (markIn st (queueOf r) (r .signal))) h s))
-      rs (all-All (notMarkedToo st) rs a)
+  none-marked : (rs : List Siginfo) → all (notMarkedToo st) rs ≡ true → All unmarked rs
+  unfolding isStandard
+  none-marked rs a = All-imp (Pass (notMarkedToo st)) unmarked (not-marked st) rs (all-All (notMarkedToo st) rs a)
 
   pub thread-not-both : All unmarked (used (st .threadBuffer))
-  thread-not-both = not-marked (used (st .threadBuffer)) (parts st e .threadUnmarked)
+  thread-not-both = none-marked (used (st .threadBuffer)) (parts st e .threadUnmarked)
 
   pub process-not-both : All unmarked (used (st .processBuffer))
-  process-not-both = not-marked (used (st .processBuffer)) (parts st e .processUnmarked)
+  process-not-both = none-marked (used (st .processBuffer)) (parts st e .processUnmarked)
 
   -- marks
 

@@ -8,9 +8,9 @@ use lib.Dec.{eqb}
 use borrow.Author.Tests.{eqb-true, not-true}
 use Rattle.limits.specs.Limits.{signals}
 use Rattle.lists.specs.Lists.{all, count, find, range}
-use Rattle.lists.proofs.Bools.{split, clash, and-fst, and-snd, imp-use}
-use Rattle.lists.proofs.Lists.{Pass, Fail, All-imp, all-All, All-any, all-getD, none-count}
-use Rattle.lists.proofs.Loops.{all-at, All-range-at}
+use Rattle.lists.proofs.Bools.{split, clash, and-fst, and-snd, imp-use, imp-by}
+use Rattle.lists.proofs.Lists.{Pass, Fail, All-imp, all-All, All-all, All-any, all-getD, none-count}
+use Rattle.lists.proofs.Loops.{all-at, All-range, All-range-at}
 use Rattle.sigset.specs.declared.SigSet.{SigSet}
 use Rattle.sigset.specs.Set.{has, bits}
 use Rattle.types.specs.declared.Action.{Action}
@@ -18,11 +18,11 @@ use Rattle.types.specs.declared.Siginfo.{Siginfo}
 use Rattle.types.specs.Values.{defaultAction}
 use Rattle.rules.specs.Types.{Process, Thread}
 use Rattle.rules.specs.Signals.{isSignal, ignored}
-use Rattle.rules.specs.View.{isProcess, isThread, liveProcess, liveThread}
-use Rattle.rules.specs.Store.{Place, Store, held, freeProcess, freeThread, ofProcess, view}
-use Rattle.rules.specs.Sound.{ifLive, isLive, processId, threadId, isDefault, markHeard, marksHeard}
+use Rattle.rules.specs.View.{isProcess, isThread, queueOf, liveProcess, liveThread}
+use Rattle.rules.specs.Store.{Place, Store, held, freeProcess, freeThread, ofProcess, markIn, view}
+use Rattle.rules.specs.Sound.{ifLive, isLive, processId, threadId, isDefault, isStandard, notMarkedToo, markHeard, marksHeard}
 use Rattle.rules.proofs.Marks.{processWith, threadWith, process-below, thread-below, process-is, thread-is, process-named, thread-named}
-use Rattle.rules.proofs.Signals.{is-signal}
+use Rattle.rules.proofs.Signals.{is-signal, signal-is}
 
 -- ---- single values
 
@@ -46,6 +46,19 @@ heard-at m f e s g h =
     let u : s ≤ signals = is-signal s g .high in
     not-true (ignored (f s) s)
     (imp-use (has m s) (not (ignored (f s) s)) (All-range-at (Pass (markHeard m f)) 1 signals s l (omega arith) (all-All (markHeard m f) (range 1 signals) e)) h)
+
+-- marks are heard if each of them is
+pub heard-by : (m : SigSet) (f : ℕ → Action) → ((s : ℕ) → isSignal s ≡ true → has m s ≡ true → ignored (f s) s ≡ false) → marksHeard m f ≡ true
+unfolding marksHeard
+heard-by m f h =
+    All-all (markHeard m f) (range 1 signals)
+    (All-range (Pass (markHeard m f)) 1 signals
+    (λ s l u. imp-by (has m s) (λ k. ap not (h s (signal-is s (record { low = l; high = omega arith })) k))))
+
+-- a standard signal of a record is not marked in its queue
+pub not-marked : (st : Store) (r : Siginfo) → notMarkedToo st r ≡ true → isStandard r ≡ true → markIn st (queueOf r) (r .signal) ≡ false
+unfolding notMarkedToo
+not-marked st r e k = not-true (markIn st (queueOf r) (r .signal)) (imp-use (isStandard r) (not (markIn st (queueOf r) (r .signal))) e k)
 
 -- ---- the place that is looked for, by a test that all places pass
 

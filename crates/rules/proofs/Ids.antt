@@ -15,6 +15,14 @@ use Rattle.lists.proofs.Finds.{find-first, find-below, find-map}
 use Rattle.lists.proofs.Index.{pairs-each}
 use Rattle.rules.specs.Store.{Place, held}
 use Rattle.rules.specs.Sound.{isLive, apart}
+use Rattle.rules.proofs.Cleared.{no-id}
+
+-- 0 is nobody's id
+pub free-unnamed : (n i : ℕ) → eqb i 0 ≡ true → (not (eqb n 0) && eqb i n) ≡ false
+free-unnamed n i z = ap (λ (m : ℕ). not (eqb n 0) && eqb m n) (eqb-true i 0 z) ∙ no-id n
+
+pub named-live : (n i : ℕ) → (not (eqb n 0) && eqb i n) ≡ true → eqb i 0 ≡ false
+named-live n i e = split (eqb i 0) (λ z. clash e (free-unnamed n i z)) (λ z. z)
 
 module _ {B : Type 0} (id : B → ℕ) where
   -- x has the id n, and 0 is no id

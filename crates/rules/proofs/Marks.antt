@@ -8,7 +8,7 @@ use lib.Dec.{eqb}
 use lib.ListN.{length, getD, length-map, List·getD-map}
 use borrow.Author.Tests.{eqb-true, eq-eqb, not-true}
 use Rattle.lists.specs.Lists.{all, any, count, find, first}
-use Rattle.lists.proofs.Bools.{split, clash, and-fst, and-snd, and-both, and-left, imp-use}
+use Rattle.lists.proofs.Bools.{split, clash, same-test, and-fst, and-snd, and-both, and-left, imp-use}
 use Rattle.lists.proofs.Lists.{Pass, Fail, All-imp, All-every, all-All, All-any, count-map}
 use Rattle.lists.proofs.Loops.{find-any, find-at}
 use Rattle.lists.proofs.Finds.{getD-find}
@@ -82,6 +82,12 @@ module _ (st : Store) where
   thread-is n e =
       eqb-true (threadWith n .holds .id) n (and-snd (not (eqb n 0)) (eqb (threadWith n .holds .id) n) (where-passes freeThread (isThread n) (st .threads) e))
 
+  pub the-process-id : (n : ℕ) → liveProcess (view st) n ≡ true → theProcess (view st) n .id ≡ n
+  the-process-id n e = ap (λ (p : Process). p .id) (the-process n) ∙ process-is n e
+
+  pub the-thread-id : (n : ℕ) → liveThread (view st) n ≡ true → theThread (view st) n .id ≡ n
+  the-thread-id n e = ap (λ (t : Thread). t .id) (the-thread n) ∙ thread-is n e
+
   -- 0 is no id
   pub process-named : (n : ℕ) → liveProcess (view st) n ≡ true → eqb n 0 ≡ false
   unfolding liveProcess view isProcess
@@ -107,7 +113,16 @@ unfolding sameQueue
 same-queue a b e =
     and-both (eq-eqb (a .process) (b .process) (ap (λ (q : Queue). q .process) e)) (eq-eqb (a .thread) (b .thread) (ap (λ (q : Queue). q .thread) e))
 
+pub same-comm : (a b : Queue) → sameQueue a b ≡ sameQueue b a
+same-comm a b =
+    same-test (sameQueue a b) (sameQueue b a) (λ e. same-queue b a (sym (queue-same a b e))) (λ e. same-queue a b (sym (queue-same b a e)))
+
 -- ---- the marks of a queue
+
+-- a free thread place has process 0
+pub free-of-nobody : (x : Place Thread) → ifFree threadId zeroThread x ≡ true → eqb (x .holds .id) 0 ≡ true → eqb (x .holds .process) 0 ≡ true
+unfolding zeroThread
+free-of-nobody x f i = and-fst (eqb (x .holds .process) 0) _ (imp-use (not (isLive threadId x)) (zeroThread x) f (rw i))
 
 module _ (st : Store) where
   module _ (n : ℕ) (e : liveProcess (view st) n ≡ true) where
@@ -121,22 +136,22 @@ module _ (st : Store) where
         e c
         ∙ ap (λ (b : Bool). b && has (processWith st n .marks) s) (same-queue (processQueue n) (processQueue (processWith st n .holds .id)) (ap processQueue (sym (process-is st n e))))
 
-    -- a free thread place has process 0
-    unmarked-threads : (s : ℕ) → all (ifFree threadId zeroThread) (st .threads) ≡ true → any (threadMark (processQueue n) s) (st .threads) ≡ false
-    unfolding zeroThread
-    unmarked-threads s z =
-        All-any (threadMark (processQueue n) s) (st .threads)
-        (All-imp (Pass (ifFree threadId zeroThread)) (Fail (threadMark (processQueue n) s))
-        (λ y f.
-        and-left (has (y .marks) s)
-        (split (sameQueue (processQueue n) (threadQueue (y .holds)))
+    -- no thread place has the queue of a process
+    pub not-of-process : (y : Place Thread) → ifFree threadId zeroThread y ≡ true → sameQueue (processQueue n) (threadQueue (y .holds)) ≡ false
+    not-of-process y f =
+        split (sameQueue (processQueue n) (threadQueue (y .holds)))
         (λ t.
         let q : processQueue n ≡ threadQueue (y .holds) = queue-same _ _ t in
         let i : eqb (y .holds .id) 0 ≡ true = eq-eqb (y .holds .id) 0 (sym (ap (λ (a : Queue). a .thread) q)) in
-        let w : zeroThread y ≡ true = imp-use (not (isLive threadId y)) (zeroThread y) f (rw i) in
-        let p : y .holds .process ≡ 0 = eqb-true (y .holds .process) 0 (and-fst (eqb (y .holds .process) 0) _ w) in
+        let p : y .holds .process ≡ 0 = eqb-true (y .holds .process) 0 (free-of-nobody y f i) in
         clash (eq-eqb n 0 (ap (λ (a : Queue). a .process) q ∙ p)) (process-named st n e))
-        (λ t. t)))
+        (λ t. t)
+
+    unmarked-threads : (s : ℕ) → all (ifFree threadId zeroThread) (st .threads) ≡ true → any (threadMark (processQueue n) s) (st .threads) ≡ false
+    unmarked-threads s z =
+        All-any (threadMark (processQueue n) s) (st .threads)
+        (All-imp (Pass (ifFree threadId zeroThread)) (Fail (threadMark (processQueue n) s))
+        (λ y f. and-left (has (y .marks) s) (not-of-process y f))
         (st .threads) (all-All (ifFree threadId zeroThread) (st .threads) z))
 
     pub process-marks : (s : ℕ) → count (isProcess n) (map held (st .processes)) ≤ 1 → all (ifFree threadId zeroThread) (st .threads) ≡ true
@@ -159,16 +174,17 @@ module _ (st : Store) where
         ∙ ap (λ (b : Bool). b && has (threadWith st (q .thread) .marks) s)
         (same-queue q (threadQueue (threadWith st (q .thread) .holds)) (ap₂ targetQueue (sym o) (sym (thread-is st (q .thread) e))))
 
+    -- no process place has the queue of a thread
+    pub not-of-thread : (x : Place Process) → sameQueue q (processQueue (x .holds .id)) ≡ false
+    not-of-thread x =
+        split (sameQueue q (processQueue (x .holds .id)))
+        (λ t. clash (eq-eqb (q .thread) 0 (ap (λ (a : Queue). a .thread) (queue-same _ _ t))) (thread-named st (q .thread) e))
+        (λ t. t)
+
     unmarked-processes : (s : ℕ) → any (processMark q s) (st .processes) ≡ false
     unmarked-processes s =
         All-any (processMark q s) (st .processes)
-        (All-every (Fail (processMark q s))
-        (λ x.
-        and-left (has (x .marks) s)
-        (split (sameQueue q (processQueue (x .holds .id)))
-        (λ t. clash (eq-eqb (q .thread) 0 (ap (λ (a : Queue). a .thread) (queue-same _ _ t))) (thread-named st (q .thread) e))
-        (λ t. t)))
-        (st .processes))
+        (All-every (Fail (processMark q s)) (λ x. and-left (has (x .marks) s) (not-of-thread x)) (st .processes))
 
     pub thread-marks : (s : ℕ) → threadWith st (q .thread) .holds .process ≡ q .process → count (isThread (q .thread)) (map held (st .threads)) ≤ 1
         → markIn st q s ≡ (isSignal s && has (threadWith st (q .thread) .marks) s)

@@ -16,7 +16,8 @@ use Rattle.types.specs.declared.Siginfo.{Siginfo}
 use Rattle.types.specs.Values.{defaultAction}
 use Rattle.lists.specs.Lists.{all, any, change}
 use Rattle.lists.proofs.Bools.{split, clash, and-fst, and-snd, and-both, and-left, or-both, or-fst-false, or-snd-false}
-use Rattle.lists.proofs.Lists.{all-map, all-imp, all-append, all-replicate, all-replaceFirst, all-change-keeps, all-map-keeps, all-getD, all-first}
+use Rattle.lists.proofs.Lists.{all-map, all-imp, all-append, all-replicate, all-replaceFirst, all-change-keeps, all-getD, all-first}
+use Rattle.lists.proofs.Members.{all-mapped}
 use Rattle.lists.proofs.Loops.{all-set}
 use Rattle.rules.specs.Types.{Process, Thread, Queue, noProcess, noThread, Call, clear, addProcess, addThread, endProcess, endThread, kill, queue, action, mask, pending, look, who, take, return, Next, noNext, nextMark, nextRecord, Answer, refused, done, tested, acted, dropped, absorbed, marked, kept, oldAction, oldMask, pendingSet, looked, canTake, noneCan, nothing, handler, end, stop, noAction}
 use Rattle.rules.specs.Signals.{Outcome, ignores, stops, continues, ends, outcome, ignored, stopSignal}
@@ -37,10 +38,10 @@ use Rattle.rules.proofs.Answers.{PassesWords, PassesSets, answer-passes
 
 -- ---- sets without 9 and 19
 
-kill-signal : Signal SIGKILL
+pub kill-signal : Signal SIGKILL
 kill-signal = record { low = omega arith; high = omega arith }
 
-stop-signal : Signal SIGSTOP
+pub stop-signal : Signal SIGSTOP
 stop-signal = record { low = omega arith; high = omega arith }
 
 -- a set that has neither, said of every signal
@@ -57,7 +58,7 @@ unmasked-has m h =
 pub unmasked-empty : unmasked empty ≡ true
 unmasked-empty = unmasked-if empty (λ s h u. has-empty s)
 
-unmasked-maskable : (m : SigSet) → unmasked (maskable m) ≡ true
+pub unmasked-maskable : (m : SigSet) → unmasked (maskable m) ≡ true
 unmasked-maskable m = unmasked-if (maskable m) (λ s h u. has-maskable m s h ∙ ap (λ (b : Bool). has m s && not b) u ∙ and-false (has m s))
 
 unmasked-without : (m x : SigSet) → unmasked m ≡ true → unmasked (without m x) ≡ true
@@ -130,9 +131,9 @@ module _ (st : Store) (h : Clean st) where
   unfolding nothingUnmaskable processUnmasked threadUnmasked
   remarked g k =
       and-both
-      (all-map-keeps processUnmasked (λ (x : Place Process). record { holds = x .holds; marks = g (processQueue (x .holds .id)) (x .marks) })
+      (all-mapped (λ (x : Place Process). record { holds = x .holds; marks = g (processQueue (x .holds .id)) (x .marks) }) processUnmasked processUnmasked
       (λ x e. and-both (k _ (x .marks) (and-fst (unmasked (x .marks)) _ e)) (and-snd (unmasked (x .marks)) _ e)) (st .processes) (clean-processes st h))
-      (all-map-keeps threadUnmasked (λ (x : Place Thread). record { holds = x .holds; marks = g (threadQueue (x .holds)) (x .marks) })
+      (all-mapped (λ (x : Place Thread). record { holds = x .holds; marks = g (threadQueue (x .holds)) (x .marks) }) threadUnmasked threadUnmasked
       (λ x e. and-both (and-fst (unmasked (x .holds .mask)) _ e) (k _ (x .marks) (and-snd (unmasked (x .holds .mask)) _ e))) (st .threads) (clean-threads st h))
 
 -- where the test holds one clean set, else another

@@ -9,6 +9,8 @@ pub mod Taking
 pub mod Adding
 pub mod Refusals
 pub mod Calls
+pub mod Fitting
+pub mod Machine
 pub mod Computing
 pub mod Cases
 pub mod Examples

@@ -21,6 +21,27 @@ use Rattle.tables.specs.Tables.{heldProcesses, heldThreads, processAt, threadAt
 use Rattle.tables.proofs.Words.{length-heldProcesses, length-heldThreads}
 use Rattle.sound.specs.Lent.{storeOf, lengthsAre, soundTables}
 
+-- ---- lengths
+
+module _ (ps ts tb pb : List ℕ) (e : lengthsAre ps ts tb pb ≡ true) where
+  pub right-processes : length ps ≡ processTable
+  unfolding lengthsAre
+  right-processes = eqb-true (length ps) processTable (and-fst (eqb (length ps) processTable) _ e)
+
+  pub right-threads : length ts ≡ threadTable
+  unfolding lengthsAre
+  right-threads = eqb-true (length ts) threadTable (and-fst (eqb (length ts) threadTable) _ (and-snd (eqb (length ps) processTable) _ e))
+
+  right-buffers : (eqb (length tb) bufferBytes && eqb (length pb) bufferBytes) ≡ true
+  unfolding lengthsAre
+  right-buffers = and-snd (eqb (length ts) threadTable) _ (and-snd (eqb (length ps) processTable) _ e)
+
+  pub right-thread-buffer : length tb ≡ bufferBytes
+  right-thread-buffer = eqb-true (length tb) bufferBytes (and-fst (eqb (length tb) bufferBytes) (eqb (length pb) bufferBytes) right-buffers)
+
+  pub right-process-buffer : length pb ≡ bufferBytes
+  right-process-buffer = eqb-true (length pb) bufferBytes (and-snd (eqb (length tb) bufferBytes) (eqb (length pb) bufferBytes) right-buffers)
+
 module _ (ps ts tb pb : List ℕ) (e : soundTables ps ts tb pb ≡ true) where
   right-lengths : lengthsAre ps ts tb pb ≡ true
   unfolding soundTables
@@ -30,25 +51,17 @@ module _ (ps ts tb pb : List ℕ) (e : soundTables ps ts tb pb ≡ true) where
   unfolding soundTables
   store-sound = and-snd (lengthsAre ps ts tb pb) _ e
 
-  -- ---- lengths
-
   pub processes-long : length ps ≡ processTable
-  unfolding lengthsAre
-  processes-long = eqb-true (length ps) processTable (and-fst (eqb (length ps) processTable) _ right-lengths)
+  processes-long = right-processes ps ts tb pb right-lengths
 
   pub threads-long : length ts ≡ threadTable
-  unfolding lengthsAre
-  threads-long = eqb-true (length ts) threadTable (and-fst (eqb (length ts) threadTable) _ (and-snd (eqb (length ps) processTable) _ right-lengths))
-
-  buffers-long : (eqb (length tb) bufferBytes && eqb (length pb) bufferBytes) ≡ true
-  unfolding lengthsAre
-  buffers-long = and-snd (eqb (length ts) threadTable) _ (and-snd (eqb (length ps) processTable) _ right-lengths)
+  threads-long = right-threads ps ts tb pb right-lengths
 
   pub thread-buffer-long : length tb ≡ bufferBytes
-  thread-buffer-long = eqb-true (length tb) bufferBytes (and-fst (eqb (length tb) bufferBytes) (eqb (length pb) bufferBytes) buffers-long)
+  thread-buffer-long = right-thread-buffer ps ts tb pb right-lengths
 
   pub process-buffer-long : length pb ≡ bufferBytes
-  process-buffer-long = eqb-true (length pb) bufferBytes (and-snd (eqb (length tb) bufferBytes) (eqb (length pb) bufferBytes) buffers-long)
+  process-buffer-long = right-process-buffer ps ts tb pb right-lengths
 
   -- ---- buffers
 

@@ -9,8 +9,8 @@ use lib.Dec.{eqb}
 use lib.ListN.{length, getD, take, set, replicate}
 use borrow.Author.Tests.{eqb-true, eq-eqb}
 use Rattle.lists.specs.Lists.{all, any, count, find}
-use Rattle.lists.proofs.Bools.{split, clash, same-test, and-fst, and-snd, and-both, and-left, and-imp, not-or}
-use Rattle.lists.proofs.Lists.{all-same, any-append, any-and, count-append, count-le-length, not-any}
+use Rattle.lists.proofs.Bools.{split, clash, and-fst, and-snd, and-both, and-imp, not-or}
+use Rattle.lists.proofs.Lists.{all-same, any-and, count-append, count-le-length, not-any}
 use Rattle.lists.proofs.Loops.{against, find-at, upto}
 use Rattle.lists.proofs.Index.{getD-mapped, getD-map-has, map-only}
 use Rattle.sigset.specs.declared.SigSet.{SigSet}
@@ -23,7 +23,9 @@ use Rattle.rules.specs.Signals.{standard}
 use Rattle.rules.specs.View.{isProcess, sameQueue, queueOf, inQueue}
 use Rattle.rules.specs.Store.{Place, ofProcess}
 use Rattle.rules.proofs.Signals.{standard-signal}
-use Rattle.rules.proofs.Marks.{queue-same, same-queue}
+use Rattle.rules.proofs.Marks.{queue-same, same-comm}
+use Rattle.queue.specs.Queue.{signalsIn}
+use Rattle.queue.proofs.Signals.{eqb-comm, any-next, signals-other}
 use Rattle.sound.specs.Check.{tallies, seenBy, seenSets, isFresh, bumped, noted, once}
 
 -- ---- how many records each process has
@@ -73,13 +75,6 @@ module _ (ps : List Process) (rs : List Siginfo) (i : ℕ) (r : Siginfo) (h : i 
       ps q c l t)
 
 -- ---- the signals seen in each queue
-
-same-comm : (a b : Queue) → sameQueue a b ≡ sameQueue b a
-same-comm a b =
-    same-test (sameQueue a b) (sameQueue b a) (λ e. same-queue b a (sym (queue-same a b e))) (λ e. same-queue a b (sym (queue-same b a e)))
-
-eqb-comm : (a b : ℕ) → eqb a b ≡ eqb b a
-eqb-comm a b = same-test (eqb a b) (eqb b a) (λ e. eq-eqb b a (sym (eqb-true a b e))) (λ e. eq-eqb a b (sym (eqb-true b a e)))
 
 parts : (a b c : Bool) → not (a && (b || c)) ≡ (not (a && b) && not (a && c))
 parts true b c = not-or b c
@@ -131,23 +126,10 @@ module _ {A : Type 0} (queue : A → Queue) (d : Place A) (xs : List (Place A)) 
         ∙ sym (ap₂ (λ (a b : Bool). a && b) (fresh-marks (r .signal)) (all-once rs))
 
     module _ (rs : List Siginfo) (i : ℕ) (l : i < length rs) (e : r ≡ getD rs i noSiginfo) where
-      any-next : (a : Queue) (s : ℕ) → any (inQueue a s) (take (i + 1) rs) ≡ (any (inQueue a s) (take i rs) || inQueue a s r)
-      unfolding any
-      any-next a s =
-          ap (any (inQueue a s)) (upto rs i noSiginfo l)
-          ∙ any-append (inQueue a s) (take i rs) (getD rs i noSiginfo ∷ [])
-          ∙ rw (← e) (ap (λ (b : Bool). any (inQueue a s) (take i rs) || b) (or-false (inQueue a s r)))
-
       -- another queue has none more
       seen-other : (x : Place A) → sameQueue (queue (x .holds)) (queueOf r) ≡ false → seenBy queue (take (i + 1) rs) x ≡ seenBy queue (take i rs) x
-      unfolding seenBy inQueue
-      seen-other x n =
-          ap (λ (a : SigSet). union (x .marks) a .0)
-          (set-cong (λ s. any (inQueue (queue (x .holds)) s) (take (i + 1) rs)) (λ s. any (inQueue (queue (x .holds)) s) (take i rs))
-          (λ s g.
-          any-next (queue (x .holds)) s
-          ∙ ap (λ (b : Bool). any (inQueue (queue (x .holds)) s) (take i rs) || b) (and-left (eqb (r .signal) s) n)
-          ∙ or-false (any (inQueue (queue (x .holds)) s) (take i rs))))
+      unfolding seenBy signalsIn
+      seen-other x n = ap (λ (a : SigSet). union (x .marks) a .0) (signals-other rs i l r e (queue (x .holds)) n)
 
       -- its own has the signal
       seen-here : union (bits (seenBy queue (take i rs) (getD xs q d))) (ofSignal (r .signal)) .0 ≡ seenBy queue (take (i + 1) rs) (getD xs q d)
@@ -163,7 +145,7 @@ module _ {A : Type 0} (queue : A → Queue) (d : Place A) (xs : List (Place A)) 
           ∙ or-assoc (has m s) (p s) (eqb (r .signal) s)
           ∙ sym
           (ap (λ (b : Bool). has m s || b)
-          (has-set p′ s g ∙ any-next at s ∙ ap (λ (b : Bool). p s || (b && eqb (r .signal) s)) k))))
+          (has-set p′ s g ∙ any-next rs i l r e at s ∙ ap (λ (b : Bool). p s || (b && eqb (r .signal) s)) k))))
 
       -- no other place has the queue
       pub seen-step : count (λ (x : Place A). sameQueue (queue (x .holds)) (queueOf r)) xs ≤ 1

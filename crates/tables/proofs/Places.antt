@@ -10,9 +10,9 @@ use lib.ListN.{length, getD, take, drop, set, replicate, length-drop, length-rep
 use lib.Seq.{sets, getD-take, take-set-lt, drop-set-lt, drop-drop}
 use Rattle.limits.specs.Limits.{processId, processReal, processEffective, processSaved, processSession, threadId, threadProcess, threadMask, processPlaces, processWords, processTable, headWords, signals, actionWords, threadPlaces, threadWords, threadTable}
 use Rattle.lists.specs.Lists.{find}
-use Rattle.lists.specs.Rows.{row, rows}
-use Rattle.lists.proofs.Lists.{Fail, All-any, All-every}
-use Rattle.lists.proofs.Rows.{getD-row, getD-rows, rows-sets, rows-put, take-sets-le, drop-sets-add, take-drop-take, spellFrom, take-spellFrom, setsFrom, sets-at, set-again}
+use Rattle.lists.specs.Rows.{row, rows, flat}
+use Rattle.lists.proofs.Lists.{Fail, All-any, All-every, All-replicate}
+use Rattle.lists.proofs.Rows.{getD-row, getD-rows, rows-sets, rows-put, take-sets-le, drop-sets-add, take-drop-take, spellFrom, take-spellFrom, setsFrom, sets-at, set-again, sets-whole, flat-replicate}
 use Rattle.lists.proofs.Finds.{find-absent, find-alike}
 use Rattle.sigset.specs.declared.SigSet.{SigSet}
 use Rattle.types.specs.declared.Action.{Action}
@@ -21,8 +21,8 @@ use Rattle.rules.specs.Types.{Process, Thread, noProcess, noThread}
 use Rattle.rules.specs.View.{isProcess, isThread, actionOf}
 use Rattle.rules.specs.Adding.{newborn}
 use Rattle.rules.specs.Store.{Place, held, freeProcess, freeThread}
-use Rattle.tables.specs.Tables.{actionFrom, actionTo, headTo, headed, processFrom, threadFrom, threadTo, processesOf, threadsOf, processAt, threadAt, heldProcesses, heldThreads, withField, withThreadField, hasProcessId, hasThreadId, acted, placed, threadPlaced}
-use Rattle.tables.proofs.Words.{process-from, thread-from, head-from, length-process-row, length-thread-row, thread-row, zero-process, zero-thread, thread-back, action-forth, length-actionTo}
+use Rattle.tables.specs.Tables.{actionFrom, actionTo, headTo, headed, processFrom, processTo, threadFrom, threadTo, processesOf, processWordsOf, threadsOf, threadWordsOf, processAt, threadAt, heldProcesses, heldThreads, withField, withThreadField, hasProcessId, hasThreadId, acted, placed, threadPlaced}
+use Rattle.tables.proofs.Words.{ActionsLong, free-process-words, free-thread-words, words-forth, thread-words-forth, process-from, thread-from, head-from, length-process-row, length-thread-row, thread-row, zero-process, zero-thread, thread-back, action-forth, length-actionTo}
 
 -- where the action of a signal begins
 abbrev pub actionBase : ℕ → ℕ → ℕ
@@ -143,6 +143,26 @@ module _ (ws : List ℕ) (long : length ws ≡ threadTable) (place : ℕ) (h : p
       ap threadsOf e
       ∙ rows-put threadFrom threadWords threadPlaces ws place (replicate threadWords 0) h (omega arith) (length-replicate {A = ℕ} threadWords 0)
       ∙ ap (set (threadsOf ws) place) zero-thread
+
+-- ---- every place cleared
+
+pub processes-cleared : (ws after : List ℕ) → length ws ≡ processTable → after ≡ sets ws 0 (replicate processTable 0)
+    → processesOf after ≡ replicate processPlaces freeProcess
+unfolding processWordsOf
+processes-cleared ws after long e =
+    let xs : List (Place Process) = replicate processPlaces freeProcess in
+    let z : flat processTo xs ≡ replicate processTable 0 = flat-replicate processTo freeProcess processWords 0 free-process-words processPlaces in
+    ap processesOf (e ∙ sets-whole (replicate processTable 0) ws (long ∙ sym (length-replicate {A = ℕ} processTable 0)) ∙ sym z)
+    ∙ words-forth xs (length-replicate processPlaces freeProcess) (All-replicate ActionsLong freeProcess (length-replicate signals defaultAction) processPlaces)
+
+pub threads-cleared : (ws after : List ℕ) → length ws ≡ threadTable → after ≡ sets ws 0 (replicate threadTable 0)
+    → threadsOf after ≡ replicate threadPlaces freeThread
+unfolding threadWordsOf
+threads-cleared ws after long e =
+    let xs : List (Place Thread) = replicate threadPlaces freeThread in
+    let z : flat threadTo xs ≡ replicate threadTable 0 = flat-replicate threadTo freeThread threadWords 0 free-thread-words threadPlaces in
+    ap threadsOf (e ∙ sets-whole (replicate threadTable 0) ws (long ∙ sym (length-replicate {A = ℕ} threadTable 0)) ∙ sym z)
+    ∙ thread-words-forth xs (length-replicate threadPlaces freeThread)
 
 -- ---- a free place filled, one field after the other
 

@@ -20,11 +20,13 @@ use limits::PROCESS_PLACES;
 use limits::PROCESS_REAL;
 use limits::PROCESS_SAVED;
 use limits::PROCESS_SESSION;
+use limits::PROCESS_TABLE;
 use limits::PROCESS_WORDS;
 use limits::THREAD_ID;
 use limits::THREAD_MASK;
 use limits::THREAD_PLACES;
 use limits::THREAD_PROCESS;
+use limits::THREAD_TABLE;
 use limits::THREAD_WORDS;
 use sigset::SigSet;
 use types::Action;
@@ -185,6 +187,21 @@ pub fn clear_thread(ts: &mut [u64], place: usize)
     ensures { λ _. ⌜ threadsOf (now (ts .exit)) ≡ set (threadsOf (now (ts .entry))) place freeThread ⌝ }
 {
     clear(ts, place * THREAD_WORDS, THREAD_WORDS);
+}
+
+// Every place of a table, whatever it held.
+pub fn clear_processes(ps: &mut [u64])
+    requires { ⌜ length (now ps) ≡ processTable ⌝ }
+    ensures { λ _. ⌜ processesOf (now (ps .exit)) ≡ replicate processPlaces freeProcess ⌝ }
+{
+    clear(ps, 0, PROCESS_TABLE);
+}
+
+pub fn clear_threads(ts: &mut [u64])
+    requires { ⌜ length (now ts) ≡ threadTable ⌝ }
+    ensures { λ _. ⌜ threadsOf (now (ts .exit)) ≡ replicate threadPlaces freeThread ⌝ }
+{
+    clear(ts, 0, THREAD_TABLE);
 }
 
 // A new process into a place, whatever it held.

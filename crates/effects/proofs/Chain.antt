@@ -1,0 +1,49 @@
+-- One change after another: each fits what those before it leave, and together they are the list. Assumes nothing.
+use mathlib.Core.Path.{_≡_, refl, sym, ap, _∙_}
+use mathlib.Core.Bool.{true}
+use mathlib.Core.List.{List, [], _∷_, _++_}
+use Rattle.lists.proofs.Bools.{and-fst, and-snd}
+use Rattle.rules.specs.View.{Change}
+use Rattle.rules.specs.Store.{Store, view, apply, applyAll}
+use Rattle.rules.specs.Fitting.{fits, fitsAll}
+use Rattle.rules.proofs.Fitted.{fitsAll-append}
+
+module _ (ch : Change) (cs : List Change) (st : Store) where
+  pub first-fits : fitsAll (ch ∷ cs) st ≡ true → fits (view st) ch ≡ true
+  unfolding fitsAll
+  first-fits f = and-fst (fits (view st) ch) (fitsAll cs (apply ch st)) f
+
+  module _ (st′ : Store) (e : st′ ≡ apply ch st) where
+    pub rest-fits : fitsAll (ch ∷ cs) st ≡ true → fitsAll cs st′ ≡ true
+    unfolding fitsAll
+    rest-fits f = ap (fitsAll cs) e ∙ and-snd (fits (view st) ch) (fitsAll cs (apply ch st)) f
+
+    pub then : (st″ : Store) → st″ ≡ applyAll cs st′ → st″ ≡ applyAll (ch ∷ cs) st
+    unfolding applyAll
+    then st″ h = h ∙ ap (applyAll cs) e
+
+pub none-made : (st : Store) → st ≡ applyAll [] st
+unfolding applyAll
+none-made st = refl
+
+pub one-made : (ch : Change) (st st′ : Store) → st′ ≡ apply ch st → st′ ≡ applyAll (ch ∷ []) st
+unfolding applyAll
+one-made ch st st′ e = e
+
+-- the same for one list after another
+
+pub applyAll-append : (xs ys : List Change) (st : Store) → applyAll (xs ++ ys) st ≡ applyAll ys (applyAll xs st)
+unfolding applyAll
+applyAll-append [] ys st = refl
+applyAll-append (x ∷ xs) ys st = applyAll-append xs ys (apply x st)
+
+module _ (xs ys : List Change) (st : Store) where
+  pub first-part-fits : fitsAll (xs ++ ys) st ≡ true → fitsAll xs st ≡ true
+  first-part-fits f = and-fst (fitsAll xs st) (fitsAll ys (applyAll xs st)) (sym (fitsAll-append xs ys st) ∙ f)
+
+  module _ (st′ : Store) (e : st′ ≡ applyAll xs st) where
+    pub second-part-fits : fitsAll (xs ++ ys) st ≡ true → fitsAll ys st′ ≡ true
+    second-part-fits f = ap (fitsAll ys) e ∙ and-snd (fitsAll xs st) (fitsAll ys (applyAll xs st)) (sym (fitsAll-append xs ys st) ∙ f)
+
+    pub then-part : (st″ : Store) → st″ ≡ applyAll ys st′ → st″ ≡ applyAll (xs ++ ys) st
+    then-part st″ h = h ∙ ap (applyAll ys) e ∙ sym (applyAll-append xs ys st)

@@ -1,0 +1,9 @@
+pub mod Chain
+pub mod After
+mod Fitted
+mod Places
+mod Fields
+mod Buffers
+mod Marks
+mod Queues
+mod Removed

@@ -1,0 +1,168 @@
+-- The marks of one queue, or of all queues of a process, changed in the tables are what the rules' change makes of the store. Assumes nothing.
+use Prim.Native.Nat.{ℕ}
+use mathlib.Core.Path.{_≡_, refl, sym, ap, ap₂, subst, fun-ext, _∙_}
+use mathlib.Core.Bool.{Bool, true, false, not, _&&_, cond, and-true}
+use mathlib.Core.List.{List, map}
+use lib.Dec.{eqb}
+use lib.ListN.{set}
+use borrow.Author.Tests.{eq-eqb}
+use Rattle.lists.specs.Lists.{find, keep}
+use Rattle.lists.proofs.Bools.{split, clash, and-both, cond-map}
+use Rattle.lists.proofs.Lists.{Pass, All-imp, All-every, all-All}
+use Rattle.sigset.specs.declared.SigSet.{SigSet}
+use Rattle.sigset.specs.Set.{without, ofSignal}
+use Rattle.rules.specs.Types.{Process, Thread, Queue}
+use Rattle.rules.specs.View.{isProcess, isThread, sameQueue, processQueue, threadQueue, targetQueue, liveProcess, liveThread, theThread, setMark, clearMark, discard}
+use Rattle.rules.specs.Store.{Place, Store, held, freeProcess, freeThread, onSlots, onMarks, view, apply}
+use Rattle.rules.specs.Sound.{ifFree, threadId, zeroThread, sound}
+use Rattle.rules.specs.Fitting.{liveQueue, fits}
+use Rattle.rules.proofs.Facts.{one-process, one-thread}
+use Rattle.rules.proofs.Marks.{processWith, threadWith, the-thread, process-is, thread-is, process-named, thread-named, queue-same, same-queue, same-comm, not-of-process, not-of-thread}
+use Rattle.rules.proofs.Parts.{parts}
+use Rattle.queue.specs.Queue.{slotsOf, spares}
+use Rattle.queue.specs.declared.Doomed.the-variants.{OfSignals}
+use Rattle.tables.specs.Tables.{processesOf, threadsOf, heldProcesses, heldThreads, processAt, threadAt}
+use Rattle.sound.specs.Lent.{storeOf, soundTables}
+use Rattle.sound.proofs.Facts.{store-sound}
+use Rattle.effects.specs.declared.Marking.{Marking}
+use Rattle.effects.specs.declared.Marking.the-variants.{Adding, Removing}
+use Rattle.effects.specs.Effects.{markedBy, remarked, remarkedOf}
+use Rattle.effects.proofs.Fitted.{mark-queue, unmark-queue, queue-process, queue-thread, queue-owner}
+use Rattle.effects.proofs.Places.{marksWhere, withMarks, marked-place, unmarked-places, with-all}
+
+-- ---- a sound store
+
+module _ (st : Store) (e : sound st ≡ true) (h : SigSet → SigSet) where
+  module _ (n : ℕ) (live : liveProcess (view st) n ≡ true) where
+    -- the places whose queues are of the process: one
+    pub marks-of-id : marksWhere (λ (p : Process). eqb (p .id) n) h (st .processes)
+        ≡ set (st .processes) (find (isProcess n) (map held (st .processes))) (withMarks h (processWith st n))
+    unfolding liveProcess view isProcess
+    marks-of-id =
+        marked-place freeProcess (isProcess n) (st .processes) live (one-process st e n) (λ (p : Process). eqb (p .id) n) h
+        (λ a f. sym (ap (λ b. not b && eqb (a .id) n) (process-named st n live)) ∙ f)
+        (eq-eqb (processWith st n .holds .id) n (process-is st n live))
+
+    own-queue : (p : Process) → sameQueue (processQueue (p .id)) (processQueue n) ≡ eqb (p .id) n
+    unfolding sameQueue
+    own-queue p = and-true (eqb (p .id) n)
+
+    pub process-marks-set : marksWhere (λ (p : Process). sameQueue (processQueue (p .id)) (processQueue n)) h (st .processes)
+        ≡ set (st .processes) (find (isProcess n) (map held (st .processes))) (withMarks h (processWith st n))
+    process-marks-set = ap (λ (t : Process → Bool). marksWhere t h (st .processes)) (fun-ext own-queue) ∙ marks-of-id
+
+    pub thread-marks-kept : marksWhere (λ (t : Thread). sameQueue (threadQueue t) (processQueue n)) h (st .threads) ≡ st .threads
+    thread-marks-kept =
+        unmarked-places (λ (t : Thread). sameQueue (threadQueue t) (processQueue n)) h (st .threads)
+        (All-imp (Pass (ifFree threadId zeroThread)) (λ (y : Place Thread). sameQueue (threadQueue (y .holds)) (processQueue n) ≡ false)
+        (λ y f. same-comm (threadQueue (y .holds)) (processQueue n) ∙ not-of-process st n live y f)
+        (st .threads) (all-All (ifFree threadId zeroThread) (st .threads) (parts st e .threadFree)))
+
+  module _ (q : Queue) (live : liveThread (view st) (q .thread) ≡ true) (owner : theThread (view st) (q .thread) .process ≡ q .process) where
+    pub thread-marks-set : marksWhere (λ (t : Thread). sameQueue (threadQueue t) q) h (st .threads)
+        ≡ set (st .threads) (find (isThread (q .thread)) (map held (st .threads))) (withMarks h (threadWith st (q .thread)))
+    unfolding liveThread view isThread
+    thread-marks-set =
+        marked-place freeThread (isThread (q .thread)) (st .threads) live (one-thread st e (q .thread)) (λ (t : Thread). sameQueue (threadQueue t) q) h
+        (λ a f.
+        split (sameQueue (threadQueue a) q)
+        (λ k. clash (and-both (ap not (thread-named st (q .thread) live)) (eq-eqb (a .id) (q .thread) (ap (λ (b : Queue). b .thread) (queue-same (threadQueue a) q k)))) f)
+        (λ k. k))
+        (same-queue (threadQueue (threadWith st (q .thread) .holds)) q
+        (ap₂ targetQueue (ap (λ (t : Thread). t .process) (sym (the-thread st (q .thread))) ∙ owner) (thread-is st (q .thread) live)))
+
+    pub process-marks-kept : marksWhere (λ (p : Process). sameQueue (processQueue (p .id)) q) h (st .processes) ≡ st .processes
+    process-marks-kept =
+        unmarked-places (λ (p : Process). sameQueue (processQueue (p .id)) q) h (st .processes)
+        (All-every (λ (x : Place Process). sameQueue (processQueue (x .holds .id)) q ≡ false)
+        (λ x. same-comm (processQueue (x .holds .id)) q ∙ not-of-thread st q live x)
+        (st .processes))
+
+-- ---- the tables: one queue, the process's own where the thread is 0
+
+-- the marks of the queue change
+abbrev marking : Marking → Queue → Queue → SigSet → SigSet
+marking how q q′ m = cond (sameQueue q′ q) (markedBy how m) m
+
+module _ (ps ts tb pb : List ℕ) (e : soundTables ps ts tb pb ≡ true) (n t : ℕ) (live : liveQueue (view (storeOf ps ts tb pb)) (targetQueue n t) ≡ true)
+    (how : Marking) where
+  abbrev st : Store
+  st = storeOf ps ts tb pb
+
+  process-store : t ≡ 0 → (ps′ : List ℕ)
+      → processesOf ps′ ≡ set (processesOf ps) (find (isProcess n) (heldProcesses ps)) (remarked how (processAt ps (find (isProcess n) (heldProcesses ps))))
+      → storeOf ps′ ts tb pb ≡ onMarks (marking how (targetQueue n t)) st
+  unfolding storeOf remarked
+  process-store z ps′ k =
+      let l = queue-process (view st) (targetQueue n t) live in
+      let s = store-sound ps ts tb pb e in
+      subst (λ (i : ℕ). storeOf ps′ ts tb pb ≡ onMarks (marking how (targetQueue n i)) st) (sym z)
+      (with-all ps′ ts tb pb (k ∙ sym (process-marks-set st s (markedBy how) n l)) (sym (thread-marks-kept st s (markedBy how) n l)) refl refl)
+
+  thread-store : eqb t 0 ≡ false → (ts′ : List ℕ)
+      → threadsOf ts′ ≡ set (threadsOf ts) (find (isThread t) (heldThreads ts)) (remarked how (threadAt ts (find (isThread t) (heldThreads ts))))
+      → storeOf ps ts′ tb pb ≡ onMarks (marking how (targetQueue n t)) st
+  unfolding storeOf remarked
+  thread-store z ts′ k =
+      let q = targetQueue n t in
+      let l = queue-thread (view st) q live z in
+      let o = queue-owner (view st) q live z in
+      let s = store-sound ps ts tb pb e in
+      with-all ps ts′ tb pb (sym (process-marks-kept st s (markedBy how) q l o)) (k ∙ sym (thread-marks-set st s (markedBy how) q l o)) refl refl
+
+-- o is the signal alone
+module _ (ps ts tb pb : List ℕ) (e : soundTables ps ts tb pb ≡ true) (n t s : ℕ) (o : SigSet) (alone : o ≡ ofSignal s) where
+  abbrev processTo : Marking → List ℕ → Type 0
+  processTo how ps′ = processesOf ps′ ≡ set (processesOf ps) (find (isProcess n) (heldProcesses ps)) (remarked how (processAt ps (find (isProcess n) (heldProcesses ps))))
+
+  abbrev threadTo : Marking → List ℕ → Type 0
+  threadTo how ts′ = threadsOf ts′ ≡ set (threadsOf ts) (find (isThread t) (heldThreads ts)) (remarked how (threadAt ts (find (isThread t) (heldThreads ts))))
+
+  module _ (f : fits (view (storeOf ps ts tb pb)) (setMark (targetQueue n t) s) ≡ true) where
+    pub set-process : t ≡ 0 → (ps′ : List ℕ) → processTo (Adding o) ps′ → storeOf ps′ ts tb pb ≡ apply (setMark (targetQueue n t) s) (storeOf ps ts tb pb)
+    unfolding apply markedBy
+    set-process z ps′ k =
+        process-store ps ts tb pb e n t (mark-queue (view (storeOf ps ts tb pb)) (targetQueue n t) s f) (Adding (ofSignal s)) z ps′
+        (subst (λ (u : SigSet). processTo (Adding u) ps′) alone k)
+
+    pub set-thread : eqb t 0 ≡ false → (ts′ : List ℕ) → threadTo (Adding o) ts′ → storeOf ps ts′ tb pb ≡ apply (setMark (targetQueue n t) s) (storeOf ps ts tb pb)
+    unfolding apply markedBy
+    set-thread z ts′ k =
+        thread-store ps ts tb pb e n t (mark-queue (view (storeOf ps ts tb pb)) (targetQueue n t) s f) (Adding (ofSignal s)) z ts′
+        (subst (λ (u : SigSet). threadTo (Adding u) ts′) alone k)
+
+  module _ (f : fits (view (storeOf ps ts tb pb)) (clearMark (targetQueue n t) s) ≡ true) where
+    pub clear-process : t ≡ 0 → (ps′ : List ℕ) → processTo (Removing o) ps′ → storeOf ps′ ts tb pb ≡ apply (clearMark (targetQueue n t) s) (storeOf ps ts tb pb)
+    unfolding apply markedBy
+    clear-process z ps′ k =
+        process-store ps ts tb pb e n t (unmark-queue (view (storeOf ps ts tb pb)) (targetQueue n t) s f) (Removing (ofSignal s)) z ps′
+        (subst (λ (u : SigSet). processTo (Removing u) ps′) alone k)
+
+    pub clear-thread : eqb t 0 ≡ false → (ts′ : List ℕ) → threadTo (Removing o) ts′ → storeOf ps ts′ tb pb ≡ apply (clearMark (targetQueue n t) s) (storeOf ps ts tb pb)
+    unfolding apply markedBy
+    clear-thread z ts′ k =
+        thread-store ps ts tb pb e n t (unmark-queue (view (storeOf ps ts tb pb)) (targetQueue n t) s f) (Removing (ofSignal s)) z ts′
+        (subst (λ (u : SigSet). threadTo (Removing u) ts′) alone k)
+
+-- ---- the tables: all queues of a process
+
+threads-remarked : (n : ℕ) (how : Marking) (xs : List (Place Thread)) → map (remarkedOf n how) xs ≡ marksWhere (λ (t : Thread). eqb (t .process) n) (markedBy how) xs
+unfolding remarkedOf remarked
+threads-remarked n how xs =
+    ap (λ (f : Place Thread → Place Thread). map f xs)
+    (fun-ext (λ x. sym (cond-map (λ m. record { holds = x .holds; marks = m }) (eqb (x .holds .process) n) (markedBy how (x .marks)) (x .marks))))
+
+module _ (ps ts tb pb : List ℕ) (e : soundTables ps ts tb pb ≡ true) (n : ℕ) (signals : SigSet)
+    (f : fits (view (storeOf ps ts tb pb)) (discard n signals) ≡ true) where
+  pub discard-store : (ps′ ts′ tb′ pb′ : List ℕ)
+      → processesOf ps′ ≡ set (processesOf ps) (find (isProcess n) (heldProcesses ps)) (remarked (Removing signals) (processAt ps (find (isProcess n) (heldProcesses ps))))
+      → threadsOf ts′ ≡ map (remarkedOf n (Removing signals)) (threadsOf ts)
+      → slotsOf tb′ ≡ onSlots (keep (spares (OfSignals n signals))) (slotsOf tb)
+      → slotsOf pb′ ≡ onSlots (keep (spares (OfSignals n signals))) (slotsOf pb)
+      → storeOf ps′ ts′ tb′ pb′ ≡ apply (discard n signals) (storeOf ps ts tb pb)
+  unfolding apply fits storeOf remarked markedBy spares
+  discard-store ps′ ts′ tb′ pb′ p t b q =
+      with-all ps′ ts′ tb′ pb′
+      (p ∙ sym (marks-of-id (storeOf ps ts tb pb) (store-sound ps ts tb pb e) (λ m. without m signals) n f))
+      (t ∙ threads-remarked n (Removing signals) (threadsOf ts))
+      b q

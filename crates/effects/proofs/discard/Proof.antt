@@ -1,0 +1,84 @@
+-- `discard` meets its contract: both buffers, the marks of the process and those of its threads. Assumes nothing.
+use borrow.Author.Needs.{needs}
+use Rattle.rules.specs.View.{discard}
+use Rattle.rules.specs.Store.{view}
+use Rattle.sound.specs.Lent.{storeOf}
+use Rattle.sound.proofs.Facts.{processes-long, threads-long, thread-buffer-laid, process-buffer-laid}
+use Rattle.effects.proofs.After.{after}
+use Rattle.effects.proofs.Fitted.{discard-live}
+use Rattle.effects.proofs.Places.{process-listed}
+use Rattle.effects.proofs.Queues.{discard-store}
+use Rattle.effects.proofs.discard.Statement.{statement}
+use Rattle.effects.proofs.discard.Tie as tie
+
+discard-requires : tie.Need-discard-requires
+discard-requires c κs =
+    let a = c .before .before .before .before .before in
+    thread-buffer-laid (a .args .ps .now) (a .args .ts .now) (a .args .tb .now) (a .args .pb .now) (a .pre .0)
+
+discard-requires-2 : tie.Need-discard-requires-2
+discard-requires-2 c κs =
+    let a = c .before .before .before .before .before .before .before .before .before in
+    process-buffer-laid (a .args .ps .now) (a .args .ts .now) (a .args .tb .now) (a .args .pb .now) (a .pre .0)
+
+remark-process-requires : tie.Need-remark-process-requires
+remark-process-requires c κs =
+    let a = c .before .before .before .before .before .before .before .before .before .before .before .before .before in
+    let ps = a .args .ps .now in
+    let ts = a .args .ts .now in
+    let tb = a .args .tb .now in
+    let pb = a .args .pb .now in
+    let live = discard-live (view (storeOf ps ts tb pb)) (a .args .process) (a .args .signals) (a .pre .1) in
+    (processes-long ps ts tb pb (a .pre .0), process-listed ps ts tb pb (a .args .process) live)
+
+remark-threads-requires : tie.Need-remark-threads-requires
+remark-threads-requires c κs =
+    let a = c .before .before .before .before .before .before .before .before .before .before .before .before .before .before .before .before .before in
+    threads-long (a .args .ps .now) (a .args .ts .now) (a .args .tb .now) (a .args .pb .now) (a .pre .0)
+
+same-length : tie.Need-same-length
+same-length c = search needs
+
+same-length-2 : tie.Need-same-length-2
+same-length-2 c = search needs
+
+same-length-3 : tie.Need-same-length-3
+same-length-3 c = search needs
+
+same-length-4 : tie.Need-same-length-4
+same-length-4 c = search needs
+
+returns : tie.Need-returns
+returns c =
+    let t = c .before .before in
+    let p = t .before .before .before .before in
+    let q = p .before .before .before .before in
+    let b = q .before .before .before .before in
+    let a = b .before .before .before .before .before .before in
+    let ps = a .args .ps .now in
+    let ts = a .args .ts .now in
+    let tb = a .args .tb .now in
+    let pb = a .args .pb .now in
+    let n = a .args .process in
+    let signals = a .args .signals in
+    let ps′ = p .remark-process .last .0 in
+    let ts′ = t .remark-threads .last .0 in
+    let tb′ = b .discard .last .0 in
+    let pb′ = q .discard2 .last .0 in
+    after (discard n signals) ps ts tb pb ps′ ts′ tb′ pb′ (a .pre .0) (a .pre .1) (search needs) (search needs) (search needs) (search needs)
+    (discard-store ps ts tb pb (a .pre .0) n signals (a .pre .1) ps′ ts′ tb′ pb′
+    (p .remark-process .ensures) (t .remark-threads .ensures) (b .discard .ensures) (q .discard2 .ensures))
+
+pub discard-spec : {M : Type 1} → statement M
+discard-spec =
+    tie.close
+    (tie.spec
+    discard-requires
+    discard-requires-2
+    remark-process-requires
+    remark-threads-requires
+    same-length
+    same-length-2
+    same-length-3
+    same-length-4
+    returns)

@@ -1,0 +1,99 @@
+-- `drop_oldest` meets its contract, a case for each buffer. Assumes nothing.
+use mathlib.Core.Path.{refl}
+use borrow.Author.Needs.{needs}
+use borrow.Author.Tests.{eq-eqb, ne-eqb}
+use Rattle.rules.specs.View.{targetQueue, dropOldest}
+use Rattle.sound.proofs.Facts.{thread-buffer-long, process-buffer-long, thread-buffer-laid, process-buffer-laid}
+use Rattle.effects.proofs.After.{after}
+use Rattle.effects.proofs.Buffers.{oldest-process, oldest-thread, drop-process, drop-thread}
+use Rattle.effects.proofs.drop_oldest.Statement.{statement}
+use Rattle.effects.proofs.drop_oldest.Tie as tie
+
+first-of-requires : tie.Need-first-of-requires
+first-of-requires c κs =
+    let a = c .before .before .before .before .before .before in
+    process-buffer-long (a .args .ps .now) (a .args .ts .now) (a .args .tb .now) (a .args .pb .now) (a .pre .0)
+
+remove-requires : tie.Need-remove-requires
+remove-requires c κs =
+    let d = c .before in
+    let i = d .before .before in
+    let a = i .before .before .before .before .before in
+    let ps = a .args .ps .now in
+    let ts = a .args .ts .now in
+    let tb = a .args .tb .now in
+    let pb = a .args .pb .now in
+    let q = targetQueue (a .args .process) (a .args .thread) in (
+      process-buffer-laid ps ts tb pb (a .pre .0),
+      oldest-process ps ts tb pb q (a .args .signal) (d .first-of .result) (a .pre .1) (eq-eqb (a .args .thread) 0 (i .if1 .taken)) (d .first-of .ensures),
+    )
+
+first-of-requires-2 : tie.Need-first-of-requires-2
+first-of-requires-2 c κs =
+    let a = c .before .before .before .before .before .before in
+    thread-buffer-long (a .args .ps .now) (a .args .ts .now) (a .args .tb .now) (a .args .pb .now) (a .pre .0)
+
+remove-requires-2 : tie.Need-remove-requires-2
+remove-requires-2 c κs =
+    let d = c .before in
+    let i = d .before .before in
+    let a = i .before .before .before .before .before in
+    let ps = a .args .ps .now in
+    let ts = a .args .ts .now in
+    let tb = a .args .tb .now in
+    let pb = a .args .pb .now in
+    let q = targetQueue (a .args .process) (a .args .thread) in (
+      thread-buffer-laid ps ts tb pb (a .pre .0),
+      oldest-thread ps ts tb pb q (a .args .signal) (d .first-of2 .result) (a .pre .1) (ne-eqb (a .args .thread) 0 (i .if1 .left)) (d .first-of2 .ensures),
+    )
+
+same-length : tie.Need-same-length
+same-length c = search needs
+
+returns : tie.Need-returns
+returns c =
+    let w = c .before .before in
+    let d = w .before .before in
+    let i = d .before .before in
+    let a = i .before .before .before .before .before in
+    let ps = a .args .ps .now in
+    let ts = a .args .ts .now in
+    let tb = a .args .tb .now in
+    let pb = a .args .pb .now in
+    let q = targetQueue (a .args .process) (a .args .thread) in
+    let s = a .args .signal in
+    let pb′ = w .remove .last .0 in
+    after (dropOldest q s) ps ts tb pb ps ts tb pb′ (a .pre .0) (a .pre .1) refl refl refl (search needs)
+    (drop-process ps ts tb pb q s (d .first-of .result) (eq-eqb (a .args .thread) 0 (i .if1 .taken)) (d .first-of .ensures) pb′ (w .remove .ensures))
+
+same-length-2 : tie.Need-same-length-2
+same-length-2 c = search needs
+
+returns-2 : tie.Need-returns-2
+returns-2 c =
+    let w = c .before .before in
+    let d = w .before .before in
+    let i = d .before .before in
+    let a = i .before .before .before .before .before in
+    let ps = a .args .ps .now in
+    let ts = a .args .ts .now in
+    let tb = a .args .tb .now in
+    let pb = a .args .pb .now in
+    let q = targetQueue (a .args .process) (a .args .thread) in
+    let s = a .args .signal in
+    let tb′ = w .remove2 .last .0 in
+    after (dropOldest q s) ps ts tb pb ps ts tb′ pb (a .pre .0) (a .pre .1) refl refl (search needs) refl
+    (drop-thread ps ts tb pb q s (d .first-of2 .result) (ne-eqb (a .args .thread) 0 (i .if1 .left)) (d .first-of2 .ensures) tb′ (w .remove2 .ensures))
+
+pub drop-oldest-spec : {M : Type 1} → statement M
+drop-oldest-spec =
+    tie.close
+    (tie.spec
+    first-of-requires
+    remove-requires
+    first-of-requires-2
+    remove-requires-2
+    same-length
+    returns
+    same-length-2
+    returns-2)

@@ -1,0 +1,86 @@
+-- `remark_threads` meets its contract. The invariant: the threads below i are remarked. Assumes nothing.
+use mathlib.Core.Path.{_∙_, ap}
+use mathlib.Core.Logic.{⊎-elim}
+use Prim.Native.Nat.{_-_}
+use native.Mathlib.Omega.{arith}
+use borrow.Author.Needs.{needs}
+use lib.ListN.{length}
+use Rattle.limits.specs.Limits.{threadPlaces}
+use Rattle.tables.specs.Tables.{threadsOf, threadAt}
+use Rattle.effects.specs.Effects.{remarkedOf}
+use Rattle.effects.proofs.Marks.{Passing, passing-start, passing-step, passing-skip, passing-done, remarked-here, remarked-not}
+use Rattle.effects.proofs.remark_threads.Statement.{statement}
+use Rattle.effects.proofs.remark_threads.Tie as tie
+
+abbrev Inv-loop : tie.InvT-loop
+Inv-loop ts₀ process how i₀ ts i = Passing (remarkedOf process how) ts₀ ts i
+
+abbrev μ-loop : tie.MeasureT-loop
+μ-loop ts₀ process how i₀ ts i = threadPlaces - i
+
+loop-holds : tie.Need-loop-holds Inv-loop μ-loop
+loop-holds c = let a = c .before in passing-start (remarkedOf (a .args .process) (a .args .how)) (a .args .ts .now) (a .pre)
+
+thread-field-at-requires : tie.Need-thread-field-at-requires Inv-loop μ-loop
+thread-field-at-requires c κs = search needs
+
+thread-field-at-requires-2 : tie.Need-thread-field-at-requires-2 Inv-loop μ-loop
+thread-field-at-requires-2 c κs = search needs
+
+marked-requires : tie.Need-marked-requires Inv-loop μ-loop
+marked-requires c κs = search needs
+
+put-thread-field-requires : tie.Need-put-thread-field-requires Inv-loop μ-loop
+put-thread-field-requires c κs = search needs
+
+add-i : tie.Need-add-i Inv-loop μ-loop
+add-i c = search needs
+
+loop-less : tie.Need-loop-less Inv-loop μ-loop
+loop-less c = search needs
+
+loop-again : tie.Need-loop-again Inv-loop μ-loop
+loop-again c =
+    let r = c .before in
+    let l = r .before .before .before in
+    let a = l .before .before in
+    let p = a .args .process in
+    let how = a .args .how in
+    let ts₀ = a .args .ts .now in
+    let ts = l .loop .ts in
+    let i = l .loop .i in
+    let x = threadAt ts i in
+    let h = r .before .before .loop-test .taken in
+    ⊎-elim
+    (λ w.
+    passing-step (remarkedOf p how) ts₀ ts i (l .loop .inv) h (c .if1 .ts) _
+    (remarked-here p (r .thread-field-at .result) x (r .thread-field-at .ensures) how (w .2 .result) (w .3 .result) (w .0 .taken) (w .2 .ensures) (w .3 .ensures))
+    (ap length (w .8) ∙ search needs) (ap threadsOf (w .8) ∙ w .5 .ensures))
+    (λ w. passing-skip (remarkedOf p how) ts₀ ts i (l .loop .inv) h (c .if1 .ts) (remarked-not p (r .thread-field-at .result) x (r .thread-field-at .ensures) how (w .0 .left)) (w .1))
+    (c .if1 .came)
+
+same-length : tie.Need-same-length Inv-loop μ-loop
+same-length c = search needs
+
+returns : tie.Need-returns Inv-loop μ-loop
+returns c =
+    let l = c .before in
+    let a = l .before .before in
+    passing-done (remarkedOf (a .args .process) (a .args .how)) (a .args .ts .now) (l .loop .ts) (l .loop .i) (omega (arith, c .loop-test .left)) (l .loop .inv)
+
+pub remark-threads-spec : {M : Type 1} → statement M
+remark-threads-spec =
+    tie.close
+    (tie.spec
+    Inv-loop
+    μ-loop
+    loop-holds
+    thread-field-at-requires
+    thread-field-at-requires-2
+    marked-requires
+    put-thread-field-requires
+    add-i
+    loop-less
+    loop-again
+    same-length
+    returns)

@@ -1,0 +1,92 @@
+-- `remove_process` meets its contract: its place, those of its threads and both buffers. Assumes nothing.
+use borrow.Author.Needs.{needs}
+use Rattle.rules.specs.View.{removeProcess}
+use Rattle.rules.specs.Store.{view}
+use Rattle.sound.specs.Lent.{storeOf}
+use Rattle.sound.proofs.Facts.{processes-long, threads-long, thread-buffer-laid, process-buffer-laid}
+use Rattle.effects.proofs.After.{after}
+use Rattle.effects.proofs.Fitted.{ended-live}
+use Rattle.effects.proofs.Places.{process-inside}
+use Rattle.effects.proofs.Removed.{process-removed}
+use Rattle.effects.proofs.remove_process.Statement.{statement}
+use Rattle.effects.proofs.remove_process.Tie as tie
+
+find-process-requires : tie.Need-find-process-requires
+find-process-requires c κs =
+    let a = c .before .before .before .before .before in
+    processes-long (a .args .ps .now) (a .args .ts .now) (a .args .tb .now) (a .args .pb .now) (a .pre .0)
+
+clear-process-requires : tie.Need-clear-process-requires
+clear-process-requires c κs =
+    let d = c .before in
+    let a = d .before .before .before .before .before .before in
+    let ps = a .args .ps .now in
+    let ts = a .args .ts .now in
+    let tb = a .args .tb .now in
+    let pb = a .args .pb .now in
+    let n = a .args .process in
+    let live = ended-live (view (storeOf ps ts tb pb)) n (a .pre .1) in
+    (processes-long ps ts tb pb (a .pre .0), process-inside ps ts tb pb n (d .find-process .result) live (d .find-process .ensures))
+
+vacate-threads-requires : tie.Need-vacate-threads-requires
+vacate-threads-requires c κs =
+    let a = c .before .before .before .before .before .before .before .before .before .before .before in
+    threads-long (a .args .ps .now) (a .args .ts .now) (a .args .tb .now) (a .args .pb .now) (a .pre .0)
+
+discard-requires : tie.Need-discard-requires
+discard-requires c κs =
+    let a = c .before .before .before .before .before .before .before .before .before .before .before .before .before .before .before in
+    thread-buffer-laid (a .args .ps .now) (a .args .ts .now) (a .args .tb .now) (a .args .pb .now) (a .pre .0)
+
+discard-requires-2 : tie.Need-discard-requires-2
+discard-requires-2 c κs =
+    let a = c .before .before .before .before .before .before .before .before .before .before .before .before .before .before .before .before .before .before .before in
+    process-buffer-laid (a .args .ps .now) (a .args .ts .now) (a .args .tb .now) (a .args .pb .now) (a .pre .0)
+
+same-length : tie.Need-same-length
+same-length c = search needs
+
+same-length-2 : tie.Need-same-length-2
+same-length-2 c = search needs
+
+same-length-3 : tie.Need-same-length-3
+same-length-3 c = search needs
+
+same-length-4 : tie.Need-same-length-4
+same-length-4 c = search needs
+
+returns : tie.Need-returns
+returns c =
+    let q = c .before .before in
+    let b = q .before .before .before .before in
+    let t = b .before .before .before .before in
+    let w = t .before .before .before .before in
+    let d = w .before .before in
+    let a = d .before .before .before .before .before .before in
+    let ps = a .args .ps .now in
+    let ts = a .args .ts .now in
+    let tb = a .args .tb .now in
+    let pb = a .args .pb .now in
+    let n = a .args .process in
+    let ps′ = w .clear-process .last .0 in
+    let ts′ = t .vacate-threads .last .0 in
+    let tb′ = b .discard .last .0 in
+    let pb′ = q .discard2 .last .0 in
+    after (removeProcess n) ps ts tb pb ps′ ts′ tb′ pb′ (a .pre .0) (a .pre .1) (search needs) (search needs) (search needs) (search needs)
+    (process-removed ps ts tb pb (a .pre .0) n (d .find-process .result) ps′ ts′ tb′ pb′ (a .pre .1) (d .find-process .ensures)
+    (w .clear-process .ensures) (t .vacate-threads .ensures) (b .discard .ensures) (q .discard2 .ensures))
+
+pub remove-process-spec : {M : Type 1} → statement M
+remove-process-spec =
+    tie.close
+    (tie.spec
+    find-process-requires
+    clear-process-requires
+    vacate-threads-requires
+    discard-requires
+    discard-requires-2
+    same-length
+    same-length-2
+    same-length-3
+    same-length-4
+    returns)

@@ -1,0 +1,308 @@
+// Each primitive change of the rules, on the lent tables: what they say after it is what the rules' `apply` makes of what they said before, and
+// sound tables stay sound. A table that a change does not touch is lent to it for reading: soundness is of all four.
+ghost use mathlib.Core.Path.{_≡_};
+ghost use mathlib.Core.Bool.{true};
+ghost use mathlib.Core.List.{map};
+ghost use lib.ListN.{length, set, replicate};
+ghost use Rattle.limits.specs.Limits.{threadTable, processTable};
+ghost use Rattle.lists.specs.Lists.{any, find};
+ghost use Rattle.rules.specs.View.{isProcess, isThread, belongsTo, targetQueue, forget, removeProcess, removeThread, setStopped, setAction, setMask, setMark, clearMark, append, dropOldest, discard};
+ghost use Rattle.rules.specs.Store.{freeThread, isFreeProcess, isFreeThread, vacate, fill, view, apply, applyAll};
+ghost use Rattle.rules.specs.Actions.{storeChanges};
+ghost use Rattle.rules.specs.Adding.{newborn};
+ghost use Rattle.rules.specs.Fitting.{fits, fitsAll};
+ghost use Rattle.tables.specs.Tables.{processesOf, threadsOf, heldProcesses, heldThreads, processAt, threadAt};
+ghost use Rattle.sound.specs.Lent.{storeOf, lengthsAre, soundTables};
+ghost use Rattle.effects.specs.Effects.{markedBy, remarked, remarkedOf, threadOf};
+use limits::PROCESS_MARKS;
+use limits::PROCESS_STOPPED;
+use limits::THREAD_MARKS;
+use limits::THREAD_MASK;
+use limits::THREAD_PLACES;
+use limits::THREAD_PROCESS;
+use queue::Doomed;
+use sigset::SigSet;
+use types::Action;
+use types::Siginfo;
+
+// How marks change: signals are added to them or removed from them.
+enum Marking {
+    Adding(SigSet),
+    Removing(SigSet),
+}
+
+// ---- marks
+
+fn marked(m: SigSet, how: Marking) -> SigSet
+    ensures { λ r. ⌜ r ≡ markedBy how m ⌝ }
+{
+    match how {
+        Marking::Adding(s) => SigSet::union(m, s),
+        Marking::Removing(s) => SigSet::without(m, s),
+    }
+}
+
+// The marks of a live process.
+fn remark_process(ps: &mut [u64], process: u32, how: Marking)
+    requires { ⌜ length (now ps) ≡ processTable ⌝ }
+    requires { ⌜ any (isProcess process) (heldProcesses (now ps)) ≡ true ⌝ }
+    ensures { λ _. ⌜ processesOf (now (ps .exit)) ≡ set (processesOf (now (ps .entry))) (find (isProcess process) (heldProcesses (now (ps .entry))))
+        (remarked how (processAt (now (ps .entry)) (find (isProcess process) (heldProcesses (now (ps .entry)))))) ⌝ }
+{
+    let place = tables::find_process(ps, process as u64);
+    let m = marked(SigSet(tables::field_at(ps, place, PROCESS_MARKS)), how);
+    tables::put_field(ps, place, PROCESS_MARKS, m.0);
+}
+
+// The marks of a live thread.
+fn remark_thread(ts: &mut [u64], thread: u32, how: Marking)
+    requires { ⌜ length (now ts) ≡ threadTable ⌝ }
+    requires { ⌜ any (isThread thread) (heldThreads (now ts)) ≡ true ⌝ }
+    ensures { λ _. ⌜ threadsOf (now (ts .exit)) ≡ set (threadsOf (now (ts .entry))) (find (isThread thread) (heldThreads (now (ts .entry))))
+        (remarked how (threadAt (now (ts .entry)) (find (isThread thread) (heldThreads (now (ts .entry)))))) ⌝ }
+{
+    let place = tables::find_thread(ts, thread as u64);
+    let m = marked(
+        SigSet(tables::thread_field_at(ts, place, THREAD_MARKS)),
+        how,
+    );
+    tables::put_thread_field(ts, place, THREAD_MARKS, m.0);
+}
+
+// The marks of every thread of a process.
+fn remark_threads(ts: &mut [u64], process: u32, how: Marking)
+    requires { ⌜ length (now ts) ≡ threadTable ⌝ }
+    ensures { λ _. ⌜ threadsOf (now (ts .exit)) ≡ map (remarkedOf process how) (threadsOf (now (ts .entry))) ⌝ }
+{
+    let mut i = 0;
+    while i < THREAD_PLACES {
+        if tables::thread_field_at(ts, i, THREAD_PROCESS) == process as u64 {
+            let m = marked(SigSet(tables::thread_field_at(ts, i, THREAD_MARKS)), how);
+            tables::put_thread_field(ts, i, THREAD_MARKS, m.0);
+        }
+        i += 1;
+    }
+}
+
+// A signal becomes pending in a queue without a value; the process's own where the thread is 0.
+pub fn set_mark(
+    ps: &mut [u64],
+    ts: &mut [u64],
+    tb: &[u8],
+    pb: &[u8],
+    process: u32,
+    thread: u32,
+    signal: u32,
+)
+    requires { ⌜ soundTables (now ps) (now ts) (now tb) (now pb) ≡ true ⌝ }
+    requires { ⌜ fits (view (storeOf (now ps) (now ts) (now tb) (now pb))) (setMark (targetQueue process thread) signal) ≡ true ⌝ }
+    ensures { λ _. ⌜ storeOf (now (ps .exit)) (now (ts .exit)) (now (tb .entry)) (now (pb .entry)) ≡ apply (setMark (targetQueue process thread) signal) (storeOf (now (ps .entry)) (now (ts .entry)) (now (tb .entry)) (now (pb .entry))) ⌝ }
+    ensures { λ _. ⌜ soundTables (now (ps .exit)) (now (ts .exit)) (now (tb .entry)) (now (pb .entry)) ≡ true ⌝ }
+{
+    let how = Marking::Adding(SigSet::of_signal(signal));
+    if thread == 0 {
+        remark_process(ps, process, how);
+    } else {
+        remark_thread(ts, thread, how);
+    }
+}
+
+// The mark of a signal in a queue goes.
+pub fn clear_mark(
+    ps: &mut [u64],
+    ts: &mut [u64],
+    tb: &[u8],
+    pb: &[u8],
+    process: u32,
+    thread: u32,
+    signal: u32,
+)
+    requires { ⌜ soundTables (now ps) (now ts) (now tb) (now pb) ≡ true ⌝ }
+    requires { ⌜ fits (view (storeOf (now ps) (now ts) (now tb) (now pb))) (clearMark (targetQueue process thread) signal) ≡ true ⌝ }
+    ensures { λ _. ⌜ storeOf (now (ps .exit)) (now (ts .exit)) (now (tb .entry)) (now (pb .entry)) ≡ apply (clearMark (targetQueue process thread) signal) (storeOf (now (ps .entry)) (now (ts .entry)) (now (tb .entry)) (now (pb .entry))) ⌝ }
+    ensures { λ _. ⌜ soundTables (now (ps .exit)) (now (ts .exit)) (now (tb .entry)) (now (pb .entry)) ≡ true ⌝ }
+{
+    let how = Marking::Removing(SigSet::of_signal(signal));
+    if thread == 0 {
+        remark_process(ps, process, how);
+    } else {
+        remark_thread(ts, thread, how);
+    }
+}
+
+// ---- records
+
+// A record at the end of its buffer.
+pub fn append(ps: &[u64], ts: &[u64], tb: &mut [u8], pb: &mut [u8], r: Siginfo)
+    requires { ⌜ soundTables (now ps) (now ts) (now tb) (now pb) ≡ true ⌝ }
+    requires { ⌜ fits (view (storeOf (now ps) (now ts) (now tb) (now pb))) (append r) ≡ true ⌝ }
+    ensures { λ _. ⌜ storeOf (now (ps .entry)) (now (ts .entry)) (now (tb .exit)) (now (pb .exit)) ≡ apply (append r) (storeOf (now (ps .entry)) (now (ts .entry)) (now (tb .entry)) (now (pb .entry))) ⌝ }
+    ensures { λ _. ⌜ soundTables (now (ps .entry)) (now (ts .entry)) (now (tb .exit)) (now (pb .exit)) ≡ true ⌝ }
+{
+    if r.thread == 0 {
+        queue::append(pb, r);
+    } else {
+        queue::append(tb, r);
+    }
+}
+
+// The oldest record of a queue and a signal goes.
+pub fn drop_oldest(
+    ps: &[u64],
+    ts: &[u64],
+    tb: &mut [u8],
+    pb: &mut [u8],
+    process: u32,
+    thread: u32,
+    signal: u32,
+)
+    requires { ⌜ soundTables (now ps) (now ts) (now tb) (now pb) ≡ true ⌝ }
+    requires { ⌜ fits (view (storeOf (now ps) (now ts) (now tb) (now pb))) (dropOldest (targetQueue process thread) signal) ≡ true ⌝ }
+    ensures { λ _. ⌜ storeOf (now (ps .entry)) (now (ts .entry)) (now (tb .exit)) (now (pb .exit)) ≡ apply (dropOldest (targetQueue process thread) signal) (storeOf (now (ps .entry)) (now (ts .entry)) (now (tb .entry)) (now (pb .entry))) ⌝ }
+    ensures { λ _. ⌜ soundTables (now (ps .entry)) (now (ts .entry)) (now (tb .exit)) (now (pb .exit)) ≡ true ⌝ }
+{
+    if thread == 0 {
+        let k = queue::first_of(pb, process, thread, signal);
+        queue::remove(pb, k);
+    } else {
+        let k = queue::first_of(tb, process, thread, signal);
+        queue::remove(tb, k);
+    }
+}
+
+// The signals of a set go from every queue of a process.
+pub fn discard(
+    ps: &mut [u64],
+    ts: &mut [u64],
+    tb: &mut [u8],
+    pb: &mut [u8],
+    process: u32,
+    signals: SigSet,
+)
+    requires { ⌜ soundTables (now ps) (now ts) (now tb) (now pb) ≡ true ⌝ }
+    requires { ⌜ fits (view (storeOf (now ps) (now ts) (now tb) (now pb))) (discard process signals) ≡ true ⌝ }
+    ensures { λ _. ⌜ storeOf (now (ps .exit)) (now (ts .exit)) (now (tb .exit)) (now (pb .exit)) ≡ apply (discard process signals) (storeOf (now (ps .entry)) (now (ts .entry)) (now (tb .entry)) (now (pb .entry))) ⌝ }
+    ensures { λ _. ⌜ soundTables (now (ps .exit)) (now (ts .exit)) (now (tb .exit)) (now (pb .exit)) ≡ true ⌝ }
+{
+    queue::discard(tb, Doomed::OfSignals(process, signals));
+    queue::discard(pb, Doomed::OfSignals(process, signals));
+    remark_process(ps, process, Marking::Removing(signals));
+    remark_threads(ts, process, Marking::Removing(signals));
+}
+
+// ---- fields
+
+// 1 stops a process, 0 lets it run.
+pub fn set_stopped(ps: &mut [u64], ts: &[u64], tb: &[u8], pb: &[u8], process: u32, stopped: u64)
+    requires { ⌜ soundTables (now ps) (now ts) (now tb) (now pb) ≡ true ⌝ }
+    requires { ⌜ fits (view (storeOf (now ps) (now ts) (now tb) (now pb))) (setStopped process stopped) ≡ true ⌝ }
+    ensures { λ _. ⌜ storeOf (now (ps .exit)) (now (ts .entry)) (now (tb .entry)) (now (pb .entry)) ≡ apply (setStopped process stopped) (storeOf (now (ps .entry)) (now (ts .entry)) (now (tb .entry)) (now (pb .entry))) ⌝ }
+    ensures { λ _. ⌜ soundTables (now (ps .exit)) (now (ts .entry)) (now (tb .entry)) (now (pb .entry)) ≡ true ⌝ }
+{
+    let place = tables::find_process(ps, process as u64);
+    tables::put_field(ps, place, PROCESS_STOPPED, stopped);
+}
+
+// The action of a signal.
+pub fn set_action(
+    ps: &mut [u64],
+    ts: &[u64],
+    tb: &[u8],
+    pb: &[u8],
+    process: u32,
+    signal: u32,
+    a: Action,
+)
+    requires { ⌜ soundTables (now ps) (now ts) (now tb) (now pb) ≡ true ⌝ }
+    requires { ⌜ fits (view (storeOf (now ps) (now ts) (now tb) (now pb))) (setAction process signal a) ≡ true ⌝ }
+    ensures { λ _. ⌜ storeOf (now (ps .exit)) (now (ts .entry)) (now (tb .entry)) (now (pb .entry)) ≡ apply (setAction process signal a) (storeOf (now (ps .entry)) (now (ts .entry)) (now (tb .entry)) (now (pb .entry))) ⌝ }
+    ensures { λ _. ⌜ soundTables (now (ps .exit)) (now (ts .entry)) (now (tb .entry)) (now (pb .entry)) ≡ true ⌝ }
+{
+    let place = tables::find_process(ps, process as u64);
+    tables::put_action(ps, place, signal, a);
+}
+
+// The mask of a thread.
+pub fn set_mask(ps: &[u64], ts: &mut [u64], tb: &[u8], pb: &[u8], thread: u32, mask: SigSet)
+    requires { ⌜ soundTables (now ps) (now ts) (now tb) (now pb) ≡ true ⌝ }
+    requires { ⌜ fits (view (storeOf (now ps) (now ts) (now tb) (now pb))) (setMask thread mask) ≡ true ⌝ }
+    ensures { λ _. ⌜ storeOf (now (ps .entry)) (now (ts .exit)) (now (tb .entry)) (now (pb .entry)) ≡ apply (setMask thread mask) (storeOf (now (ps .entry)) (now (ts .entry)) (now (tb .entry)) (now (pb .entry))) ⌝ }
+    ensures { λ _. ⌜ soundTables (now (ps .entry)) (now (ts .exit)) (now (tb .entry)) (now (pb .entry)) ≡ true ⌝ }
+{
+    let place = tables::find_thread(ts, thread as u64);
+    tables::put_thread_field(ts, place, THREAD_MASK, mask.0);
+}
+
+// ---- places
+
+// A new process into the lowest free place.
+pub fn new_process(ps: &mut [u64], id: u32, real: u32, effective: u32, saved: u32, session: u32)
+    requires { ⌜ length (now ps) ≡ processTable ⌝ }
+    requires { ⌜ any isFreeProcess (heldProcesses (now ps)) ≡ true ⌝ }
+    ensures { λ _. ⌜ processesOf (now (ps .exit)) ≡ fill isFreeProcess (newborn id real effective saved session) (processesOf (now (ps .entry))) ⌝ }
+{
+    let place = tables::free_process(ps);
+    tables::fill_process(ps, place, id, real, effective, saved, session);
+}
+
+// A new thread into the lowest free place.
+pub fn new_thread(ts: &mut [u64], id: u32, process: u32, mask: SigSet)
+    requires { ⌜ length (now ts) ≡ threadTable ⌝ }
+    requires { ⌜ any isFreeThread (heldThreads (now ts)) ≡ true ⌝ }
+    ensures { λ _. ⌜ threadsOf (now (ts .exit)) ≡ fill isFreeThread (threadOf id process mask) (threadsOf (now (ts .entry))) ⌝ }
+{
+    let place = tables::free_thread(ts);
+    tables::fill_thread(ts, place, id, process, mask);
+}
+
+// The places of all threads of a process become free.
+fn vacate_threads(ts: &mut [u64], process: u32)
+    requires { ⌜ length (now ts) ≡ threadTable ⌝ }
+    ensures { λ _. ⌜ threadsOf (now (ts .exit)) ≡ vacate freeThread (belongsTo process) (threadsOf (now (ts .entry))) ⌝ }
+{
+    let mut i = 0;
+    while i < THREAD_PLACES {
+        if (process != 0) & (tables::thread_field_at(ts, i, THREAD_PROCESS) == process as u64) {
+            tables::clear_thread(ts, i);
+        }
+        i += 1;
+    }
+}
+
+// A process goes, with its threads and all that is pending for it and for them.
+pub fn remove_process(ps: &mut [u64], ts: &mut [u64], tb: &mut [u8], pb: &mut [u8], process: u32)
+    requires { ⌜ soundTables (now ps) (now ts) (now tb) (now pb) ≡ true ⌝ }
+    requires { ⌜ fits (view (storeOf (now ps) (now ts) (now tb) (now pb))) (removeProcess process) ≡ true ⌝ }
+    ensures { λ _. ⌜ storeOf (now (ps .exit)) (now (ts .exit)) (now (tb .exit)) (now (pb .exit)) ≡ apply (removeProcess process) (storeOf (now (ps .entry)) (now (ts .entry)) (now (tb .entry)) (now (pb .entry))) ⌝ }
+    ensures { λ _. ⌜ soundTables (now (ps .exit)) (now (ts .exit)) (now (tb .exit)) (now (pb .exit)) ≡ true ⌝ }
+{
+    let place = tables::find_process(ps, process as u64);
+    tables::clear_process(ps, place);
+    vacate_threads(ts, process);
+    queue::discard(tb, Doomed::OfProcess(process));
+    queue::discard(pb, Doomed::OfProcess(process));
+}
+
+// A thread goes, with all that is pending for it.
+pub fn remove_thread(ps: &[u64], ts: &mut [u64], tb: &mut [u8], pb: &mut [u8], thread: u32)
+    requires { ⌜ soundTables (now ps) (now ts) (now tb) (now pb) ≡ true ⌝ }
+    requires { ⌜ fits (view (storeOf (now ps) (now ts) (now tb) (now pb))) (removeThread thread) ≡ true ⌝ }
+    ensures { λ _. ⌜ storeOf (now (ps .entry)) (now (ts .exit)) (now (tb .exit)) (now (pb .exit)) ≡ apply (removeThread thread) (storeOf (now (ps .entry)) (now (ts .entry)) (now (tb .entry)) (now (pb .entry))) ⌝ }
+    ensures { λ _. ⌜ soundTables (now (ps .entry)) (now (ts .exit)) (now (tb .exit)) (now (pb .exit)) ≡ true ⌝ }
+{
+    let place = tables::find_thread(ts, thread as u64);
+    tables::clear_thread(ts, place);
+    queue::discard(tb, Doomed::OfThread(thread));
+    queue::discard(pb, Doomed::OfThread(thread));
+}
+
+// All of the store is cleared, whatever it held.
+pub fn forget(ps: &mut [u64], ts: &mut [u64], tb: &mut [u8], pb: &mut [u8])
+    requires { ⌜ lengthsAre (now ps) (now ts) (now tb) (now pb) ≡ true ⌝ }
+    ensures { λ _. ⌜ storeOf (now (ps .exit)) (now (ts .exit)) (now (tb .exit)) (now (pb .exit)) ≡ apply forget (storeOf (now (ps .entry)) (now (ts .entry)) (now (tb .entry)) (now (pb .entry))) ⌝ }
+{
+    tables::clear_processes(ps);
+    tables::clear_threads(ts);
+    queue::empty(tb);
+    queue::empty(pb);
+}
