@@ -1,5 +1,6 @@
 pub mod Chain
 pub mod After
+pub mod Stores
 mod Fitted
 mod Places
 mod Fields

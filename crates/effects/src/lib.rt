@@ -222,6 +222,29 @@ pub fn set_action(
     tables::put_action(ps, place, signal, a);
 }
 
+// An action that ignores the signal discards it from every queue of the process.
+pub fn store_action(
+    ps: &mut [u64],
+    ts: &mut [u64],
+    tb: &mut [u8],
+    pb: &mut [u8],
+    process: u32,
+    signal: u32,
+    a: Action,
+)
+    requires { ⌜ soundTables (now ps) (now ts) (now tb) (now pb) ≡ true ⌝ }
+    requires { ⌜ fitsAll (storeChanges process signal a) (storeOf (now ps) (now ts) (now tb) (now pb)) ≡ true ⌝ }
+    ensures store { λ _. ⌜ storeOf (now (ps .exit)) (now (ts .exit)) (now (tb .exit)) (now (pb .exit)) ≡ applyAll (storeChanges process signal a) (storeOf (now (ps .entry)) (now (ts .entry)) (now (tb .entry)) (now (pb .entry))) ⌝ }
+    ensures sound { λ _. ⌜ soundTables (now (ps .exit)) (now (ts .exit)) (now (tb .exit)) (now (pb .exit)) ≡ true ⌝ }
+{
+    if decide::is_ignored(a, signal) {
+        discard(ps, ts, tb, pb, process, SigSet::of_signal(signal));
+        set_action(ps, ts, tb, pb, process, signal, a);
+    } else {
+        set_action(ps, ts, tb, pb, process, signal, a);
+    }
+}
+
 // The mask of a thread.
 pub fn set_mask(ps: &[u64], ts: &mut [u64], tb: &[u8], pb: &[u8], thread: u32, mask: SigSet)
     requires { ⌜ soundTables (now ps) (now ts) (now tb) (now pb) ≡ true ⌝ }

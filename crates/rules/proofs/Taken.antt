@@ -104,7 +104,7 @@ module _ (st : Store) (e : sound st ≡ true) (t : Thread) (p : liveProcess (vie
 -- ---- a live thread of a sound store
 
 module _ (st : Store) (e : sound st ≡ true) (t : ℕ) (l : liveThread (view st) t ≡ true) where
-  abbrev it : Thread
+  abbrev pub it : Thread
   it = theThread (view st) t
 
   it-lives : liveThread (view st) (it .id) ≡ true
@@ -113,7 +113,7 @@ module _ (st : Store) (e : sound st ≡ true) (t : ℕ) (l : liveThread (view st
   its-process : liveProcess (view st) (it .process) ≡ true
   its-process = owner-live st e t l
 
-  thread-queue-live : liveQueue (view st) (threadQueue it) ≡ true
+  pub thread-queue-live : liveQueue (view st) (threadQueue it) ≡ true
   unfolding liveQueue badTarget noProcessLive noThreadLive
   thread-queue-live =
       ap not
@@ -122,7 +122,7 @@ module _ (st : Store) (e : sound st ≡ true) (t : ℕ) (l : liveThread (view st
       (or-both (ap not it-lives)
       (ap not (eq-eqb (theThread (view st) (it .id) .process) (it .process) (ap (λ (k : ℕ). theThread (view st) k .process) (the-thread-id st t l)))))))
 
-  process-queue-live : liveQueue (view st) (processQueue (it .process)) ≡ true
+  pub process-queue-live : liveQueue (view st) (processQueue (it .process)) ≡ true
   unfolding liveQueue badTarget noProcessLive
   process-queue-live = ap not (or-both (ap not its-process) refl)
 

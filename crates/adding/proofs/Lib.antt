@@ -1,0 +1,6 @@
+mod Ends
+mod ProcessRows
+mod ThreadRows
+mod Added
+mod Others
+mod Ended

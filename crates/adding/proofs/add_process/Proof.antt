@@ -1,0 +1,94 @@
+-- `add_process` meets its contract: refused, or the process and its first thread are in their places. Assumes nothing.
+use native.Mathlib.Omega.{arith}
+use Rattle.siginfo.proofs.Numbers.{bytes-each}
+use Rattle.adding.proofs.Added.{process-refused, process-room, first-thread-room, process-added}
+use borrow.Author.Needs.{needs}
+use Rattle.adding.proofs.add_process.Statement.{statement}
+use Rattle.adding.proofs.add_process.Tie as tie
+
+add-process-refusal-requires : tie.Need-add-process-refusal-requires
+add-process-refusal-requires c κs = search needs
+
+same-length : tie.Need-same-length
+same-length c = search needs
+
+same-length-2 : tie.Need-same-length-2
+same-length-2 c = search needs
+
+same-length-3 : tie.Need-same-length-3
+same-length-3 c = search needs
+
+same-length-4 : tie.Need-same-length-4
+same-length-4 c = search needs
+
+returns : tie.Need-returns
+returns c =
+    let r = c .before in
+    let a = r .before .before .before .before .before .before .before .before .before in
+    process-refused (a .args .ps .now) (a .args .ts .now) (a .args .tb .now) (a .args .pb .now)
+    (a .args .id) (a .args .thread) (r .add-process-refusal .result) (r .add-process-refusal .ensures) (a .args .real) (a .args .effective) (a .args .saved) (a .args .session) (a .args .mask) (c .if1 .taken)
+
+new-process-requires : tie.Need-new-process-requires
+new-process-requires c κs =
+    let i = c .before in
+    let r = i .before in
+    let a = r .before .before .before .before .before .before .before .before .before in
+    process-room (a .args .ps .now) (a .args .ts .now) (a .args .tb .now) (a .args .pb .now)
+    (a .args .id) (a .args .thread) (r .add-process-refusal .result) (r .add-process-refusal .ensures) (i .if1 .left)
+
+maskable-requires : tie.Need-maskable-requires
+maskable-requires c κs = search needs
+
+new-thread-requires : tie.Need-new-thread-requires
+new-thread-requires c κs =
+    let i = c .before .before .before .before .before .before in
+    let r = i .before in
+    let a = r .before .before .before .before .before .before .before .before .before in
+    first-thread-room (a .args .ps .now) (a .args .ts .now) (a .args .tb .now) (a .args .pb .now)
+    (a .args .id) (a .args .thread) (r .add-process-refusal .result) (r .add-process-refusal .ensures) (i .if1 .left)
+
+same-length-5 : tie.Need-same-length-5
+same-length-5 c = search needs
+
+same-length-6 : tie.Need-same-length-6
+same-length-6 c = search needs
+
+same-length-7 : tie.Need-same-length-7
+same-length-7 c = search needs
+
+same-length-8 : tie.Need-same-length-8
+same-length-8 c = search needs
+
+returns-2 : tie.Need-returns-2
+returns-2 c =
+    let t = c .before .before in
+    let p = t .before .before .before .before .before in
+    let i = p .before .before in
+    let r = i .before in
+    let k = r .before .before .before .before .before in
+    let a = k .before .before .before .before in
+    process-added (a .args .ps .now) (a .args .ts .now) (a .args .tb .now) (a .args .pb .now)
+    (a .args .id) (a .args .thread) (r .add-process-refusal .result) (r .add-process-refusal .ensures) (a .args .real) (a .args .effective) (a .args .saved) (a .args .session) (a .args .mask)
+    (p .new-process .last .0) (t .new-thread .last .0) (t .before .maskable .result) (t .before .maskable .ensures) (p .new-process .ensures) (t .new-thread .ensures)
+    (i .if1 .left) (search needs) (search needs)
+    (bytes-each (a .args .tb .now) (λ i. omega (arith, k .before .slice-known3 .given i)))
+    (bytes-each (a .args .pb .now) (λ i. omega (arith, k .slice-known4 .given i)))
+
+pub add-process-spec : {M : Type 1} → statement M
+add-process-spec =
+    tie.close
+    (tie.spec
+    add-process-refusal-requires
+    same-length
+    same-length-2
+    same-length-3
+    same-length-4
+    returns
+    new-process-requires
+    maskable-requires
+    new-thread-requires
+    same-length-5
+    same-length-6
+    same-length-7
+    same-length-8
+    returns-2)

@@ -1,0 +1,116 @@
+-- `add_process_refusal` meets its contract: the rows in order. Assumes nothing.
+use mathlib.Core.Path.{sym, _∙_}
+use borrow.Author.Tests.{not-false}
+use Rattle.sound.proofs.Facts.{processes-long, threads-long}
+use Rattle.adding.proofs.ProcessRows.{process-fault, process-bad, process-there, process-full, process-accepted}
+use borrow.Author.Needs.{needs}
+use Rattle.adding.proofs.add_process_refusal.Statement.{statement}
+use Rattle.adding.proofs.add_process_refusal.Tie as tie
+
+sound-requires : tie.Need-sound-requires
+sound-requires c κs = search needs
+
+returns : tie.Need-returns
+returns c =
+    let s = c .before in
+    let a = s .before .before .before .before .before in
+    process-fault (a .args .ps .now) (a .args .ts .now) (a .args .tb .now) (a .args .pb .now) (a .args .id) (a .args .thread) (s .sound .result) (s .sound .ensures) (c .if1 .taken)
+
+is-id-requires : tie.Need-is-id-requires
+is-id-requires c κs = search needs
+
+is-id-requires-2 : tie.Need-is-id-requires-2
+is-id-requires-2 c κs = search needs
+
+returns-2 : tie.Need-returns-2
+returns-2 c =
+    let i = c .before in
+    let s = i .before .before .before in
+    let a = s .before .before .before .before .before in
+    process-bad (a .args .ps .now) (a .args .ts .now) (a .args .tb .now) (a .args .pb .now)
+    (a .args .id) (a .args .thread) (s .sound .result) (s .sound .ensures) (i .before .before .if1 .left)
+    (i .before .is-id .result) (i .is-id2 .result) (i .before .is-id .ensures) (i .is-id2 .ensures) (c .if2 .taken)
+
+is-process-requires : tie.Need-is-process-requires
+is-process-requires c κs =
+    let i = c .before in
+    let s = i .before .before .before in
+    let a = s .before .before .before .before .before in
+    processes-long (a .args .ps .now) (a .args .ts .now) (a .args .tb .now) (a .args .pb .now) (sym (s .sound .ensures) ∙ not-false (s .sound .result) (i .before .before .if1 .left))
+
+is-thread-requires : tie.Need-is-thread-requires
+is-thread-requires c κs =
+    let i = c .before .before in
+    let s = i .before .before .before in
+    let a = s .before .before .before .before .before in
+    threads-long (a .args .ps .now) (a .args .ts .now) (a .args .tb .now) (a .args .pb .now) (sym (s .sound .ensures) ∙ not-false (s .sound .result) (i .before .before .if1 .left))
+
+returns-3 : tie.Need-returns-3
+returns-3 c =
+    let t = c .before in
+    let i = t .before .before .before in
+    let s = i .before .before .before in
+    let a = s .before .before .before .before .before in
+    process-there (a .args .ps .now) (a .args .ts .now) (a .args .tb .now) (a .args .pb .now)
+    (a .args .id) (a .args .thread) (s .sound .result) (s .sound .ensures) (i .before .before .if1 .left)
+    (i .before .is-id .result) (i .is-id2 .result) (i .before .is-id .ensures) (i .is-id2 .ensures) (t .before .before .if2 .left)
+    (t .before .is-process .result) (t .is-thread .result) (t .before .is-process .ensures) (t .is-thread .ensures) (c .if3 .taken)
+
+has-process-place-requires : tie.Need-has-process-place-requires
+has-process-place-requires c κs =
+    let t = c .before in
+    let i = t .before .before .before in
+    let s = i .before .before .before in
+    let a = s .before .before .before .before .before in
+    processes-long (a .args .ps .now) (a .args .ts .now) (a .args .tb .now) (a .args .pb .now) (sym (s .sound .ensures) ∙ not-false (s .sound .result) (i .before .before .if1 .left))
+
+has-thread-place-requires : tie.Need-has-thread-place-requires
+has-thread-place-requires c κs =
+    let t = c .before .before in
+    let i = t .before .before .before in
+    let s = i .before .before .before in
+    let a = s .before .before .before .before .before in
+    threads-long (a .args .ps .now) (a .args .ts .now) (a .args .tb .now) (a .args .pb .now) (sym (s .sound .ensures) ∙ not-false (s .sound .result) (i .before .before .if1 .left))
+
+returns-4 : tie.Need-returns-4
+returns-4 c =
+    let q = c .before in
+    let t = q .before .before .before in
+    let i = t .before .before .before in
+    let s = i .before .before .before in
+    let a = s .before .before .before .before .before in
+    process-full (a .args .ps .now) (a .args .ts .now) (a .args .tb .now) (a .args .pb .now)
+    (a .args .id) (a .args .thread) (s .sound .result) (s .sound .ensures) (i .before .before .if1 .left)
+    (i .before .is-id .result) (i .is-id2 .result) (i .before .is-id .ensures) (i .is-id2 .ensures) (t .before .before .if2 .left)
+    (t .before .is-process .result) (t .is-thread .result) (t .before .is-process .ensures) (t .is-thread .ensures) (q .before .before .if3 .left)
+    (q .before .has-process-place .result) (q .has-thread-place .result) (q .before .has-process-place .ensures) (q .has-thread-place .ensures) (c .if4 .taken)
+
+returns-5 : tie.Need-returns-5
+returns-5 c =
+    let q = c .before in
+    let t = q .before .before .before in
+    let i = t .before .before .before in
+    let s = i .before .before .before in
+    let a = s .before .before .before .before .before in
+    process-accepted (a .args .ps .now) (a .args .ts .now) (a .args .tb .now) (a .args .pb .now)
+    (a .args .id) (a .args .thread) (s .sound .result) (s .sound .ensures) (i .before .before .if1 .left)
+    (i .before .is-id .result) (i .is-id2 .result) (i .before .is-id .ensures) (i .is-id2 .ensures) (t .before .before .if2 .left)
+    (t .before .is-process .result) (t .is-thread .result) (t .before .is-process .ensures) (t .is-thread .ensures) (q .before .before .if3 .left)
+    (q .before .has-process-place .result) (q .has-thread-place .result) (q .before .has-process-place .ensures) (q .has-thread-place .ensures) (c .if4 .left)
+
+pub add-process-refusal-spec : {M : Type 1} → statement M
+add-process-refusal-spec =
+    tie.close
+    (tie.spec
+    sound-requires
+    returns
+    is-id-requires
+    is-id-requires-2
+    returns-2
+    is-process-requires
+    is-thread-requires
+    returns-3
+    has-process-place-requires
+    has-thread-place-requires
+    returns-4
+    returns-5)

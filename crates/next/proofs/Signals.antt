@@ -1,0 +1,59 @@
+-- The lowest signal that a thread can take, from what was read. Assumes nothing.
+use Prim.Native.Nat.{ℕ}
+use mathlib.Core.Path.{_≡_, refl, sym, ap, ap₂, _∙_}
+use mathlib.Core.Bool.{Bool, true, false, not, _&&_, _||_}
+use mathlib.Core.List.{List}
+use lib.Dec.{eqb}
+use Rattle.lists.proofs.Bools.{and-left}
+use Rattle.sigset.specs.declared.SigSet.{SigSet}
+use Rattle.sigset.specs.Set.{has, setOf, union, without, lowest}
+use Rattle.sigset.proofs.Laws.{has-set, has-union, has-without, lowestOf-none, lowestOf-cong}
+use Rattle.rules.specs.Types.{Thread, Queue}
+use Rattle.rules.specs.View.{View, processQueue, threadQueue, targetQueue, liveThread, theProcess, theThread, pendingIn, pendingFor}
+use Rattle.rules.specs.Store.{view}
+use Rattle.rules.specs.Taking.{isStopped, canTakeSignal, nextSignal}
+use Rattle.sound.specs.Lent.{storeOf}
+use Rattle.view.specs.Named.{processNamed, threadNamed}
+use Rattle.next.proofs.Owners.{own-is, shared-is}
+
+module _ (v : View) (th : Thread) where
+  pub none-stopped : isStopped v th ≡ true → 0 ≡ nextSignal v th
+  unfolding nextSignal canTakeSignal
+  none-stopped e = sym (lowestOf-none (canTakeSignal v th) (λ s g. and-left (pendingFor v th s && not (has (th .mask) s)) (ap not e)))
+
+  module _ (own shared : SigSet) (a : own ≡ setOf (pendingIn v (threadQueue th))) (b : shared ≡ setOf (pendingIn v (processQueue (th .process)))) where
+    pub lowest-taken : isStopped v th ≡ false → lowest (without (union own shared) (th .mask)) ≡ nextSignal v th
+    unfolding nextSignal canTakeSignal lowest pendingFor
+    lowest-taken e =
+        lowestOf-cong (has (without (union own shared) (th .mask))) (canTakeSignal v th)
+        (λ s g.
+        let p : has (union own shared) s ≡ pendingFor v th s =
+        has-union own shared s g
+        ∙ ap₂ (λ (x y : Bool). x || y)
+        (ap (λ (x : SigSet). has x s) a ∙ has-set (pendingIn v (threadQueue th)) s g)
+        (ap (λ (x : SigSet). has x s) b ∙ has-set (pendingIn v (processQueue (th .process))) s g) in
+        has-without (union own shared) (th .mask) s g ∙ ap (λ (x : Bool). x && not (has (th .mask) s)) p
+        ∙ sym (ap (λ (x : Bool). not x && (pendingFor v th s && not (has (th .mask) s))) e))
+
+module _ (ps ts tb pb : List ℕ) (t p : ℕ) (o : p ≡ threadNamed ts t .process) (b : Bool) (s : b ≡ not (eqb (processNamed ps p .stopped) 0)) where
+  stopped-is : isStopped (view (storeOf ps ts tb pb)) (theThread (view (storeOf ps ts tb pb)) t) ≡ b
+  unfolding isStopped theProcess theThread view storeOf
+  stopped-is = sym (s ∙ ap (λ (n : ℕ). not (eqb (processNamed ps n .stopped) 0)) o)
+
+  mask-is : threadNamed ts t .mask ≡ theThread (view (storeOf ps ts tb pb)) t .mask
+  unfolding theThread view storeOf
+  mask-is = refl
+
+  pub signal-stopped : b ≡ true → 0 ≡ nextSignal (view (storeOf ps ts tb pb)) (theThread (view (storeOf ps ts tb pb)) t)
+  signal-stopped e = none-stopped (view (storeOf ps ts tb pb)) (theThread (view (storeOf ps ts tb pb)) t) (stopped-is ∙ e)
+
+  module _ (l : liveThread (view (storeOf ps ts tb pb)) t ≡ true) where
+    pub signal-taken : b ≡ false → (own shared all mask free : SigSet) (r : ℕ) → own ≡ setOf (pendingIn (view (storeOf ps ts tb pb)) (targetQueue p t))
+        → shared ≡ setOf (pendingIn (view (storeOf ps ts tb pb)) (targetQueue p 0)) → all ≡ union own shared → mask ≡ threadNamed ts t .mask
+        → free ≡ without all mask → r ≡ lowest free → r ≡ nextSignal (view (storeOf ps ts tb pb)) (theThread (view (storeOf ps ts tb pb)) t)
+    signal-taken e own shared all mask free r ho hs ha hm hf hr =
+        hr ∙ ap lowest (hf ∙ ap₂ without ha (hm ∙ mask-is))
+        ∙ lowest-taken (view (storeOf ps ts tb pb)) (theThread (view (storeOf ps ts tb pb)) t) own shared
+        (ho ∙ ap (λ (q : Queue). setOf (pendingIn (view (storeOf ps ts tb pb)) q)) (sym (own-is ps ts tb pb t p o l)))
+        (hs ∙ ap (λ (q : Queue). setOf (pendingIn (view (storeOf ps ts tb pb)) q)) (sym (shared-is ps ts tb pb t p o)))
+        (stopped-is ∙ e)

@@ -1,0 +1,85 @@
+use borrow.Author.Needs.{needs}
+use Rattle.next.proofs.next_signal.Statement.{statement}
+use Rattle.next.proofs.next_signal.Tie as tie
+use Rattle.sound.proofs.Facts.{processes-long, threads-long}
+use Rattle.next.proofs.Owners.{thread-held, owner-good, process-held, own-queue, shared-queue}
+use Rattle.next.proofs.Signals.{signal-stopped, signal-taken}
+
+process-of-requires : tie.Need-process-of-requires
+process-of-requires c κs =
+    let a = c .before .before .before .before in (
+      threads-long (a .args .ps .now) (a .args .ts .now) (a .args .tb .now) (a .args .pb .now) (a .pre .0),
+      (
+        thread-held (a .args .ps .now) (a .args .ts .now) (a .args .tb .now) (a .args .pb .now) (a .pre .0) (a .args .thread) (a .pre .1),
+        owner-good (a .args .ps .now) (a .args .ts .now) (a .args .tb .now) (a .args .pb .now) (a .pre .0) (a .args .thread) (a .pre .1),
+      ),
+    )
+
+is-stopped-requires : tie.Need-is-stopped-requires
+is-stopped-requires c κs =
+    let a = c .before .before .before .before .before in (
+      processes-long (a .args .ps .now) (a .args .ts .now) (a .args .tb .now) (a .args .pb .now) (a .pre .0),
+      process-held (a .args .ps .now) (a .args .ts .now) (a .args .tb .now) (a .args .pb .now) (a .pre .0) (a .args .thread) (a .pre .1) (c .process-of .result) (c .process-of .ensures),
+    )
+
+returns : tie.Need-returns
+returns c =
+    let a = c .before .before .before .before .before .before .before in
+    signal-stopped (a .args .ps .now) (a .args .ts .now) (a .args .tb .now) (a .args .pb .now) (a .args .thread) (c .before .before .process-of .result) (c .before .before .process-of .ensures)
+    (c .before .is-stopped .result) (c .before .is-stopped .ensures) (c .if1 .taken)
+
+pending-of-requires : tie.Need-pending-of-requires
+pending-of-requires c κs =
+    let a = c .before .before .before .before .before .before .before in (
+      a .pre .0,
+      own-queue (a .args .ps .now) (a .args .ts .now) (a .args .tb .now) (a .args .pb .now) (a .pre .0) (a .args .thread) (a .pre .1) (c .before .before .process-of .result) (c .before .before .process-of .ensures),
+    )
+
+pending-of-requires-2 : tie.Need-pending-of-requires-2
+pending-of-requires-2 c κs =
+    let a = c .before .before .before .before .before .before .before .before in (
+      a .pre .0,
+      shared-queue (a .args .ps .now) (a .args .ts .now) (a .args .tb .now) (a .args .pb .now) (a .pre .0) (a .args .thread) (a .pre .1) (c .before .before .before .process-of .result) (c .before .before .before .process-of .ensures),
+    )
+
+union-requires : tie.Need-union-requires
+union-requires c κs = search needs
+
+mask-of-requires : tie.Need-mask-of-requires
+mask-of-requires c κs =
+    let a = c .before .before .before .before .before .before .before .before .before .before in (
+      threads-long (a .args .ps .now) (a .args .ts .now) (a .args .tb .now) (a .args .pb .now) (a .pre .0),
+      thread-held (a .args .ps .now) (a .args .ts .now) (a .args .tb .now) (a .args .pb .now) (a .pre .0) (a .args .thread) (a .pre .1),
+    )
+
+without-requires : tie.Need-without-requires
+without-requires c κs = search needs
+
+lowest-requires : tie.Need-lowest-requires
+lowest-requires c κs = search needs
+
+returns-2 : tie.Need-returns-2
+returns-2 c =
+    let d = c .before .before .before .before .before .before in
+    let a = d .before .before .before .before .before .before .before in
+    signal-taken (a .args .ps .now) (a .args .ts .now) (a .args .tb .now) (a .args .pb .now) (a .args .thread) (d .before .before .process-of .result) (d .before .before .process-of .ensures)
+    (d .before .is-stopped .result) (d .before .is-stopped .ensures) (a .pre .1) (d .if1 .left)
+    (c .before .before .before .before .before .pending-of .result) (c .before .before .before .before .pending-of2 .result) (c .before .before .before .union .result)
+    (c .before .before .mask-of .result) (c .before .without .result) (c .lowest .result)
+    (c .before .before .before .before .before .pending-of .ensures) (c .before .before .before .before .pending-of2 .ensures) (c .before .before .before .union .ensures)
+    (c .before .before .mask-of .ensures) (c .before .without .ensures) (c .lowest .ensures)
+
+pub next-signal-spec : {M : Type 1} → statement M
+next-signal-spec =
+    tie.close
+    (tie.spec
+    process-of-requires
+    is-stopped-requires
+    returns
+    pending-of-requires
+    pending-of-requires-2
+    union-requires
+    mask-of-requires
+    without-requires
+    lowest-requires
+    returns-2)

@@ -1,0 +1,132 @@
+-- What is decided of a send before anything changes: what absorbs it, its fate, its record, whether there is room. Assumes nothing.
+use Prim.Native.Nat.{ℕ, _+_, _≤_}
+use mathlib.Core.Path.{_≡_, refl, sym, ap, ap₂, _∙_}
+use mathlib.Core.Bool.{Bool, true, false, not, _&&_, _||_}
+use mathlib.Core.List.{List, [], _∷_}
+use native.Mathlib.Nat.{le-trans}
+use lib.Dec.{leb}
+use borrow.Author.Tests.{eq-eqb, ne-eqb}
+use types.Run.{OneOf, miss}
+use denote.Enum.Declared.{tagOf}
+use Rattle.limits.specs.Limits.{bufferRecords, recordLimit, SIGKILL, SIGSTOP, SIGTSTP, SIGTTIN, SIGTTOU, siQueue}
+use Rattle.lists.specs.Lists.{count}
+use Rattle.lists.proofs.Lists.{count-le-length}
+use Rattle.sigset.specs.declared.SigSet.{SigSet}
+use Rattle.sigset.specs.Set.{Signal, has, setOf, union, ofSignal}
+use Rattle.sigset.proofs.Laws.{has-set, has-of, set-cong}
+use Rattle.types.specs.declared.Action.{Action}
+use Rattle.rules.specs.Types.{Queue}
+use Rattle.rules.specs.Signals.{standard, stopSignal, ignored}
+use Rattle.rules.specs.View.{View, targetQueue, actionOf, theProcess, pendingIn}
+use Rattle.rules.specs.Store.{ofProcess, queuedIn, view}
+use Rattle.rules.specs.Sound.{goodUser}
+use Rattle.rules.specs.Sending.{Fate, testing, killing, stopping, dropping, absorbing, marking, keeping, absorbs, fate, infoOf, needsRecord}
+use Rattle.rules.specs.Refusals.{noRoom}
+use Rattle.rules.proofs.Facts.{users-fit}
+use Rattle.queue.specs.Queue.{recordsOf}
+use Rattle.queue.proofs.Buffer.{length-recordsOf}
+use Rattle.sound.specs.Lent.{storeOf, soundTables}
+use Rattle.sound.proofs.Facts.{store-sound}
+use Rattle.view.specs.Named.{processNamed}
+use Rattle.sending.specs.Fates.{fateOf}
+use Rattle.sending.specs.declared.Fate as declared
+use Rattle.sending.specs.declared.Fate.the-variants as cases
+use Rattle.sending.proofs.Fate.{the-type}
+
+module _ (v : View) (queued : Bool) (q : Queue) (s : ℕ) where
+  pub absorbed : Signal s → (pending marks : SigSet) (isStandard pends marked : Bool) → pending ≡ setOf (pendingIn v q) → marks ≡ setOf (v .marks q)
+      → isStandard ≡ standard s → pends ≡ has pending s → marked ≡ has marks s → ((isStandard && pends) || (not queued && marked)) ≡ absorbs v queued q s
+  unfolding absorbs
+  absorbed g pending marks isStandard pends marked e f h j k =
+      let a : pends ≡ pendingIn v q s = j ∙ ap (λ (x : SigSet). has x s) e ∙ has-set (pendingIn v q) s g in
+      let b : marked ≡ v .marks q s = k ∙ ap (λ (x : SigSet). has x s) f ∙ has-set (v .marks q) s g in
+      rw (h, a, b)
+
+  -- ---- the fate, test by test
+
+  pub is-testing : s ≡ 0 → testing ≡ fate v queued q s
+  unfolding fate
+  is-testing e = rw (eq-eqb s 0 e)
+
+  module _ (n0 : s ≡ 0 → ⊥) where
+    pub is-killing : s ≡ SIGKILL → killing ≡ fate v queued q s
+    unfolding fate
+    is-killing e = rw (ne-eqb s 0 n0, eq-eqb s SIGKILL e)
+
+    module _ (n1 : s ≡ SIGKILL → ⊥) where
+      pub is-stopping : s ≡ SIGSTOP → stopping ≡ fate v queued q s
+      unfolding fate
+      is-stopping e = rw (ne-eqb s 0 n0, ne-eqb s SIGKILL n1, eq-eqb s SIGSTOP e)
+
+      module _ (n2 : s ≡ SIGSTOP → ⊥) where
+        abbrev isIgnored : Bool
+        isIgnored = ignored (actionOf (theProcess v (q .process)) s) s
+
+        pub is-dropping : isIgnored ≡ true → dropping ≡ fate v queued q s
+        unfolding fate
+        is-dropping e = rw (ne-eqb s 0 n0, ne-eqb s SIGKILL n1, ne-eqb s SIGSTOP n2, e)
+
+        module _ (n3 : isIgnored ≡ false) where
+          pub is-absorbing : absorbs v queued q s ≡ true → absorbing ≡ fate v queued q s
+          unfolding fate
+          is-absorbing e = rw (ne-eqb s 0 n0, ne-eqb s SIGKILL n1, ne-eqb s SIGSTOP n2, n3, e)
+
+          module _ (n4 : absorbs v queued q s ≡ false) where
+            pub is-keeping : queued ≡ true → keeping ≡ fate v queued q s
+            unfolding fate
+            is-keeping e = rw (ne-eqb s 0 n0, ne-eqb s SIGKILL n1, ne-eqb s SIGSTOP n2, n3, n4, e)
+
+            pub is-marking : queued ≡ false → marking ≡ fate v queued q s
+            unfolding fate
+            is-marking e = rw (ne-eqb s 0 n0, ne-eqb s SIGKILL n1, ne-eqb s SIGSTOP n2, n3, n4, e)
+
+-- the action of the process that is named
+pub ignored-read : (ps ts tb pb : List ℕ) (p s : ℕ) (a : Action) (r : Bool) → a ≡ actionOf (processNamed ps p) s → r ≡ ignored a s
+    → r ≡ ignored (actionOf (theProcess (view (storeOf ps ts tb pb)) p) s) s
+unfolding theProcess view storeOf
+ignored-read ps ts tb pb p s a r e h = h ∙ ap (λ (x : Action). ignored x s) e
+
+-- the first six fates need no record
+pub no-record : (f : declared.Fate) → OneOf (0 ∷ 1 ∷ 2 ∷ 3 ∷ 4 ∷ 5 ∷ []) (tagOf the-type f) → false ≡ needsRecord (fateOf f)
+unfolding needsRecord fateOf
+no-record cases.Testing k = refl
+no-record cases.Killing k = refl
+no-record cases.Stopping k = refl
+no-record cases.Dropping k = refl
+no-record cases.Absorbing k = refl
+no-record cases.Marking k = refl
+no-record cases.Keeping k = absurd (miss (0 ∷ 1 ∷ 2 ∷ 3 ∷ 4 ∷ 5 ∷ []) 6 tt k)
+
+-- ---- the record
+
+pub sender-fits : (ps ts tb pb : List ℕ) → soundTables ps ts tb pb ≡ true → (by : ℕ) → goodUser (processNamed ps by .real) ≡ true
+unfolding theProcess view storeOf
+sender-fits ps ts tb pb e by = users-fit (storeOf ps ts tb pb) (store-sound ps ts tb pb e) by .real
+
+pub info-read : (ps ts tb pb : List ℕ) (by to t s value uid : ℕ) → uid ≡ processNamed ps by .real
+    → record { process = to; thread = t; signal = s; code = siQueue; sender = by; uid = uid; value = value } ≡ infoOf (view (storeOf ps ts tb pb)) by to t s value
+unfolding infoOf theProcess view storeOf
+info-read ps ts tb pb by to t s value uid e = rw e
+
+-- ---- the stop signals
+
+pub stops : union (ofSignal SIGTSTP) (union (ofSignal SIGTTIN) (ofSignal SIGTTOU)) ≡ setOf stopSignal
+unfolding union stopSignal
+stops =
+    set-cong _ _
+    (λ s g. ap₂ (λ (a b : Bool). a || b) (has-of SIGTSTP s g) (has-set _ s g ∙ ap₂ (λ (a b : Bool). a || b) (has-of SIGTTIN s g) (has-of SIGTTOU s g)))
+
+-- ---- room
+
+pub counted : (ps ts tb pb : List ℕ) (p m n : ℕ) → m ≡ count (ofProcess p) (recordsOf tb) → n ≡ count (ofProcess p) (recordsOf pb)
+    → view (storeOf ps ts tb pb) .queued p ≡ m + n
+unfolding view queuedIn recordsOf storeOf
+counted ps ts tb pb p m n e f = sym (ap₂ (λ (a b : ℕ). a + b) e f)
+
+pub count-fits : (b : List ℕ) (p n : ℕ) → n ≡ count (ofProcess p) (recordsOf b) → n ≤ bufferRecords
+count-fits b p n e = rw e (le-trans (count-le-length (ofProcess p) (recordsOf b)) (length-recordsOf b))
+
+pub room-read : (v : View) (to t s m n : ℕ) (needed : Bool) (f : Fate) → f ≡ fate v true (targetQueue to t) s → needed ≡ needsRecord f → v .queued to ≡ m + n
+    → (needed && leb recordLimit (m + n)) ≡ noRoom v to t s
+unfolding noRoom
+room-read v to t s m n needed f e h k = rw (h, e, k)

@@ -1,0 +1,5 @@
+mod Decided
+mod Targets
+mod Carried
+mod Refused
+mod Ended

@@ -1,0 +1,44 @@
+-- `is_absorbed` meets its contract. Assumes nothing.
+use borrow.Author.Needs.{needs}
+use Rattle.rules.specs.View.{targetQueue}
+use Rattle.rules.specs.Store.{view}
+use Rattle.sound.specs.Lent.{storeOf}
+use Rattle.sending.proofs.Decided.{absorbed}
+use Rattle.sending.proofs.is_absorbed.Statement.{statement}
+use Rattle.sending.proofs.is_absorbed.Tie as tie
+
+pending-of-requires : tie.Need-pending-of-requires
+pending-of-requires c κs = search needs
+
+marks-of-requires : tie.Need-marks-of-requires
+marks-of-requires c κs = search needs
+
+is-standard-requires : tie.Need-is-standard-requires
+is-standard-requires c κs = search needs
+
+has-requires : tie.Need-has-requires
+has-requires c κs = search needs
+
+has-requires-2 : tie.Need-has-requires-2
+has-requires-2 c κs = search needs
+
+returns : tie.Need-returns
+returns c =
+    let d = c .before .before in
+    let e = d .before .before in
+    let a = e .before .before .before .before .before in
+    let v = view (storeOf (a .args .ps .now) (a .args .ts .now) (a .args .tb .now) (a .args .pb .now)) in
+    absorbed v (a .args .queued) (targetQueue (a .args .process) (a .args .thread)) (a .args .signal) (record { low = a .pre .1 .1 .0; high = a .pre .1 .1 .1 })
+    (e .pending-of .result) (d .before .marks-of .result) (d .is-standard .result) (c .before .has .result) (c .has2 .result)
+    (e .pending-of .ensures) (d .before .marks-of .ensures) (d .is-standard .ensures) (c .before .has .ensures) (c .has2 .ensures)
+
+pub is-absorbed-spec : {M : Type 1} → statement M
+is-absorbed-spec =
+    tie.close
+    (tie.spec
+    pending-of-requires
+    marks-of-requires
+    is-standard-requires
+    has-requires
+    has-requires-2
+    returns)

@@ -1,0 +1,3 @@
+mod Actions
+mod Masks
+mod Pending
