@@ -14,22 +14,21 @@ use Rattle.sigset.specs.Set.{empty, maskable}
 use Rattle.rules.specs.Types.{Call, addProcess, addThread}
 use Rattle.rules.specs.View.{isThread, liveThread, theThread}
 use Rattle.rules.specs.Store.{isFreeProcess, isFreeThread, fill, view, apply, applyAll}
-use Rattle.rules.specs.Sound.{goodId, sound}
+use Rattle.rules.specs.Sound.{goodId}
 use Rattle.rules.specs.Adding.{newborn, addProcessChanges, addThreadChanges}
 use Rattle.rules.specs.Refusals.{rows, isClear, fault, table, refusalOf, noThreadLive, noProcessPlace, noThreadPlace}
 use Rattle.rules.specs.Calls.{changes, answer}
-use Rattle.rules.proofs.Facts.{process-id, owner-live}
 use Rattle.rules.proofs.Table.{Off}
 use Rattle.tables.specs.Tables.{processesOf, threadsOf, heldProcesses, heldThreads}
-use Rattle.sound.specs.Lent.{storeOf}
-use Rattle.sound.proofs.Facts.{store-sound, right-processes, right-threads}
+use Rattle.sound.specs.Lent.{storeOf, soundTables}
+use Rattle.sound.proofs.Facts.{right-processes, right-threads, threads-long}
 use Rattle.effects.specs.Effects.{threadOf}
 use Rattle.view.specs.Named.{threadNamed}
 use Rattle.answers.specs.declared.Answer.the-variants.{Refused, Done}
 use Rattle.answers.specs.Answers.{answerOf}
 use Rattle.answers.specs.Step.{Lent, lent, refusalOn, stepOn}
-use Rattle.answers.proofs.Endings.{longAs, accepted-long, accepted-rows, accepted-tables-sound}
-use Rattle.adding.proofs.Ends.{ends-refused, ends-done}
+use Rattle.view.proofs.Live.{owner-known}
+use Rattle.answers.proofs.Endings.{longAs, accepted-long, accepted-rows, accepted-tables-sound, refused-ends, accepted-ends}
 
 -- ---- a process
 
@@ -66,7 +65,7 @@ module _ (ps ts tb pb : List ℕ) (id thread n : ℕ) (r : n ≡ refusalOn (addP
     number = r ∙ undecided id real effective saved session thread mask (lent ps ts tb pb)
 
     pub process-refused : (n ≡ 0 → ⊥) → (answerOf (Refused n) ≡ stepOn call (lent ps ts tb pb) .1) × (lent ps ts tb pb ≡ stepOn call (lent ps ts tb pb) .0)
-    process-refused = ends-refused call (lent ps ts tb pb) n number
+    process-refused = refused-ends call (lent ps ts tb pb) n number
 
     module _ (ps′ ts′ : List ℕ) (given : SigSet) (g : given ≡ maskable mask)
         (p : processesOf ps′ ≡ fill isFreeProcess (newborn id real effective saved session) (processesOf ps))
@@ -80,47 +79,36 @@ module _ (ps ts tb pb : List ℕ) (id thread n : ℕ) (r : n ≡ refusalOn (addP
 
       pub process-added : n ≡ 0 → length ps′ ≡ length ps → length ts′ ≡ length ts → Bytes tb → Bytes pb
           → (answerOf Done ≡ stepOn call (lent ps ts tb pb) .1) × (lent ps′ ts′ tb pb ≡ stepOn call (lent ps ts tb pb) .0)
-      unfolding answer
+      unfolding answerOf answer
       process-added z lp lt bt bp =
-          ends-done call (lent ps ts tb pb) n number z refl (lent ps′ ts′ tb pb) (record { processes = lp; threads = lt; threadBuffer = refl; processBuffer = refl }) bt bp process-made
+          accepted-ends call (lent ps ts tb pb) (sym number ∙ z) (answerOf Done) refl (lent ps′ ts′ tb pb)
+          (record { processes = lp; threads = lt; threadBuffer = refl; processBuffer = refl }) bt bp process-made
 
 -- ---- a thread
 
 module _ (ps ts tb pb : List ℕ) (creator id n : ℕ) (r : n ≡ refusalOn (addThread creator id) (lent ps ts tb pb)) where
   pub thread-refused : (n ≡ 0 → ⊥)
       → (answerOf (Refused n) ≡ stepOn (addThread creator id) (lent ps ts tb pb) .1) × (lent ps ts tb pb ≡ stepOn (addThread creator id) (lent ps ts tb pb) .0)
-  thread-refused = ends-refused (addThread creator id) (lent ps ts tb pb) n r
+  thread-refused = refused-ends (addThread creator id) (lent ps ts tb pb) n r
 
   module _ (z : n ≡ 0) where
     off : All Off (rows (view (storeOf ps ts tb pb)) (addThread creator id))
     off = accepted-rows (addThread creator id) (lent ps ts tb pb) (sym r ∙ z)
 
-    threads-right : length ts ≡ threadTable
-    threads-right = right-threads ps ts tb pb (accepted-long (addThread creator id) (lent ps ts tb pb) (sym r ∙ z))
-
-    creator-live : liveThread (view (storeOf ps ts tb pb)) creator ≡ true
-    unfolding rows noThreadLive
-    creator-live = not-false (liveThread (view (storeOf ps ts tb pb)) creator) (off .1 .0)
-
-    creator-there : any (isThread creator) (heldThreads ts) ≡ true
-    unfolding liveThread view storeOf
-    creator-there = creator-live
-
-    tables-sound : sound (storeOf ps ts tb pb) ≡ true
+    tables-sound : soundTables ps ts tb pb ≡ true
     unfolding isClear
-    tables-sound = store-sound ps ts tb pb (accepted-tables-sound (addThread creator id) (lent ps ts tb pb) refl (sym r ∙ z))
+    tables-sound = accepted-tables-sound (addThread creator id) (lent ps ts tb pb) refl (sym r ∙ z)
 
     pub creator-owned : (length ts ≡ threadTable) × ((any (isThread creator) (heldThreads ts) ≡ true) × (goodId (threadNamed ts creator .process) ≡ true))
-    unfolding theThread view storeOf
-    creator-owned =
-        (threads-right, (creator-there, process-id (storeOf ps ts tb pb) tables-sound (threadNamed ts creator .process) (owner-live (storeOf ps ts tb pb) tables-sound creator creator-live)))
+    unfolding rows noThreadLive
+    creator-owned = owner-known ps ts tb pb tables-sound creator (not-false (liveThread (view (storeOf ps ts tb pb)) creator) (off .1 .0))
 
     pub creator-found : (length ts ≡ threadTable) × (any (isThread creator) (heldThreads ts) ≡ true)
-    creator-found = (threads-right, creator-there)
+    creator-found = (creator-owned .0, creator-owned .1 .0)
 
     pub thread-room : (length ts ≡ threadTable) × (any isFreeThread (heldThreads ts) ≡ true)
     unfolding rows noThreadPlace view storeOf
-    thread-room = (threads-right, not-false (any isFreeThread (heldThreads ts)) (off .1 .1 .1 .0))
+    thread-room = (threads-long ps ts tb pb tables-sound, not-false (any isFreeThread (heldThreads ts)) (off .1 .1 .1 .0))
 
     module _ (ts′ : List ℕ) (process : ℕ) (mask : SigSet) (o : process ≡ threadNamed ts creator .process) (m : mask ≡ threadNamed ts creator .mask)
         (t : threadsOf ts′ ≡ fill isFreeThread (threadOf id process mask) (threadsOf ts)) where
@@ -133,6 +121,7 @@ module _ (ps ts tb pb : List ℕ) (creator id n : ℕ) (r : n ≡ refusalOn (add
 
       pub thread-added : length ts′ ≡ length ts → Bytes tb → Bytes pb
           → (answerOf Done ≡ stepOn (addThread creator id) (lent ps ts tb pb) .1) × (lent ps ts′ tb pb ≡ stepOn (addThread creator id) (lent ps ts tb pb) .0)
-      unfolding answer
+      unfolding answerOf answer
       thread-added lt bt bp =
-          ends-done (addThread creator id) (lent ps ts tb pb) n r z refl (lent ps ts′ tb pb) (record { processes = refl; threads = lt; threadBuffer = refl; processBuffer = refl }) bt bp thread-made
+          accepted-ends (addThread creator id) (lent ps ts tb pb) (sym r ∙ z) (answerOf Done) refl (lent ps ts′ tb pb)
+          (record { processes = refl; threads = lt; threadBuffer = refl; processBuffer = refl }) bt bp thread-made

@@ -1,4 +1,4 @@
-mod Ends
+mod Cleared
 mod ProcessRows
 mod ThreadRows
 mod Added

@@ -2,13 +2,12 @@
 use Prim.Native.Nat.{ℕ}
 use mathlib.Core.Path.{_≡_, refl, sym, ap, _∙_}
 use mathlib.Core.Bool.{Bool, true, false, cond}
-use mathlib.Core.List.{List, [], _∷_}
+use mathlib.Core.List.{List, []}
 use lib.Dec.{eqb}
 use lib.ListN.{length}
-use borrow.Author.Tests.{eqb-true}
-use Rattle.limits.specs.Limits.{EFAULT, processTable, threadTable, bufferBytes}
+use Rattle.limits.specs.Limits.{EFAULT}
 use Rattle.lists.specs.Lists.{All}
-use Rattle.lists.proofs.Bools.{split, clash, and-fst, and-snd, and-both}
+use Rattle.lists.proofs.Bools.{split, clash, and-both}
 use Rattle.siginfo.specs.Bytes.{Bytes}
 use Rattle.rules.specs.Types.{Call, Answer, refused}
 use Rattle.rules.specs.View.{Change}
@@ -23,6 +22,9 @@ use Rattle.tables.specs.Tables.{processesOf, threadsOf, processWordsOf, threadW
 use Rattle.tables.proofs.Words.{length-processesOf, length-threadsOf, all-actionsLong, words-back, thread-words-back}
 use Rattle.queue.proofs.Buffer.{length-slotsOf, buffer-is}
 use Rattle.sound.specs.Lent.{storeOf, lengthsAre, soundTables}
+use Rattle.sound.proofs.Facts.{as-long, right-processes, right-threads, right-thread-buffer, right-process-buffer}
+use Rattle.answers.specs.declared.Answer.the-variants.{Refused}
+use Rattle.answers.specs.Answers.{answerOf}
 use Rattle.answers.specs.Step.{Lent, lent, decoded, encoded, refusalOn, rowsOn, settled, stepOn}
 
 abbrev pub longAs : Lent → Bool
@@ -34,16 +36,14 @@ isSound l = soundTables (l .processes) (l .threads) (l .threadBuffer) (l .proces
 -- ---- words and bytes are determined by what they say
 
 pub words-of : (l : Lent) → longAs l ≡ true → Bytes (l .threadBuffer) → Bytes (l .processBuffer) → encoded (decoded l) ≡ l
-unfolding encoded storeOf lengthsAre
+unfolding encoded storeOf
 words-of l e bt bp =
-    let e1 = and-snd (eqb (length (l .processes)) processTable) _ e in
-    let e2 = and-snd (eqb (length (l .threads)) threadTable) _ e1 in
     let a : processWordsOf (processesOf (l .processes)) ≡ l .processes =
-    words-back (l .processes) (eqb-true (length (l .processes)) processTable (and-fst (eqb (length (l .processes)) processTable) _ e)) in
+    words-back (l .processes) (right-processes (l .processes) (l .threads) (l .threadBuffer) (l .processBuffer) e) in
     let b : threadWordsOf (threadsOf (l .threads)) ≡ l .threads =
-    thread-words-back (l .threads) (eqb-true (length (l .threads)) threadTable (and-fst (eqb (length (l .threads)) threadTable) _ e1)) in
-    let c = buffer-is (l .threadBuffer) (eqb-true (length (l .threadBuffer)) bufferBytes (and-fst (eqb (length (l .threadBuffer)) bufferBytes) _ e2)) bt in
-    let d = buffer-is (l .processBuffer) (eqb-true (length (l .processBuffer)) bufferBytes (and-snd (eqb (length (l .threadBuffer)) bufferBytes) _ e2)) bp in
+    thread-words-back (l .threads) (right-threads (l .processes) (l .threads) (l .threadBuffer) (l .processBuffer) e) in
+    let c = buffer-is (l .threadBuffer) (right-thread-buffer (l .processes) (l .threads) (l .threadBuffer) (l .processBuffer) e) bt in
+    let d = buffer-is (l .processBuffer) (right-process-buffer (l .processes) (l .threads) (l .threadBuffer) (l .processBuffer) e) bp in
     λ i. lent (a i) (b i) (sym c i) (sym d i)
 
 -- ---- errno 14: the tables' lengths, and the store's soundness but for clearing
@@ -70,18 +70,6 @@ rows-fault rs l e = rw e
 pub rows-sound : (rs : List Row) (l : Lent) → isSound l ≡ true → (n : ℕ) → n ≡ refusal rs → n ≡ rowsOn rs l
 unfolding rowsOn
 rows-sound rs l e n h = rw e h
-
-pub row-on : (r : Row) (rs : List Row) → r .applies ≡ true → r .errno ≡ refusal (r ∷ rs)
-unfolding refusal
-row-on r rs e = rw e
-
-pub row-off : (r : Row) (rs : List Row) (n : ℕ) → r .applies ≡ false → n ≡ refusal rs → n ≡ refusal (r ∷ rs)
-unfolding refusal
-row-off r rs n e h = rw e h
-
-pub rows-done : 0 ≡ refusal []
-unfolding refusal
-rows-done = refl
 
 module _ (c : Call) (l : Lent) where
   -- of a call other than clearing
@@ -146,5 +134,36 @@ module _ (c : Call) (l : Lent) where
     unfolding applyAll
     tables-same bt bp h = tables-after l (accepted-long e) bt bp (sym (ap (λ (cs : List Change). applyAll cs (decoded l)) h))
 
+    -- of a call that only answers, all there is to show
     pub answer-after : (a : Answer) → a ≡ answer (view (decoded l)) c → a ≡ stepOn c l .1
     answer-after a h = h ∙ sym (ap (λ x. x .1) accepted-step)
+
+-- ---- both, the answer and the tables
+
+-- each table is as long as it was
+pub record AsLong (l m : Lent) : Type 0 where
+  pub processes : length (m .processes) ≡ length (l .processes)
+  pub threads : length (m .threads) ≡ length (l .threads)
+  pub threadBuffer : length (m .threadBuffer) ≡ length (l .threadBuffer)
+  pub processBuffer : length (m .processBuffer) ≡ length (l .processBuffer)
+
+long-after : (l m : Lent) → AsLong l m → longAs l ≡ true → longAs m ≡ true
+long-after l m s =
+    as-long (l .processes) (l .threads) (l .threadBuffer) (l .processBuffer) (m .processes) (m .threads) (m .threadBuffer) (m .processBuffer)
+    (s .processes) (s .threads) (s .threadBuffer) (s .processBuffer)
+
+module _ (c : Call) (l : Lent) where
+  -- by the number that code has of the refusal
+  pub refused-ends : (n : ℕ) → n ≡ refusalOn c l → (n ≡ 0 → ⊥) → (answerOf (Refused n) ≡ stepOn c l .1) × (l ≡ stepOn c l .0)
+  unfolding answerOf
+  refused-ends n r z =
+      let k : refusalOn c l ≡ 0 → ⊥ = λ e. z (r ∙ e) in
+      (ap refused r ∙ refused-answer c l k, refused-tables c l k)
+
+  module _ (e : refusalOn c l ≡ 0) (a : Answer) (h : a ≡ answer (view (decoded l)) c) where
+    pub same-ends : Bytes (l .threadBuffer) → Bytes (l .processBuffer) → changes (view (decoded l)) c ≡ [] → (a ≡ stepOn c l .1) × (l ≡ stepOn c l .0)
+    same-ends bt bp k = (answer-after c l e a h, tables-same c l e bt bp k)
+
+    pub accepted-ends : (m : Lent) → AsLong l m → Bytes (m .threadBuffer) → Bytes (m .processBuffer)
+        → decoded m ≡ applyAll (changes (view (decoded l)) c) (decoded l) → (a ≡ stepOn c l .1) × (m ≡ stepOn c l .0)
+    accepted-ends m s bt bp k = (answer-after c l e a h, tables-after c l e m (long-after l m s (accepted-long c l e)) bt bp k)

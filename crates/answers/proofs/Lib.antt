@@ -1,2 +1,2 @@
 pub mod Endings
-pub mod Ends
+pub mod Rows

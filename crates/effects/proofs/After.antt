@@ -4,27 +4,21 @@ use mathlib.Core.Path.{_≡_, ap, _∙_}
 use mathlib.Core.Bool.{true}
 use mathlib.Core.List.{List}
 use lib.ListN.{length}
-use borrow.Author.Tests.{eq-eqb}
-use Rattle.limits.specs.Limits.{processTable, threadTable, bufferBytes}
 use Rattle.lists.proofs.Bools.{and-both}
 use Rattle.rules.specs.View.{Change}
 use Rattle.rules.specs.Store.{view, apply}
 use Rattle.rules.specs.Sound.{sound}
 use Rattle.rules.specs.Fitting.{fits}
 use Rattle.rules.proofs.Keeps.{fits-keeps}
-use Rattle.sound.specs.Lent.{storeOf, lengthsAre, soundTables}
-use Rattle.sound.proofs.Facts.{store-sound, processes-long, threads-long, thread-buffer-long, process-buffer-long}
+use Rattle.sound.specs.Lent.{storeOf, soundTables}
+use Rattle.sound.proofs.Facts.{as-long, right-lengths, store-sound}
 
 pub sound-after : (ch : Change) (ps ts tb pb ps′ ts′ tb′ pb′ : List ℕ) → soundTables ps ts tb pb ≡ true → fits (view (storeOf ps ts tb pb)) ch ≡ true
     → length ps′ ≡ length ps → length ts′ ≡ length ts → length tb′ ≡ length tb → length pb′ ≡ length pb
     → storeOf ps′ ts′ tb′ pb′ ≡ apply ch (storeOf ps ts tb pb) → soundTables ps′ ts′ tb′ pb′ ≡ true
-unfolding soundTables lengthsAre
+unfolding soundTables
 sound-after ch ps ts tb pb ps′ ts′ tb′ pb′ e f p t b q k =
-    and-both
-    (and-both (eq-eqb (length ps′) processTable (p ∙ processes-long ps ts tb pb e))
-    (and-both (eq-eqb (length ts′) threadTable (t ∙ threads-long ps ts tb pb e))
-    (and-both (eq-eqb (length tb′) bufferBytes (b ∙ thread-buffer-long ps ts tb pb e)) (eq-eqb (length pb′) bufferBytes (q ∙ process-buffer-long ps ts tb pb e)))))
-    (ap sound k ∙ fits-keeps ch (storeOf ps ts tb pb) (store-sound ps ts tb pb e) f)
+    and-both (as-long ps ts tb pb ps′ ts′ tb′ pb′ p t b q (right-lengths ps ts tb pb e)) (ap sound k ∙ fits-keeps ch (storeOf ps ts tb pb) (store-sound ps ts tb pb e) f)
 
 -- what every change ensures
 pub after : (ch : Change) (ps ts tb pb ps′ ts′ tb′ pb′ : List ℕ) → soundTables ps ts tb pb ≡ true → fits (view (storeOf ps ts tb pb)) ch ≡ true

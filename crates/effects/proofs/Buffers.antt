@@ -12,14 +12,15 @@ use Rattle.lists.proofs.Loops.{find-any}
 use Rattle.types.specs.declared.Siginfo.{Siginfo}
 use Rattle.types.specs.Values.{noSiginfo}
 use Rattle.rules.specs.Types.{Queue}
-use Rattle.rules.specs.View.{inQueue, queueOf, append, dropOldest}
+use Rattle.rules.specs.View.{inQueue, append, dropOldest}
 use Rattle.rules.specs.Store.{used, recordsFor, onSlots, view, apply}
 use Rattle.rules.specs.Fitting.{fits}
+use Rattle.rules.proofs.Queues.{target-process, queue-target}
 use Rattle.queue.specs.Queue.{slotsOf, recordsOf, appended, removeAt}
 use Rattle.queue.proofs.Buffer.{drop-oldest}
 use Rattle.sound.specs.Lent.{storeOf, soundTables}
 use Rattle.sound.proofs.Facts.{room}
-use Rattle.effects.proofs.Fitted.{append-queue, append-below, queue-process}
+use Rattle.effects.proofs.Fitted.{append-queue, append-below}
 use Rattle.effects.proofs.Places.{with-all}
 
 module _ (ps ts tb pb : List ℕ) where
@@ -30,7 +31,7 @@ module _ (ps ts tb pb : List ℕ) where
   unfolding view
   append-room e r f =
       let v = view (storeOf ps ts tb pb) in
-      room ps ts tb pb e (r .process) (queue-process v (queueOf r) (append-queue v r f)) (append-below v r f)
+      room ps ts tb pb e (r .process) (target-process v (r .process) (r .thread) (queue-target v (r .process) (r .thread) (append-queue v r f))) (append-below v r f)
 
   module _ (r : Siginfo) where
     pub append-process : eqb (r .thread) 0 ≡ true → (pb′ : List ℕ) → slotsOf pb′ ≡ onSlots (appended r) (slotsOf pb)

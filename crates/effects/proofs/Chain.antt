@@ -47,3 +47,28 @@ module _ (xs ys : List Change) (st : Store) where
 
     pub then-part : (st″ : Store) → st″ ≡ applyAll ys st′ → st″ ≡ applyAll (xs ++ ys) st
     then-part st″ h = h ∙ ap (applyAll ys) e ∙ sym (applyAll-append xs ys st)
+
+-- ---- changes, by a list that they equal
+
+module _ (cs : List Change) (st : Store) where
+  pub made : (js : List Change) → cs ≡ js → (st′ : Store) → st′ ≡ applyAll js st → st′ ≡ applyAll cs st
+  made js e st′ h = h ∙ ap (λ (l : List Change). applyAll l st) (sym e)
+
+  module _ (f : fitsAll cs st ≡ true) where
+    pub all-fit : (js : List Change) → cs ≡ js → fitsAll js st ≡ true
+    all-fit js e = ap (λ (l : List Change). fitsAll l st) (sym e) ∙ f
+
+    pub starts : (ch : Change) (rest : List Change) → cs ≡ ch ∷ rest → fits (view st) ch ≡ true
+    starts ch rest e = first-fits ch rest st (all-fit (ch ∷ rest) e)
+
+    -- some changes, and one more
+    module _ (js : List Change) (ch : Change) (e : cs ≡ js ++ (ch ∷ [])) where
+      pub part-fits : fitsAll js st ≡ true
+      part-fits = first-part-fits js (ch ∷ []) st (all-fit (js ++ (ch ∷ [])) e)
+
+      module _ (st′ : Store) (h : st′ ≡ applyAll js st) where
+        pub last-fits : fits (view st′) ch ≡ true
+        last-fits = first-fits ch [] st′ (second-part-fits js (ch ∷ []) st st′ h (all-fit (js ++ (ch ∷ [])) e))
+
+        pub last-made : (st″ : Store) → st″ ≡ apply ch st′ → st″ ≡ applyAll cs st
+        last-made st″ k = made (js ++ (ch ∷ [])) e st″ (then-part js (ch ∷ []) st st′ h st″ (one-made ch st′ st″ k))

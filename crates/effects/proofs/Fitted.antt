@@ -1,12 +1,12 @@
 -- What a change that fits says of the store: who is live, which signal is meant, that there is room. Assumes nothing.
 use Prim.Native.Nat.{ℕ, _<_}
 use mathlib.Core.Path.{_≡_}
-use mathlib.Core.Bool.{true, false, not, _&&_, _||_}
+use mathlib.Core.Bool.{true}
 use lib.Dec.{eqb, leb}
-use borrow.Author.Tests.{eqb-true, ltb-true, not-true, not-false}
+use borrow.Author.Tests.{ltb-true}
 use Rattle.limits.specs.Limits.{recordLimit, siQueue}
 use Rattle.lists.specs.Lists.{any}
-use Rattle.lists.proofs.Bools.{and-fst, and-snd, or-fst-false, or-snd-false}
+use Rattle.lists.proofs.Bools.{and-fst, and-snd}
 use Rattle.sigset.specs.declared.SigSet.{SigSet}
 use Rattle.sigset.specs.Set.{Signal}
 use Rattle.types.specs.declared.Action.{Action}
@@ -15,7 +15,6 @@ use Rattle.rules.specs.Types.{Queue}
 use Rattle.rules.specs.View.{View, removeProcess, removeThread, setStopped, setAction, setMask, setMark, clearMark, append, discard, queueOf, liveProcess, liveThread, theThread}
 use Rattle.rules.specs.Sound.{unmasked, nameable}
 use Rattle.rules.specs.Adding.{otherThread}
-use Rattle.rules.specs.Refusals.{noProcessLive, noThreadLive, badTarget}
 use Rattle.rules.specs.Fitting.{liveQueue, admits, fits}
 use Rattle.rules.proofs.Signals.{nameable-signal}
 
@@ -68,27 +67,3 @@ module _ (v : View) where
     unfolding fits
     append-below =
         ltb-true (v .queued (r .process)) recordLimit (and-snd (admits v (queueOf r) (r .signal)) _ (and-snd (eqb (r .code) siQueue) _ f))
-
-  module _ (q : Queue) (e : liveQueue v q ≡ true) where
-    not-bad : badTarget v (q .process) (q .thread) ≡ false
-    unfolding liveQueue
-    not-bad = not-true (badTarget v (q .process) (q .thread)) e
-
-    pub queue-process : liveProcess v (q .process) ≡ true
-    unfolding badTarget noProcessLive
-    queue-process = not-false (liveProcess v (q .process)) (or-fst-false (not (liveProcess v (q .process))) _ not-bad)
-
-    module _ (n : eqb (q .thread) 0 ≡ false) where
-      not-bad-thread : (not (liveThread v (q .thread)) || not (eqb (theThread v (q .thread) .process) (q .process))) ≡ false
-      unfolding badTarget noThreadLive
-      not-bad-thread =
-          rw n at
-          (or-snd-false (noProcessLive v (q .process)) (not (eqb (q .thread) 0) && (not (liveThread v (q .thread)) || not (eqb (theThread v (q .thread) .process) (q .process)))) not-bad)
-
-      pub queue-thread : liveThread v (q .thread) ≡ true
-      queue-thread = not-false (liveThread v (q .thread)) (or-fst-false (not (liveThread v (q .thread))) _ not-bad-thread)
-
-      pub queue-owner : theThread v (q .thread) .process ≡ q .process
-      queue-owner =
-          eqb-true (theThread v (q .thread) .process) (q .process)
-          (not-false (eqb (theThread v (q .thread) .process) (q .process)) (or-snd-false (not (liveThread v (q .thread))) _ not-bad-thread))

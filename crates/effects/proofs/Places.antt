@@ -77,14 +77,6 @@ module _ (ps ts tb pb : List ℕ) where
 -- ---- the place of a live process or thread in sound tables
 
 module _ (ps ts tb pb : List ℕ) where
-  pub process-listed : (n : ℕ) → liveProcess (view (storeOf ps ts tb pb)) n ≡ true → any (isProcess n) (heldProcesses ps) ≡ true
-  unfolding liveProcess view storeOf
-  process-listed n live = live
-
-  pub thread-listed : (n : ℕ) → liveThread (view (storeOf ps ts tb pb)) n ≡ true → any (isThread n) (heldThreads ts) ≡ true
-  unfolding liveThread view storeOf
-  thread-listed n live = live
-
   pub process-inside : (n place : ℕ) → liveProcess (view (storeOf ps ts tb pb)) n ≡ true → place ≡ find (isProcess n) (heldProcesses ps) → place < processPlaces
   process-inside n place live here = omega (arith, process-found ps ts tb pb n live)
 

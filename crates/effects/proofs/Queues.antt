@@ -19,6 +19,7 @@ use Rattle.rules.specs.Fitting.{liveQueue, fits}
 use Rattle.rules.proofs.Facts.{one-process, one-thread}
 use Rattle.rules.proofs.Marks.{processWith, threadWith, the-thread, process-is, thread-is, process-named, thread-named, queue-same, same-queue, same-comm, not-of-process, not-of-thread}
 use Rattle.rules.proofs.Parts.{parts}
+use Rattle.rules.proofs.Queues.{target-process, target-thread, target-owner, queue-target}
 use Rattle.queue.specs.Queue.{slotsOf, spares}
 use Rattle.queue.specs.declared.Doomed.the-variants.{OfSignals}
 use Rattle.tables.specs.Tables.{processesOf, threadsOf, heldProcesses, heldThreads, processAt, threadAt}
@@ -27,7 +28,7 @@ use Rattle.sound.proofs.Facts.{store-sound}
 use Rattle.effects.specs.declared.Marking.{Marking}
 use Rattle.effects.specs.declared.Marking.the-variants.{Adding, Removing}
 use Rattle.effects.specs.Effects.{markedBy, remarked, remarkedOf}
-use Rattle.effects.proofs.Fitted.{mark-queue, unmark-queue, queue-process, queue-thread, queue-owner}
+use Rattle.effects.proofs.Fitted.{mark-queue, unmark-queue}
 use Rattle.effects.proofs.Places.{marksWhere, withMarks, marked-place, unmarked-places, with-all}
 
 -- ---- a sound store
@@ -94,7 +95,7 @@ module _ (ps ts tb pb : List ℕ) (e : soundTables ps ts tb pb ≡ true) (n t : 
       → storeOf ps′ ts tb pb ≡ onMarks (marking how (targetQueue n t)) st
   unfolding storeOf remarked
   process-store z ps′ k =
-      let l = queue-process (view st) (targetQueue n t) live in
+      let l = target-process (view st) n t (queue-target (view st) n t live) in
       let s = store-sound ps ts tb pb e in
       subst (λ (i : ℕ). storeOf ps′ ts tb pb ≡ onMarks (marking how (targetQueue n i)) st) (sym z)
       (with-all ps′ ts tb pb (k ∙ sym (process-marks-set st s (markedBy how) n l)) (sym (thread-marks-kept st s (markedBy how) n l)) refl refl)
@@ -105,8 +106,9 @@ module _ (ps ts tb pb : List ℕ) (e : soundTables ps ts tb pb ≡ true) (n t : 
   unfolding storeOf remarked
   thread-store z ts′ k =
       let q = targetQueue n t in
-      let l = queue-thread (view st) q live z in
-      let o = queue-owner (view st) q live z in
+      let b = queue-target (view st) n t live in
+      let l = target-thread (view st) n t b z in
+      let o = target-owner (view st) n t b z in
       let s = store-sound ps ts tb pb e in
       with-all ps ts′ tb pb (sym (process-marks-kept st s (markedBy how) q l o)) (k ∙ sym (thread-marks-set st s (markedBy how) q l o)) refl refl
 

@@ -1,19 +1,20 @@
 -- The lowest signal that a thread can take, from what was read. Assumes nothing.
 use Prim.Native.Nat.{ℕ}
 use mathlib.Core.Path.{_≡_, refl, sym, ap, ap₂, _∙_}
-use mathlib.Core.Bool.{Bool, true, false, not, _&&_, _||_}
+use mathlib.Core.Bool.{Bool, true, false, not, _&&_}
 use mathlib.Core.List.{List}
 use lib.Dec.{eqb}
 use Rattle.lists.proofs.Bools.{and-left}
 use Rattle.sigset.specs.declared.SigSet.{SigSet}
 use Rattle.sigset.specs.Set.{has, setOf, union, without, lowest}
-use Rattle.sigset.proofs.Laws.{has-set, has-union, has-without, lowestOf-none, lowestOf-cong}
+use Rattle.sigset.proofs.Laws.{has-without, lowestOf-none, lowestOf-cong}
 use Rattle.rules.specs.Types.{Thread, Queue}
 use Rattle.rules.specs.View.{View, processQueue, threadQueue, targetQueue, liveThread, theProcess, theThread, pendingIn, pendingFor}
 use Rattle.rules.specs.Store.{view}
 use Rattle.rules.specs.Taking.{isStopped, canTakeSignal, nextSignal}
 use Rattle.sound.specs.Lent.{storeOf}
 use Rattle.view.specs.Named.{processNamed, threadNamed}
+use Rattle.view.proofs.Live.{pending-union}
 use Rattle.next.proofs.Owners.{own-is, shared-is}
 
 module _ (v : View) (th : Thread) where
@@ -23,16 +24,11 @@ module _ (v : View) (th : Thread) where
 
   module _ (own shared : SigSet) (a : own ≡ setOf (pendingIn v (threadQueue th))) (b : shared ≡ setOf (pendingIn v (processQueue (th .process)))) where
     pub lowest-taken : isStopped v th ≡ false → lowest (without (union own shared) (th .mask)) ≡ nextSignal v th
-    unfolding nextSignal canTakeSignal lowest pendingFor
+    unfolding nextSignal canTakeSignal lowest
     lowest-taken e =
         lowestOf-cong (has (without (union own shared) (th .mask))) (canTakeSignal v th)
         (λ s g.
-        let p : has (union own shared) s ≡ pendingFor v th s =
-        has-union own shared s g
-        ∙ ap₂ (λ (x y : Bool). x || y)
-        (ap (λ (x : SigSet). has x s) a ∙ has-set (pendingIn v (threadQueue th)) s g)
-        (ap (λ (x : SigSet). has x s) b ∙ has-set (pendingIn v (processQueue (th .process))) s g) in
-        has-without (union own shared) (th .mask) s g ∙ ap (λ (x : Bool). x && not (has (th .mask) s)) p
+        has-without (union own shared) (th .mask) s g ∙ ap (λ (x : Bool). x && not (has (th .mask) s)) (pending-union v th own shared a b s g)
         ∙ sym (ap (λ (x : Bool). not x && (pendingFor v th s && not (has (th .mask) s))) e))
 
 module _ (ps ts tb pb : List ℕ) (t p : ℕ) (o : p ≡ threadNamed ts t .process) (b : Bool) (s : b ≡ not (eqb (processNamed ps p .stopped) 0)) where

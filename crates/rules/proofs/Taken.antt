@@ -8,7 +8,7 @@ use lib.Dec.{eqb}
 use borrow.Author.Tests.{eqb-true, eq-eqb}
 use Rattle.limits.specs.Limits.{sigDfl}
 use Rattle.lists.specs.Lists.{any, isSome, All}
-use Rattle.lists.proofs.Bools.{split, clash, and-fst, and-snd, and-both, and-right, or-both, or-cases, cond-true, cond-false}
+use Rattle.lists.proofs.Bools.{split, clash, and-fst, and-snd, and-both, or-cases, cond-true, cond-false}
 use Rattle.lists.proofs.Lists.{Pass, All-imp, All-first, Found, found}
 use Rattle.sigset.specs.Set.{isUnmaskable}
 use Rattle.sigset.proofs.Laws.{lowestOf-found}
@@ -21,12 +21,12 @@ use Rattle.rules.specs.Store.{Store, used, recordsFor, markIn, view, app
 use Rattle.rules.specs.Sound.{unmasked, nameable, namesLive, aimedAtThread, aimedAtProcess, sound}
 use Rattle.rules.specs.Taking.{isStopped, canTakeSignal, nextSignal, nextQueue, nextIn, next, handlerMask, resets, reset, resetChanges, outcomeChanges, deliver, takeChanges}
 use Rattle.rules.specs.Adding.{otherThread, endThreadChanges}
-use Rattle.rules.specs.Refusals.{noProcessLive, noThreadLive, badTarget}
 use Rattle.rules.specs.Fitting.{liveQueue, fits, fitsAll}
 use Rattle.rules.proofs.Aimed.{names-signal}
 use Rattle.rules.proofs.Amended.{setMask-amended}
 use Rattle.rules.proofs.Amends.{setMask-sound}
 use Rattle.rules.proofs.Facts.{owner-live, marks-unmasked, action-unmasked, thread-aimed, process-aimed}
+use Rattle.rules.proofs.Queues.{shared-live, own-live}
 use Rattle.rules.proofs.Fitted.{store-fits}
 use Rattle.rules.proofs.Flags.{reset-known}
 use Rattle.rules.proofs.Marks.{the-thread-id}
@@ -114,17 +114,10 @@ module _ (st : Store) (e : sound st ≡ true) (t : ℕ) (l : liveThread (view st
   its-process = owner-live st e t l
 
   pub thread-queue-live : liveQueue (view st) (threadQueue it) ≡ true
-  unfolding liveQueue badTarget noProcessLive noThreadLive
-  thread-queue-live =
-      ap not
-      (or-both (ap not its-process)
-      (and-right (not (eqb (it .id) 0))
-      (or-both (ap not it-lives)
-      (ap not (eq-eqb (theThread (view st) (it .id) .process) (it .process) (ap (λ (k : ℕ). theThread (view st) k .process) (the-thread-id st t l)))))))
+  thread-queue-live = own-live (view st) (it .process) its-process (it .id) it-lives (ap (λ (k : ℕ). theThread (view st) k .process) (the-thread-id st t l))
 
   pub process-queue-live : liveQueue (view st) (processQueue (it .process)) ≡ true
-  unfolding liveQueue badTarget noProcessLive
-  process-queue-live = ap not (or-both (ap not its-process) refl)
+  process-queue-live = shared-live (view st) (it .process) its-process
 
   -- ---- a take
 

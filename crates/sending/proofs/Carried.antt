@@ -1,8 +1,8 @@
 -- The changes of a send, one after the other, as code makes them. Assumes nothing.
 use Prim.Native.Nat.{ℕ}
-use mathlib.Core.Path.{_≡_, refl, sym, ap, ap₂, _∙_}
+use mathlib.Core.Path.{_≡_, refl, sym, ap, ap₂}
 use mathlib.Core.Bool.{Bool, true, false}
-use mathlib.Core.List.{List, [], _∷_, _++_}
+use mathlib.Core.List.{[], _∷_, _++_}
 use borrow.Author.Tests.{eq-eqb, ne-eqb}
 use types.Run.{OneOf, miss}
 use denote.Enum.Declared.{tagOf}
@@ -11,41 +11,13 @@ use Rattle.sigset.specs.declared.SigSet.{SigSet}
 use Rattle.sigset.specs.Set.{setOf, ofSignal}
 use Rattle.types.specs.declared.Siginfo.{Siginfo}
 use Rattle.rules.specs.Signals.{stopSignal}
-use Rattle.rules.specs.View.{View, Change, removeProcess, setStopped, setMark, append, discard, targetQueue, queueOf}
-use Rattle.rules.specs.Store.{Store, view, apply, applyAll}
+use Rattle.rules.specs.View.{View, removeProcess, setStopped, setMark, append, discard, targetQueue, queueOf}
 use Rattle.rules.specs.Sending.{fate, infoOf, jobControl, sendChanges}
 use Rattle.rules.specs.Calls.{send}
-use Rattle.rules.specs.Fitting.{fits, fitsAll}
-use Rattle.effects.proofs.Chain.{first-fits, one-made, first-part-fits, second-part-fits, then-part}
 use Rattle.sending.specs.Fates.{fateOf}
 use Rattle.sending.specs.declared.Fate as declared
 use Rattle.sending.specs.declared.Fate.the-variants as cases
 use Rattle.sending.proofs.Fate.{the-type}
-
--- ---- changes, by a list that they equal
-
-module _ (cs : List Change) (st : Store) where
-  pub made : (js : List Change) → cs ≡ js → (st′ : Store) → st′ ≡ applyAll js st → st′ ≡ applyAll cs st
-  made js e st′ h = h ∙ ap (λ (l : List Change). applyAll l st) (sym e)
-
-  module _ (f : fitsAll cs st ≡ true) where
-    pub all-fit : (js : List Change) → cs ≡ js → fitsAll js st ≡ true
-    all-fit js e = ap (λ (l : List Change). fitsAll l st) (sym e) ∙ f
-
-    pub starts : (ch : Change) (rest : List Change) → cs ≡ ch ∷ rest → fits (view st) ch ≡ true
-    starts ch rest e = first-fits ch rest st (all-fit (ch ∷ rest) e)
-
-    -- some changes, and one more
-    module _ (js : List Change) (ch : Change) (e : cs ≡ js ++ (ch ∷ [])) where
-      pub part-fits : fitsAll js st ≡ true
-      part-fits = first-part-fits js (ch ∷ []) st (all-fit (js ++ (ch ∷ [])) e)
-
-      module _ (st′ : Store) (h : st′ ≡ applyAll js st) where
-        pub last-fits : fits (view st′) ch ≡ true
-        last-fits = first-fits ch [] st′ (second-part-fits js (ch ∷ []) st st′ h (all-fit (js ++ (ch ∷ [])) e))
-
-        pub last-made : (st″ : Store) → st″ ≡ apply ch st′ → st″ ≡ applyAll cs st
-        last-made st″ k = made (js ++ (ch ∷ [])) e st″ (then-part js (ch ∷ []) st st′ h st″ (one-made ch st′ st″ k))
 
 -- ---- job control, by the signal
 

@@ -2,4 +2,3 @@ mod Decided
 mod Targets
 mod Carried
 mod Refused
-mod Ended

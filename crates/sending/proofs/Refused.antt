@@ -1,26 +1,28 @@
 -- The refusals of the two sends, row by row, and what a send has where none applies. Assumes nothing.
 use Prim.Native.Nat.{ℕ, _≤_, _<_}
 use mathlib.Core.Path.{_≡_, refl, sym, ap, _∙_}
-use mathlib.Core.Bool.{Bool, true, false, not, _||_, cond}
-use mathlib.Core.List.{List, [], _∷_, _++_}
+use mathlib.Core.Bool.{Bool, true, false, not, _||_}
+use mathlib.Core.List.{List, [], _∷_}
 use borrow.Author.Tests.{lt-ltb, le-ltb, ltb-false, not-false}
 use Rattle.limits.specs.Limits.{signals, EPERM, ESRCH, EAGAIN, EFAULT, EINVAL}
-use Rattle.lists.specs.Lists.{any}
-use Rattle.lists.proofs.Bools.{split, or-fst-false, or-snd-false}
+use Rattle.lists.specs.Lists.{any, All}
+use Rattle.lists.proofs.Bools.{or-fst-false, or-snd-false}
 use Rattle.rules.specs.Types.{kill, queue}
 use Rattle.rules.specs.View.{View, isProcess, targetQueue, liveProcess, theProcess}
 use Rattle.rules.specs.Store.{view}
 use Rattle.rules.specs.Sending.{maySignal}
-use Rattle.rules.specs.Refusals.{Row, refusal, overLast, einval, esrch, eperm, eagain, noProcessLive, badTarget, mayNot, noRoom, rows, isClear, fault, table, refusalOf}
+use Rattle.rules.specs.Refusals.{overLast, einval, esrch, eperm, eagain, noProcessLive, badTarget, mayNot, noRoom, rows, isClear, fault, table, refusalOf}
 use Rattle.rules.specs.Calls.{send}
 use Rattle.rules.specs.Fitting.{liveQueue, fitsAll}
+use Rattle.rules.proofs.Table.{Off}
 use Rattle.rules.proofs.Queues.{target-queue}
 use Rattle.rules.proofs.Fitted.{send-fits}
 use Rattle.tables.specs.Tables.{heldProcesses}
 use Rattle.sound.specs.Lent.{storeOf, soundTables}
 use Rattle.sound.proofs.Facts.{store-sound}
 use Rattle.answers.specs.Step.{Lent, lent, decoded, refusalOn, rowsOn}
-use Rattle.answers.proofs.Endings.{isSound, rows-given, rows-fault, rows-sound, row-on, row-off, rows-done, accepted-tables-sound, accepted-rows}
+use Rattle.answers.proofs.Endings.{isSound, rows-given, accepted-tables-sound, accepted-rows}
+use Rattle.answers.proofs.Rows.{rows-before, refuses-fault, refuses-at, refuses-none}
 use Rattle.view.specs.Named.{processNamed}
 
 -- ---- a plain send
@@ -45,16 +47,12 @@ module _ (ps ts tb pb : List ℕ) (by to t s : ℕ) where
 
   pub kill-fault : soundTables ps ts tb pb ≡ false → EFAULT ≡ plain
   unfolding isClear
-  kill-fault e = rows-fault (rows seen (kill by to t s)) (lent ps ts tb pb) e ∙ sym (rows-given (kill by to t s) (lent ps ts tb pb) refl)
+  kill-fault = refuses-fault (kill by to t s) (lent ps ts tb pb) refl
 
   module _ (e : soundTables ps ts tb pb ≡ true) where
-    by-rows : (n : ℕ) → n ≡ refusal (rows seen (kill by to t s)) → n ≡ plain
-    unfolding isClear
-    by-rows n h = rows-sound (rows seen (kill by to t s)) (lent ps ts tb pb) e n h ∙ sym (rows-given (kill by to t s) (lent ps ts tb pb) refl)
-
     pub kill-over : signals < s → EINVAL ≡ plain
-    unfolding rows overLast
-    kill-over h = by-rows EINVAL (row-on (einval (overLast s)) _ (lt-ltb signals s h))
+    unfolding rows isClear overLast
+    kill-over h = refuses-at (kill by to t s) (lent ps ts tb pb) refl e [] (einval (overLast s)) _ refl tt (lt-ltb signals s h)
 
     module _ (o : s ≤ signals) where
       low : overLast s ≡ false
@@ -62,17 +60,18 @@ module _ (ps ts tb pb : List ℕ) (by to t s : ℕ) where
       low = le-ltb signals s o
 
       pub kill-nobody : nobody ≡ true → ESRCH ≡ plain
-      unfolding rows
-      kill-nobody h = by-rows ESRCH (row-off (einval (overLast s)) _ ESRCH low (row-on (esrch nobody) _ h))
+      unfolding rows isClear
+      kill-nobody h = refuses-at (kill by to t s) (lent ps ts tb pb) refl e (einval (overLast s) ∷ []) (esrch nobody) _ refl (low, tt) h
 
       module _ (k : nobody ≡ false) where
         pub kill-barred : mayNot seen by to s ≡ true → EPERM ≡ plain
-        unfolding rows
-        kill-barred h = by-rows EPERM (row-off (einval (overLast s)) _ EPERM low (row-off (esrch nobody) _ EPERM k (row-on (eperm (mayNot seen by to s)) [] h)))
+        unfolding rows isClear
+        kill-barred h =
+            refuses-at (kill by to t s) (lent ps ts tb pb) refl e (einval (overLast s) ∷ esrch nobody ∷ []) (eperm (mayNot seen by to s)) [] refl (low, (k, tt)) h
 
         pub kill-passes : mayNot seen by to s ≡ false → 0 ≡ plain
-        unfolding rows
-        kill-passes h = by-rows 0 (row-off (einval (overLast s)) _ 0 low (row-off (esrch nobody) _ 0 k (row-off (eperm (mayNot seen by to s)) [] 0 h rows-done)))
+        unfolding rows isClear
+        kill-passes h = refuses-none (kill by to t s) (lent ps ts tb pb) refl e (low, (k, (h, tt)))
 
 -- ---- what a send has that is not refused
 
@@ -122,21 +121,6 @@ module _ (l : Lent) (by to t s : ℕ) where
 
 -- ---- a send with a value: the rows of a plain one, and one more
 
-refused-before : (rs more : List Row) → (refusal rs ≡ 0 → ⊥) → refusal rs ≡ refusal (rs ++ more)
-unfolding refusal
-refused-before [] more n = absurd (n refl)
-refused-before (r ∷ rs) more n =
-    split (r .applies)
-    (λ e. rw e)
-    (λ e. rw e (refused-before rs more (λ z. n (ap (λ (b : Bool). cond b (r .errno) (refusal rs)) e ∙ z))))
-
-rows-before : (rs more : List Row) (l : Lent) → (rowsOn rs l ≡ 0 → ⊥) → rowsOn rs l ≡ rowsOn (rs ++ more) l
-unfolding rowsOn
-rows-before rs more l n =
-    split (isSound l)
-    (λ e. rw e (refused-before rs more (λ z. n (ap (λ (b : Bool). cond b (refusal rs) EFAULT) e ∙ z))))
-    (λ e. rw e)
-
 module _ (l : Lent) (by to t s value : ℕ) where
   -- the value decides nothing
   pub any-value : refusalOn (queue by to t s value) l ≡ refusalOn (queue by to t s 0) l
@@ -151,22 +135,21 @@ module _ (l : Lent) (by to t s value : ℕ) where
       k ∙ rows-before (rows v (kill by to t s)) (eagain (noRoom v to t s) ∷ []) l (λ y. z (k ∙ y)) ∙ sym (rows-given (queue by to t s value) l refl)
 
   module _ (e : refusalOn (kill by to t s) l ≡ 0) where
-    by-room : (n : ℕ) → n ≡ refusal (eagain (noRoom (view (decoded l)) to t s) ∷ []) → n ≡ refusalOn (queue by to t s value) l
-    unfolding rows isClear
-    by-room n h =
-        let v : View = view (decoded l) in
-        let k = accepted-rows (kill by to t s) l e in
-        rows-sound (rows v (queue by to t s value)) l (accepted-tables-sound (kill by to t s) l refl e) n
-        (row-off (einval (overLast s)) _ n (k .0)
-        (row-off (esrch (noProcessLive v by || badTarget v to t)) _ n (k .1 .0)
-        (row-off (eperm (mayNot v by to s)) _ n (k .1 .1 .0) h)))
-        ∙ sym (rows-given (queue by to t s value) l refl)
+    plain-off : All Off (rows (view (decoded l)) (kill by to t s))
+    plain-off = accepted-rows (kill by to t s) l e
+
+    plain-sound : isSound l ≡ true
+    unfolding isClear
+    plain-sound = accepted-tables-sound (kill by to t s) l refl e
 
     pub queue-full : noRoom (view (decoded l)) to t s ≡ true → EAGAIN ≡ refusalOn (queue by to t s value) l
-    queue-full h = by-room EAGAIN (row-on (eagain (noRoom (view (decoded l)) to t s)) [] h)
+    unfolding rows isClear
+    queue-full h =
+        refuses-at (queue by to t s value) l refl plain-sound (rows (view (decoded l)) (kill by to t s)) (eagain (noRoom (view (decoded l)) to t s)) [] refl plain-off h
 
     pub queue-passes : noRoom (view (decoded l)) to t s ≡ false → 0 ≡ refusalOn (queue by to t s value) l
-    queue-passes h = by-room 0 (row-off (eagain (noRoom (view (decoded l)) to t s)) [] 0 h rows-done)
+    unfolding rows isClear
+    queue-passes h = refuses-none (queue by to t s value) l refl plain-sound (plain-off .0, (plain-off .1 .0, (plain-off .1 .1 .0, (h, tt))))
 
   module _ (e : refusalOn (queue by to t s value) l ≡ 0) where
     pub queue-allowed : Allowed l by to t s

@@ -2,28 +2,28 @@
 use Prim.Native.Nat.{ℕ, _≤_}
 use mathlib.Core.Path.{_≡_, refl, sym, ap, _∙_}
 use mathlib.Core.Bool.{true, false}
-use mathlib.Core.List.{List, [], _∷_}
+use mathlib.Core.List.{[], _∷_}
 use mathlib.Core.Option.{Option, some, none}
 use native.Mathlib.Omega.{arith}
 use lib.Dec.{eqb, ltb}
 use borrow.Author.Tests.{eqb-false, ltb-false, not-false}
 use Rattle.limits.specs.Limits.{signals, EFAULT, EINVAL, ESRCH}
-use Rattle.lists.proofs.Bools.{and-fst, or-fst-false, or-snd-false}
+use Rattle.lists.proofs.Bools.{or-fst-false, or-snd-false}
 use Rattle.siginfo.specs.Bytes.{Bytes}
 use Rattle.types.specs.declared.Action.{Action}
 use Rattle.rules.specs.Types.{action, oldAction}
-use Rattle.rules.specs.View.{Change, liveProcess, actionOf}
+use Rattle.rules.specs.View.{liveProcess, actionOf}
 use Rattle.rules.specs.Store.{view, applyAll}
 use Rattle.rules.specs.Refusals.{overLast, badAction, noProcessLive, rows, isClear, einval, esrch}
 use Rattle.rules.specs.Actions.{stored, storeChanges, actionChanges}
 use Rattle.rules.specs.Calls.{changes, answer}
 use Rattle.rules.specs.Fitting.{fitsAll}
 use Rattle.rules.proofs.Fitted.{action-fits}
-use Rattle.sound.specs.Lent.{soundTables}
 use Rattle.sound.proofs.Facts.{store-sound}
 use Rattle.answers.specs.Step.{Lent, decoded, refusalOn, stepOn}
-use Rattle.answers.proofs.Endings.{longAs, isSound, accepted-tables-sound, tables-after, tables-same, answer-after}
-use Rattle.answers.proofs.Ends.{refuses-fault, refuses-bad, refuses-gone, refuses-none, accepted-both}
+use Rattle.answers.proofs.Endings.{AsLong, isSound, accepted-tables-sound, accepted-rows, same-ends, accepted-ends}
+use Rattle.answers.proofs.Rows.{refuses-fault, refuses-at, refuses-none}
+use Rattle.effects.proofs.Chain.{made, all-fit}
 use Rattle.view.specs.Named.{processNamed}
 use Rattle.view.proofs.Live.{process-named}
 
@@ -36,27 +36,25 @@ asked-signal s new b =
     (omega arith, o)
 
 module _ (l : Lent) (p s : ℕ) (new : Option Action) where
-  action-rows : rows (view (decoded l)) (action p s new) ≡ einval (badAction s new) ∷ esrch (noProcessLive (view (decoded l)) p) ∷ []
-  unfolding rows
-  action-rows = refl
-
-  action-not-clear : isClear (action p s new) ≡ false
-  unfolding isClear
-  action-not-clear = refl
-
   -- ---- the refusal, as code tries the rows
 
   pub action-fault : isSound l ≡ false → EFAULT ≡ refusalOn (action p s new) l
-  action-fault = refuses-fault (action p s new) l action-not-clear (badAction s new) (noProcessLive (view (decoded l)) p) action-rows
+  unfolding isClear
+  action-fault = refuses-fault (action p s new) l refl
 
-  pub action-bad : isSound l ≡ true → badAction s new ≡ true → EINVAL ≡ refusalOn (action p s new) l
-  action-bad = refuses-bad (action p s new) l action-not-clear (badAction s new) (noProcessLive (view (decoded l)) p) action-rows
+  module _ (e : isSound l ≡ true) where
+    pub action-bad : badAction s new ≡ true → EINVAL ≡ refusalOn (action p s new) l
+    unfolding rows isClear
+    action-bad b = refuses-at (action p s new) l refl e [] (einval (badAction s new)) _ refl tt b
 
-  pub action-gone : isSound l ≡ true → badAction s new ≡ false → noProcessLive (view (decoded l)) p ≡ true → ESRCH ≡ refusalOn (action p s new) l
-  action-gone = refuses-gone (action p s new) l action-not-clear (badAction s new) (noProcessLive (view (decoded l)) p) action-rows
+    module _ (b : badAction s new ≡ false) where
+      pub action-gone : noProcessLive (view (decoded l)) p ≡ true → ESRCH ≡ refusalOn (action p s new) l
+      unfolding rows isClear
+      action-gone g = refuses-at (action p s new) l refl e (einval (badAction s new) ∷ []) (esrch (noProcessLive (view (decoded l)) p)) [] refl (b, tt) g
 
-  pub action-none : isSound l ≡ true → badAction s new ≡ false → noProcessLive (view (decoded l)) p ≡ false → 0 ≡ refusalOn (action p s new) l
-  action-none = refuses-none (action p s new) l action-not-clear (badAction s new) (noProcessLive (view (decoded l)) p) action-rows
+      pub action-none : noProcessLive (view (decoded l)) p ≡ false → 0 ≡ refusalOn (action p s new) l
+      unfolding rows isClear
+      action-none g = refuses-none (action p s new) l refl e (b, (g, tt))
 
   -- ---- accepted
 
@@ -67,40 +65,43 @@ module _ (l : Lent) (p s : ℕ) (new : Option Action) where
 
   module _ (e : refusalOn (action p s new) l ≡ 0) where
     pub action-accepted : Accepted
-    unfolding noProcessLive
+    unfolding rows isClear noProcessLive
     action-accepted =
-        let h = accepted-both (action p s new) l action-not-clear (badAction s new) (noProcessLive (view (decoded l)) p) action-rows e in
+        let h = accepted-rows (action p s new) l e in
         record {
-          sound = accepted-tables-sound (action p s new) l action-not-clear e;
+          sound = accepted-tables-sound (action p s new) l refl e;
           fine = h .0;
-          live = not-false (liveProcess (view (decoded l)) p) (h .1);
+          live = not-false (liveProcess (view (decoded l)) p) (h .1 .0);
         }
 
-    pub action-answered : (a : Action) → a ≡ actionOf (processNamed (l .processes) p) s → oldAction a ≡ stepOn (action p s new) l .1
-    unfolding answer
-    action-answered a h =
-        answer-after (action p s new) l e (oldAction a)
-        (ap oldAction (h ∙ ap (λ x. actionOf x s) (process-named (l .processes) (l .threads) (l .threadBuffer) (l .processBuffer) p)))
+    -- by the action that was read
+    module _ (old : Action) (o : old ≡ actionOf (processNamed (l .processes) p) s) where
+      answered : oldAction old ≡ answer (view (decoded l)) (action p s new)
+      unfolding answer
+      answered = ap oldAction (o ∙ ap (λ x. actionOf x s) (process-named (l .processes) (l .threads) (l .threadBuffer) (l .processBuffer) p))
 
-    -- without a new action
-    pub action-kept : new ≡ none → Bytes (l .threadBuffer) → Bytes (l .processBuffer) → l ≡ stepOn (action p s new) l .0
-    unfolding changes actionChanges
-    action-kept n bt bp = tables-same (action p s new) l e bt bp (ap (actionChanges p s) n)
+      -- without a new action
+      pub action-kept : new ≡ none → Bytes (l .threadBuffer) → Bytes (l .processBuffer)
+          → (oldAction old ≡ stepOn (action p s new) l .1) × (l ≡ stepOn (action p s new) l .0)
+      unfolding changes actionChanges
+      action-kept n bt bp = same-ends (action p s new) l e (oldAction old) answered bt bp (ap (actionChanges p s) n)
 
     -- with one, as the code makes it ready
     module _ (a g : Action) (n : new ≡ some a) (h : g ≡ stored a) where
-      these : storeChanges p s g ≡ actionChanges p s new
+      these : actionChanges p s new ≡ storeChanges p s g
       unfolding actionChanges
-      these = ap (storeChanges p s) h ∙ ap (actionChanges p s) (sym n)
+      these = ap (actionChanges p s) n ∙ sym (ap (storeChanges p s) h)
 
       pub action-ready : fitsAll (storeChanges p s g) (decoded l) ≡ true
       action-ready =
-          ap (λ (cs : List Change). fitsAll cs (decoded l)) these
-          ∙ action-fits (decoded l) (store-sound (l .processes) (l .threads) (l .threadBuffer) (l .processBuffer) (action-accepted .sound)) p s new
-          (action-accepted .fine) (action-accepted .live)
+          all-fit (actionChanges p s new) (decoded l)
+          (action-fits (decoded l) (store-sound (l .processes) (l .threads) (l .threadBuffer) (l .processBuffer) (action-accepted .sound)) p s new
+          (action-accepted .fine) (action-accepted .live))
+          (storeChanges p s g) these
 
-      pub action-stored : (m : Lent) → isSound m ≡ true → Bytes (m .threadBuffer) → Bytes (m .processBuffer)
-          → decoded m ≡ applyAll (storeChanges p s g) (decoded l) → m ≡ stepOn (action p s new) l .0
-      unfolding changes soundTables
-      action-stored m k bt bp d =
-          tables-after (action p s new) l e m (and-fst (longAs m) _ k) bt bp (d ∙ ap (λ (cs : List Change). applyAll cs (decoded l)) these)
+      pub action-stored : (old : Action) → old ≡ actionOf (processNamed (l .processes) p) s
+          → (m : Lent) → AsLong l m → Bytes (m .threadBuffer) → Bytes (m .processBuffer) → decoded m ≡ applyAll (storeChanges p s g) (decoded l)
+          → (oldAction old ≡ stepOn (action p s new) l .1) × (m ≡ stepOn (action p s new) l .0)
+      unfolding changes
+      action-stored old o m k bt bp d =
+          accepted-ends (action p s new) l e (oldAction old) (answered old o) m k bt bp (made (actionChanges p s new) (decoded l) (storeChanges p s g) these (decoded m) d)

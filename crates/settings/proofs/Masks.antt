@@ -3,27 +3,25 @@
 use Prim.Native.Nat.{ℕ, zero, suc}
 use mathlib.Core.Path.{_≡_, refl, sym, ap, _∙_}
 use mathlib.Core.Bool.{true, false, cond}
-use mathlib.Core.List.{List, [], _∷_}
+use mathlib.Core.List.{[], _∷_}
 use mathlib.Core.Option.{Option, some, none}
 use borrow.Author.Tests.{eq-eqb, ne-eqb, not-false}
 use Rattle.limits.specs.Limits.{sigBlock, sigUnblock, sigSetmask, EFAULT, EINVAL, ESRCH}
-use Rattle.lists.proofs.Bools.{and-fst}
 use Rattle.sigset.specs.declared.SigSet.{SigSet}
 use Rattle.sigset.specs.Set.{union, without, maskable}
 use Rattle.siginfo.specs.Bytes.{Bytes}
 use Rattle.rules.specs.Types.{Thread, mask, return, oldMask, refused}
-use Rattle.rules.specs.View.{Change, setMask, liveThread, theThread}
-use Rattle.rules.specs.Store.{Store, view, apply, applyAll}
+use Rattle.rules.specs.View.{setMask, liveThread, theThread}
+use Rattle.rules.specs.Store.{Store, view, apply}
 use Rattle.rules.specs.Actions.{newMask, maskChanges}
 use Rattle.rules.specs.Refusals.{badWay, noThreadLive, refusal, rows, isClear, fault, table, refusalOf, einval, esrch}
 use Rattle.rules.specs.Calls.{changes, answer, stages, runStages, finish, step}
-use Rattle.rules.specs.Fitting.{fits, fitsAll}
+use Rattle.rules.specs.Fitting.{fits}
 use Rattle.rules.proofs.Fitted.{mask-fits}
-use Rattle.sound.specs.Lent.{soundTables}
 use Rattle.answers.specs.Step.{Lent, decoded, refusalOn, settled, stepOn}
-use Rattle.answers.proofs.Endings.{longAs, isSound, accepted-tables-sound, tables-after, tables-same, answer-after}
-use Rattle.answers.proofs.Ends.{refuses-fault, refuses-bad, refuses-gone, refuses-none, accepted-both}
-use Rattle.effects.proofs.Chain.{first-fits, one-made}
+use Rattle.answers.proofs.Endings.{AsLong, longAs, isSound, accepted-tables-sound, accepted-rows, same-ends, accepted-ends}
+use Rattle.answers.proofs.Rows.{refuses-fault, refuses-at, refuses-none}
+use Rattle.effects.proofs.Chain.{one-made, made, starts}
 use Rattle.view.specs.Named.{threadNamed}
 use Rattle.view.proofs.Live.{thread-named}
 
@@ -45,72 +43,69 @@ module _ (old set : SigSet) (way : ℕ) where
 -- ---- the call
 
 module _ (l : Lent) (t way : ℕ) (set : Option SigSet) where
-  mask-rows : rows (view (decoded l)) (mask t way set) ≡ einval (badWay way set) ∷ esrch (noThreadLive (view (decoded l)) t) ∷ []
-  unfolding rows
-  mask-rows = refl
-
-  mask-not-clear : isClear (mask t way set) ≡ false
-  unfolding isClear
-  mask-not-clear = refl
-
   -- the refusal, as code tries the rows
 
   pub mask-fault : isSound l ≡ false → EFAULT ≡ refusalOn (mask t way set) l
-  mask-fault = refuses-fault (mask t way set) l mask-not-clear (badWay way set) (noThreadLive (view (decoded l)) t) mask-rows
+  unfolding isClear
+  mask-fault = refuses-fault (mask t way set) l refl
 
-  pub mask-bad : isSound l ≡ true → badWay way set ≡ true → EINVAL ≡ refusalOn (mask t way set) l
-  mask-bad = refuses-bad (mask t way set) l mask-not-clear (badWay way set) (noThreadLive (view (decoded l)) t) mask-rows
+  module _ (e : isSound l ≡ true) where
+    pub mask-bad : badWay way set ≡ true → EINVAL ≡ refusalOn (mask t way set) l
+    unfolding rows isClear
+    mask-bad b = refuses-at (mask t way set) l refl e [] (einval (badWay way set)) _ refl tt b
 
-  pub mask-gone : isSound l ≡ true → badWay way set ≡ false → noThreadLive (view (decoded l)) t ≡ true → ESRCH ≡ refusalOn (mask t way set) l
-  mask-gone = refuses-gone (mask t way set) l mask-not-clear (badWay way set) (noThreadLive (view (decoded l)) t) mask-rows
+    module _ (b : badWay way set ≡ false) where
+      pub mask-gone : noThreadLive (view (decoded l)) t ≡ true → ESRCH ≡ refusalOn (mask t way set) l
+      unfolding rows isClear
+      mask-gone g = refuses-at (mask t way set) l refl e (einval (badWay way set) ∷ []) (esrch (noThreadLive (view (decoded l)) t)) [] refl (b, tt) g
 
-  pub mask-none : isSound l ≡ true → badWay way set ≡ false → noThreadLive (view (decoded l)) t ≡ false → 0 ≡ refusalOn (mask t way set) l
-  mask-none = refuses-none (mask t way set) l mask-not-clear (badWay way set) (noThreadLive (view (decoded l)) t) mask-rows
+      pub mask-none : noThreadLive (view (decoded l)) t ≡ false → 0 ≡ refusalOn (mask t way set) l
+      unfolding rows isClear
+      mask-none g = refuses-none (mask t way set) l refl e (b, (g, tt))
 
   -- accepted
 
   module _ (e : refusalOn (mask t way set) l ≡ 0) where
     pub mask-sound : isSound l ≡ true
-    mask-sound = accepted-tables-sound (mask t way set) l mask-not-clear e
+    unfolding isClear
+    mask-sound = accepted-tables-sound (mask t way set) l refl e
 
     pub mask-live : liveThread (view (decoded l)) t ≡ true
-    unfolding noThreadLive
-    mask-live =
-        not-false (liveThread (view (decoded l)) t)
-        (accepted-both (mask t way set) l mask-not-clear (badWay way set) (noThreadLive (view (decoded l)) t) mask-rows e .1)
+    unfolding rows noThreadLive
+    mask-live = not-false (liveThread (view (decoded l)) t) (accepted-rows (mask t way set) l e .1 .0)
 
+    -- by the mask that was read
     module _ (old : SigSet) (o : old ≡ threadNamed (l .threads) t .mask) where
       its-mask : old ≡ theThread (view (decoded l)) t .mask
       its-mask = o ∙ ap (λ (x : Thread). x .mask) (thread-named (l .processes) (l .threads) (l .threadBuffer) (l .processBuffer) t)
 
-      pub mask-answered : oldMask old ≡ stepOn (mask t way set) l .1
+      answered : oldMask old ≡ answer (view (decoded l)) (mask t way set)
       unfolding answer
-      mask-answered = answer-after (mask t way set) l e (oldMask old) (ap oldMask its-mask)
+      answered = ap oldMask its-mask
+
+      -- without a set
+      pub mask-kept : set ≡ none → Bytes (l .threadBuffer) → Bytes (l .processBuffer)
+          → (oldMask old ≡ stepOn (mask t way set) l .1) × (l ≡ stepOn (mask t way set) l .0)
+      unfolding changes maskChanges
+      mask-kept n bt bp = same-ends (mask t way set) l e (oldMask old) answered bt bp (ap (maskChanges (view (decoded l)) t way) n)
 
       -- with a set, the new mask as code makes it
       module _ (given m : SigSet) (n : set ≡ some given) (h : m ≡ newMask old way given) where
-        these : setMask t m ∷ [] ≡ maskChanges (view (decoded l)) t way set
+        these : maskChanges (view (decoded l)) t way set ≡ setMask t m ∷ []
         unfolding maskChanges
         these =
-            ap (λ (x : SigSet). setMask t x ∷ []) (h ∙ ap (λ (x : SigSet). newMask x way given) its-mask)
-            ∙ ap (maskChanges (view (decoded l)) t way) (sym n)
+            ap (maskChanges (view (decoded l)) t way) n
+            ∙ ap (λ (x : SigSet). setMask t x ∷ []) (sym (h ∙ ap (λ (x : SigSet). newMask x way given) its-mask))
 
         pub mask-ready : fits (view (decoded l)) (setMask t m) ≡ true
-        mask-ready =
-            first-fits (setMask t m) [] (decoded l)
-            (ap (λ (cs : List Change). fitsAll cs (decoded l)) these ∙ mask-fits (decoded l) t way set mask-live)
+        mask-ready = starts (maskChanges (view (decoded l)) t way set) (decoded l) (mask-fits (decoded l) t way set mask-live) (setMask t m) [] these
 
-        pub mask-stored : (r : Lent) → isSound r ≡ true → Bytes (r .threadBuffer) → Bytes (r .processBuffer)
-            → decoded r ≡ apply (setMask t m) (decoded l) → r ≡ stepOn (mask t way set) l .0
-        unfolding changes soundTables
+        pub mask-stored : (r : Lent) → AsLong l r → Bytes (r .threadBuffer) → Bytes (r .processBuffer) → decoded r ≡ apply (setMask t m) (decoded l)
+            → (oldMask old ≡ stepOn (mask t way set) l .1) × (r ≡ stepOn (mask t way set) l .0)
+        unfolding changes
         mask-stored r k bt bp d =
-            tables-after (mask t way set) l e r (and-fst (longAs r) _ k) bt bp
-            (one-made (setMask t m) (decoded l) (decoded r) d ∙ ap (λ (cs : List Change). applyAll cs (decoded l)) these)
-
-    -- without a set
-    pub mask-kept : set ≡ none → Bytes (l .threadBuffer) → Bytes (l .processBuffer) → l ≡ stepOn (mask t way set) l .0
-    unfolding changes maskChanges
-    mask-kept n bt bp = tables-same (mask t way set) l e bt bp (ap (maskChanges (view (decoded l)) t way) n)
+            accepted-ends (mask t way set) l e (oldMask old) answered r k bt bp
+            (made (maskChanges (view (decoded l)) t way set) (decoded l) (setMask t m ∷ []) these (decoded r) (one-made (setMask t m) (decoded l) (decoded r) d))
 
 -- ---- "Return from a handler is way 2 with the saved mask."
 

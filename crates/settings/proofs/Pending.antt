@@ -1,9 +1,8 @@
 -- How sigpending ends: refused, or with the signals that the thread blocks and that are pending for it. Assumes nothing.
 use Prim.Native.Nat.{ℕ}
-use mathlib.Core.Path.{_≡_, refl, ap, ap₂, _∙_}
-use mathlib.Core.Bool.{Bool, true, false, _&&_}
+use mathlib.Core.Path.{_≡_, refl, sym, ap, ap₂, _∙_}
+use mathlib.Core.Bool.{Bool, true, _&&_}
 use mathlib.Core.List.{List, [], _∷_}
-use borrow.Author.Tests.{not-false}
 use Rattle.sigset.specs.declared.SigSet.{SigSet}
 use Rattle.sigset.specs.Set.{has, setOf, union, intersect}
 use Rattle.sigset.proofs.Laws.{set-cong}
@@ -13,16 +12,15 @@ use Rattle.rules.specs.Store.{view}
 use Rattle.rules.specs.Actions.{blockedPending}
 use Rattle.rules.specs.Refusals.{noThreadLive, rows, isClear, esrch}
 use Rattle.rules.specs.Calls.{answer}
-use Rattle.sound.specs.Lent.{storeOf, soundTables}
+use Rattle.sound.specs.Lent.{storeOf}
 use Rattle.answers.specs.Step.{Lent, decoded, refusalOn, rowsOn, stepOn}
-use Rattle.answers.proofs.Endings.{isSound, answer-after}
-use Rattle.answers.proofs.Ends.{refused-alone, accepted-alone, sound-alone, not-gone}
+use Rattle.answers.proofs.Endings.{rows-given, answer-after}
 use Rattle.view.specs.Named.{threadNamed}
 use Rattle.view.proofs.Live.{thread-named, pending-both}
 
 -- ---- the set
 
-module _ (ps ts tb pb : List ℕ) (e : soundTables ps ts tb pb ≡ true) (t : ℕ) (l : liveThread (view (storeOf ps ts tb pb)) t ≡ true) where
+module _ (ps ts tb pb : List ℕ) (t : ℕ) (l : liveThread (view (storeOf ps ts tb pb)) t ≡ true) where
   pub blocked-read : (p : ℕ) → p ≡ threadNamed ts t .process → (own shared both mask : SigSet)
       → own ≡ setOf (pendingIn (view (storeOf ps ts tb pb)) (targetQueue p t)) → shared ≡ setOf (pendingIn (view (storeOf ps ts tb pb)) (targetQueue p 0))
       → both ≡ union own shared → mask ≡ threadNamed ts t .mask
@@ -34,33 +32,15 @@ module _ (ps ts tb pb : List ℕ) (e : soundTables ps ts tb pb ≡ true) (t : �
       (λ s g.
       ap₂ (λ (x y : Bool). x && y)
       (ap (λ (x : SigSet). has x s) (m ∙ ap (λ (x : Thread). x .mask) (thread-named ps ts tb pb t)))
-      (ap (λ (x : SigSet). has x s) b ∙ pending-both ps ts tb pb e t l p o own shared h k s g))
+      (ap (λ (x : SigSet). has x s) b ∙ pending-both ps ts tb pb t p o l own shared h k s g))
 
 -- ---- the call
 
 module _ (l : Lent) (t n : ℕ) (h : n ≡ rowsOn (esrch (noThreadLive (view (decoded l)) t) ∷ []) l) where
-  pending-rows : rows (view (decoded l)) (pending t) ≡ esrch (noThreadLive (view (decoded l)) t) ∷ []
-  unfolding rows
-  pending-rows = refl
-
-  pending-not-clear : isClear (pending t) ≡ false
-  unfolding isClear
-  pending-not-clear = refl
-
   pub pending-refusal : n ≡ refusalOn (pending t) l
-  pending-refusal = refused-alone (pending t) l pending-not-clear (noThreadLive (view (decoded l)) t) pending-rows n h
+  unfolding rows isClear
+  pending-refusal = h ∙ sym (rows-given (pending t) l refl)
 
-  module _ (z : n ≡ 0) where
-    pub pending-sound : isSound l ≡ true
-    pending-sound = sound-alone (pending t) l pending-not-clear (noThreadLive (view (decoded l)) t) pending-rows n h z
-
-    pub pending-live : liveThread (view (decoded l)) t ≡ true
-    unfolding noThreadLive
-    pending-live =
-        not-false (liveThread (view (decoded l)) t) (not-gone (pending t) l pending-not-clear (noThreadLive (view (decoded l)) t) pending-rows n h z)
-
-    pub pending-answered : (m : SigSet) → m ≡ blockedPending (view (decoded l)) (theThread (view (decoded l)) t) → pendingSet m ≡ stepOn (pending t) l .1
-    unfolding answer
-    pending-answered m b =
-        answer-after (pending t) l (accepted-alone (pending t) l pending-not-clear (noThreadLive (view (decoded l)) t) pending-rows n h z) (pendingSet m)
-        (ap pendingSet b)
+  pub pending-answered : n ≡ 0 → (m : SigSet) → m ≡ blockedPending (view (decoded l)) (theThread (view (decoded l)) t) → pendingSet m ≡ stepOn (pending t) l .1
+  unfolding answer
+  pending-answered z m b = answer-after (pending t) l (sym pending-refusal ∙ z) (pendingSet m) (ap pendingSet b)

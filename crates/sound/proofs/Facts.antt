@@ -7,7 +7,7 @@ use lib.Dec.{eqb}
 use lib.ListN.{length}
 use borrow.Author.Tests.{eqb-true, eq-eqb}
 use Rattle.limits.specs.Limits.{processPlaces, processTable, threadPlaces, threadTable, bufferRecords, bufferBytes, recordLimit}
-use Rattle.lists.specs.Lists.{count, find}
+use Rattle.lists.specs.Lists.{any, count, find}
 use Rattle.lists.proofs.Bools.{and-fst, and-snd, and-both}
 use Rattle.lists.proofs.Finds.{any-inside}
 use Rattle.rules.specs.View.{isProcess, isThread, liveProcess, liveThread, theProcess, theThread}
@@ -42,8 +42,14 @@ module _ (ps ts tb pb : List ℕ) (e : lengthsAre ps ts tb pb ≡ true) where
   pub right-process-buffer : length pb ≡ bufferBytes
   right-process-buffer = eqb-true (length pb) bufferBytes (and-snd (eqb (length tb) bufferBytes) (eqb (length pb) bufferBytes) right-buffers)
 
+-- tables that are as long as those
+pub as-long : (ps ts tb pb ps′ ts′ tb′ pb′ : List ℕ) → length ps′ ≡ length ps → length ts′ ≡ length ts → length tb′ ≡ length tb → length pb′ ≡ length pb
+    → lengthsAre ps ts tb pb ≡ true → lengthsAre ps′ ts′ tb′ pb′ ≡ true
+unfolding lengthsAre
+as-long ps ts tb pb ps′ ts′ tb′ pb′ p t b q e = rw (p, t, b, q) e
+
 module _ (ps ts tb pb : List ℕ) (e : soundTables ps ts tb pb ≡ true) where
-  right-lengths : lengthsAre ps ts tb pb ≡ true
+  pub right-lengths : lengthsAre ps ts tb pb ≡ true
   unfolding soundTables
   right-lengths = and-fst (lengthsAre ps ts tb pb) _ e
 
@@ -92,6 +98,14 @@ module _ (ps ts tb pb : List ℕ) (e : soundTables ps ts tb pb ≡ true) where
 -- ---- a live id is found, and what is found is the one that the rules mean; this asks no soundness
 
 module _ (ps ts tb pb : List ℕ) where
+  pub process-listed : (n : ℕ) → liveProcess (view (storeOf ps ts tb pb)) n ≡ true → any (isProcess n) (heldProcesses ps) ≡ true
+  unfolding liveProcess view storeOf
+  process-listed n l = l
+
+  pub thread-listed : (n : ℕ) → liveThread (view (storeOf ps ts tb pb)) n ≡ true → any (isThread n) (heldThreads ts) ≡ true
+  unfolding liveThread view storeOf
+  thread-listed n l = l
+
   pub process-found : (n : ℕ) → liveProcess (view (storeOf ps ts tb pb)) n ≡ true → find (isProcess n) (heldProcesses ps) < processPlaces
   unfolding liveProcess view storeOf
   process-found n l = any-inside (isProcess n) (heldProcesses ps) processPlaces (length-heldProcesses ps) l

@@ -16,7 +16,7 @@ use Rattle.rules.specs.View.{targetQueue, processQueue, threadQueue, inQueue, i
 use Rattle.rules.specs.Signals.{isSignal}
 use Rattle.rules.specs.Store.{recordsFor, used, markIn, view}
 use Rattle.rules.proofs.Facts.{marks-of-process, marks-of-thread}
-use Rattle.rules.proofs.Marks.{the-thread, thread-is}
+use Rattle.rules.proofs.Marks.{the-thread-id}
 use Rattle.rules.proofs.Signals.{signal-is}
 use Rattle.queue.specs.Queue.{recordsOf, slotsOf, signalsIn}
 use Rattle.tables.specs.Tables.{heldProcesses, heldThreads, processAt, threadAt, headTo, threadTo}
@@ -46,9 +46,7 @@ module _ (ps ts tb pb : List ℕ) (e : soundTables ps ts tb pb ≡ true) where
       → r ≡ getD (threadTo (threadAt ts place)) threadMarks 0 → bits r ≡ setOf (view (storeOf ps ts tb pb) .marks (targetQueue p t))
   unfolding threadTo storeOf
   thread-marks-read p t place r l o f b h =
-      let i : theThread (view (storeOf ps ts tb pb)) t .id ≡ t =
-      ap (λ x. x .id) (the-thread (storeOf ps ts tb pb) t) ∙ thread-is (storeOf ps ts tb pb) t l in
-      let q : threadQueue (theThread (view (storeOf ps ts tb pb)) t) ≡ targetQueue p t = ap₂ targetQueue o i in
+      let q : threadQueue (theThread (view (storeOf ps ts tb pb)) t) ≡ targetQueue p t = ap₂ targetQueue o (the-thread-id (storeOf ps ts tb pb) t l) in
       marked (targetQueue p t) r (threadAt ts (find (isThread t) (heldThreads ts)) .marks) b
       (ap bits h ∙ ap (λ (k : ℕ). threadAt ts k .marks) f)
       (λ s. ap (λ (x : Queue). markIn (storeOf ps ts tb pb) x s) (sym q) ∙ marks-of-thread (storeOf ps ts tb pb) (store-sound ps ts tb pb e) t l s)

@@ -2,7 +2,7 @@
 use native.Mathlib.Omega.{arith}
 use Rattle.siginfo.proofs.Numbers.{bytes-each}
 use Rattle.answers.specs.Step.{lent}
-use Rattle.adding.proofs.Ends.{clear-refused, clear-long, clear-done}
+use Rattle.adding.proofs.Cleared.{clear-refused, clear-long, clear-done}
 use borrow.Author.Needs.{needs}
 use Rattle.adding.proofs.clear.Statement.{statement}
 use Rattle.adding.proofs.clear.Tie as tie

@@ -1,6 +1,7 @@
 -- `remove` meets its contract: the thread goes, or its process with it. Assumes nothing.
 use Rattle.sound.specs.Lent.{storeOf}
-use Rattle.adding.proofs.Ended.{owned, thread-fits, process-fits, thread-removed, process-removed}
+use Rattle.view.proofs.Live.{owner-known}
+use Rattle.adding.proofs.Ended.{thread-fits, process-fits, thread-removed, process-removed}
 use borrow.Author.Needs.{needs}
 use Rattle.adding.proofs.remove.Statement.{statement}
 use Rattle.adding.proofs.remove.Tie as tie
@@ -8,12 +9,12 @@ use Rattle.adding.proofs.remove.Tie as tie
 process-of-requires : tie.Need-process-of-requires
 process-of-requires c κs =
     let a = c .before .before .before .before .before in
-    owned (a .args .ps .now) (a .args .ts .now) (a .args .tb .now) (a .args .pb .now) (a .pre .0) (a .args .thread) (a .pre .1)
+    owner-known (a .args .ps .now) (a .args .ts .now) (a .args .tb .now) (a .args .pb .now) (a .pre .0) (a .args .thread) (a .pre .1)
 
 has-other-requires : tie.Need-has-other-requires
 has-other-requires c κs =
     let a = c .before .before .before .before .before .before .before in
-    owned (a .args .ps .now) (a .args .ts .now) (a .args .tb .now) (a .args .pb .now) (a .pre .0) (a .args .thread) (a .pre .1) .0
+    owner-known (a .args .ps .now) (a .args .ts .now) (a .args .tb .now) (a .args .pb .now) (a .pre .0) (a .args .thread) (a .pre .1) .0
 
 remove-thread-requires : tie.Need-remove-thread-requires
 remove-thread-requires c κs =

@@ -3,10 +3,9 @@ use borrow.Author.Needs.{needs}
 use Rattle.rules.specs.View.{discard}
 use Rattle.rules.specs.Store.{view}
 use Rattle.sound.specs.Lent.{storeOf}
-use Rattle.sound.proofs.Facts.{processes-long, threads-long, thread-buffer-laid, process-buffer-laid}
+use Rattle.sound.proofs.Facts.{processes-long, threads-long, thread-buffer-laid, process-buffer-laid, process-listed}
 use Rattle.effects.proofs.After.{after}
 use Rattle.effects.proofs.Fitted.{discard-live}
-use Rattle.effects.proofs.Places.{process-listed}
 use Rattle.effects.proofs.Queues.{discard-store}
 use Rattle.effects.proofs.discard.Statement.{statement}
 use Rattle.effects.proofs.discard.Tie as tie

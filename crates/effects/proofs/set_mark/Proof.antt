@@ -4,11 +4,11 @@ use borrow.Author.Needs.{needs}
 use borrow.Author.Tests.{ne-eqb}
 use Rattle.rules.specs.View.{targetQueue, setMark}
 use Rattle.rules.specs.Store.{view}
+use Rattle.rules.proofs.Queues.{target-process, target-thread, queue-target}
 use Rattle.sound.specs.Lent.{storeOf}
-use Rattle.sound.proofs.Facts.{processes-long, threads-long}
+use Rattle.sound.proofs.Facts.{processes-long, threads-long, process-listed, thread-listed}
 use Rattle.effects.proofs.After.{after}
-use Rattle.effects.proofs.Fitted.{mark-queue, queue-process, queue-thread}
-use Rattle.effects.proofs.Places.{process-listed, thread-listed}
+use Rattle.effects.proofs.Fitted.{mark-queue}
 use Rattle.effects.proofs.Queues.{set-process, set-thread}
 use Rattle.effects.proofs.set_mark.Statement.{statement}
 use Rattle.effects.proofs.set_mark.Tie as tie
@@ -24,9 +24,9 @@ remark-process-requires c κs =
     let tb = a .args .tb .now in
     let pb = a .args .pb .now in
     let n = a .args .process in
-    let q = targetQueue n (a .args .thread) in
+    let t = a .args .thread in
     let v = view (storeOf ps ts tb pb) in
-    (processes-long ps ts tb pb (a .pre .0), process-listed ps ts tb pb n (queue-process v q (mark-queue v q (a .args .signal) (a .pre .1))))
+    (processes-long ps ts tb pb (a .pre .0), process-listed ps ts tb pb n (target-process v n t (queue-target v n t (mark-queue v (targetQueue n t) (a .args .signal) (a .pre .1)))))
 
 remark-thread-requires : tie.Need-remark-thread-requires
 remark-thread-requires c κs =
@@ -35,11 +35,11 @@ remark-thread-requires c κs =
     let ts = a .args .ts .now in
     let tb = a .args .tb .now in
     let pb = a .args .pb .now in
+    let n = a .args .process in
     let t = a .args .thread in
-    let q = targetQueue (a .args .process) t in
     let v = view (storeOf ps ts tb pb) in (
       threads-long ps ts tb pb (a .pre .0),
-      thread-listed ps ts tb pb t (queue-thread v q (mark-queue v q (a .args .signal) (a .pre .1)) (ne-eqb t 0 (c .before .if1 .left))),
+      thread-listed ps ts tb pb t (target-thread v n t (queue-target v n t (mark-queue v (targetQueue n t) (a .args .signal) (a .pre .1))) (ne-eqb t 0 (c .before .if1 .left))),
     )
 
 same-length : tie.Need-same-length

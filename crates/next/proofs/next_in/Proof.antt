@@ -1,3 +1,4 @@
+-- `next_in` meets its contract. Assumes nothing.
 use borrow.Author.Needs.{needs}
 use Rattle.next.proofs.next_in.Statement.{statement}
 use Rattle.next.proofs.next_in.Tie as tie

@@ -1,3 +1,4 @@
+-- `next_of` meets its contract. Assumes nothing.
 use borrow.Author.Needs.{needs}
 use Rattle.next.proofs.next_of.Statement.{statement}
 use Rattle.next.proofs.next_of.Tie as tie

@@ -1,3 +1,4 @@
+-- `next_signal` meets its contract. Assumes nothing.
 use borrow.Author.Needs.{needs}
 use Rattle.next.proofs.next_signal.Statement.{statement}
 use Rattle.next.proofs.next_signal.Tie as tie

@@ -4,9 +4,9 @@ use borrow.Author.Needs.{needs}
 use Rattle.rules.specs.View.{removeProcess, setMark, append, queueOf}
 use Rattle.rules.specs.Sending.{jobControl, sendChanges}
 use Rattle.sound.specs.Lent.{storeOf}
-use Rattle.effects.proofs.Chain.{none-made, one-made}
+use Rattle.effects.proofs.Chain.{none-made, one-made, made, all-fit, starts, part-fits, last-fits, last-made}
 use Rattle.sending.specs.Fates.{fateOf}
-use Rattle.sending.proofs.Carried.{made, all-fit, starts, part-fits, last-fits, last-made, of-testing, of-killing, of-marking, of-keeping, of-control}
+use Rattle.sending.proofs.Carried.{of-testing, of-killing, of-marking, of-keeping, of-control}
 use Rattle.sending.proofs.carry_out.Statement.{statement}
 use Rattle.sending.proofs.carry_out.Tie as tie
 

@@ -5,8 +5,9 @@ use Rattle.rules.specs.Store.{view}
 use Rattle.rules.specs.Sending.{sendChanges, sendAnswer}
 use Rattle.rules.specs.Calls.{send}
 use Rattle.sound.specs.Lent.{storeOf}
+use Rattle.effects.proofs.Chain.{made, all-fit}
 use Rattle.sending.specs.Fates.{fateOf}
-use Rattle.sending.proofs.Carried.{made, all-fit, of-send}
+use Rattle.sending.proofs.Carried.{of-send}
 use Rattle.sending.proofs.deliver.Statement.{statement}
 use Rattle.sending.proofs.deliver.Tie as tie
 

@@ -5,7 +5,8 @@ use Rattle.rules.specs.View.{liveProcess, liveThread, theThread}
 use Rattle.rules.specs.Store.{view}
 use Rattle.sound.specs.Lent.{storeOf}
 use Rattle.sound.proofs.Facts.{processes-long, threads-long}
-use Rattle.sending.proofs.Targets.{no-process, process-itself, no-thread, whose-thread, owner-fits}
+use Rattle.view.proofs.Live.{owner-known}
+use Rattle.sending.proofs.Targets.{no-process, process-itself, no-thread, whose-thread}
 use Rattle.sending.proofs.is_bad_target.Statement.{statement}
 use Rattle.sending.proofs.is_bad_target.Tie as tie
 
@@ -54,7 +55,7 @@ process-of-requires c κs =
     let tb = a .args .tb .now in
     let pb = a .args .pb .now in
     let l = sym (c .before .is-thread .ensures) ∙ not-false (c .before .is-thread .result) (c .if3 .left) in
-    (threads-long ps ts tb pb (a .pre), (l, owner-fits ps ts tb pb (a .pre) (a .args .thread) l))
+    owner-known ps ts tb pb (a .pre) (a .args .thread) l
 
 returns-4 : tie.Need-returns-4
 unfolding liveProcess liveThread theThread view storeOf

@@ -5,8 +5,8 @@ use borrow.Author.Needs.{needs}
 use Rattle.rules.specs.View.{setStopped, discard}
 use Rattle.rules.specs.Sending.{jobControl}
 use Rattle.sound.specs.Lent.{storeOf}
-use Rattle.effects.proofs.Chain.{none-made, one-made}
-use Rattle.sending.proofs.Carried.{made, starts, last-fits, last-made, lets-run, stops-it, unsettles, leaves}
+use Rattle.effects.proofs.Chain.{none-made, one-made, made, starts, last-fits, last-made}
+use Rattle.sending.proofs.Carried.{lets-run, stops-it, unsettles, leaves}
 use Rattle.sending.proofs.job_control.Statement.{statement}
 use Rattle.sending.proofs.job_control.Tie as tie
 

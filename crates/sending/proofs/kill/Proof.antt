@@ -4,12 +4,13 @@ use mathlib.Core.Bool.{false}
 use borrow.Author.Needs.{needs}
 use native.Mathlib.Omega.{arith}
 use Rattle.lists.proofs.Bools.{clash}
+use Rattle.siginfo.proofs.Numbers.{bytes-each}
 use Rattle.rules.specs.Types as call
 use Rattle.rules.specs.Calls.{changes, answer}
 use Rattle.answers.specs.Answers.{answerOf}
 use Rattle.answers.specs.Step.{lent}
+use Rattle.answers.proofs.Endings.{refused-ends, accepted-ends}
 use Rattle.sending.proofs.Refused.{kill-allowed, deliverable}
-use Rattle.sending.proofs.Ended.{refused-ends, accepted-ends}
 use Rattle.sending.proofs.kill.Statement.{statement}
 use Rattle.sending.proofs.kill.Tie as tie
 
@@ -29,7 +30,6 @@ same-length-4 : tie.Need-same-length-4
 same-length-4 c = search needs
 
 returns : tie.Need-returns
-unfolding answerOf
 returns c =
     let k = c .before .kill-refusal in
     let a = c .before .before .before .before .before .before .before .before .before .before in
@@ -78,9 +78,10 @@ returns-2 c =
     let s = a .args .signal in
     let w = d .deliver in
     let m = lent (w .last .0) (w .last .1 .0) (w .last .1 .1 .0) (w .last .1 .1 .1 .0) in
-    accepted-ends (call.kill by to t s) l (sym (k .ensures) ∙ g .if1 .left) m (search needs) (search needs) (search needs) (search needs)
-    (λ i. omega (arith, c .before .before .slice-known7 .given i)) (λ i. omega (arith, c .slice-known8 .given i))
-    (answerOf (w .result)) (w .ensures .0) (w .ensures .1)
+    accepted-ends (call.kill by to t s) l (sym (k .ensures) ∙ g .if1 .left) (answerOf (w .result)) (w .ensures .0) m
+    (record { processes = search needs; threads = search needs; threadBuffer = search needs; processBuffer = search needs })
+    (bytes-each (m .threadBuffer) (λ i. omega (arith, c .before .before .slice-known7 .given i)))
+    (bytes-each (m .processBuffer) (λ i. omega (arith, c .slice-known8 .given i))) (w .ensures .1)
 
 pub kill-spec : {M : Type 1} → statement M
 kill-spec =

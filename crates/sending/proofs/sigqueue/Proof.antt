@@ -3,12 +3,13 @@ use mathlib.Core.Path.{sym, _∙_}
 use mathlib.Core.Bool.{true}
 use borrow.Author.Needs.{needs}
 use native.Mathlib.Omega.{arith}
+use Rattle.siginfo.proofs.Numbers.{bytes-each}
 use Rattle.rules.specs.Types as call
 use Rattle.rules.specs.Calls.{changes, answer}
 use Rattle.answers.specs.Answers.{answerOf}
 use Rattle.answers.specs.Step.{lent}
+use Rattle.answers.proofs.Endings.{refused-ends, accepted-ends}
 use Rattle.sending.proofs.Refused.{any-value, queue-allowed, queue-room, deliverable}
-use Rattle.sending.proofs.Ended.{refused-ends, accepted-ends}
 use Rattle.sending.proofs.sigqueue.Statement.{statement}
 use Rattle.sending.proofs.sigqueue.Tie as tie
 
@@ -28,7 +29,6 @@ same-length-4 : tie.Need-same-length-4
 same-length-4 c = search needs
 
 returns : tie.Need-returns
-unfolding answerOf
 returns c =
     let k = c .before .queue-refusal in
     let a = c .before .before .before .before .before .before .before .before .before .before in
@@ -82,9 +82,10 @@ returns-2 c =
     let w = d .deliver in
     let m = lent (w .last .0) (w .last .1 .0) (w .last .1 .1 .0) (w .last .1 .1 .1 .0) in
     let e = any-value l by to t s value ∙ sym (k .ensures) ∙ g .if1 .left in
-    accepted-ends (call.queue by to t s value) l e m (search needs) (search needs) (search needs) (search needs)
-    (λ i. omega (arith, c .before .before .slice-known7 .given i)) (λ i. omega (arith, c .slice-known8 .given i))
-    (answerOf (w .result)) (w .ensures .0) (w .ensures .1)
+    accepted-ends (call.queue by to t s value) l e (answerOf (w .result)) (w .ensures .0) m
+    (record { processes = search needs; threads = search needs; threadBuffer = search needs; processBuffer = search needs })
+    (bytes-each (m .threadBuffer) (λ i. omega (arith, c .before .before .slice-known7 .given i)))
+    (bytes-each (m .processBuffer) (λ i. omega (arith, c .slice-known8 .given i))) (w .ensures .1)
 
 pub sigqueue-spec : {M : Type 1} → statement M
 sigqueue-spec =

@@ -1,7 +1,7 @@
 -- `blocked` meets its contract. Assumes nothing.
 use mathlib.Core.Path.{_∙_}
-use Rattle.sound.proofs.Facts.{threads-long}
-use Rattle.view.proofs.Live.{thread-listed, owner-good, own-live, shared-live}
+use Rattle.sound.proofs.Facts.{threads-long, thread-listed}
+use Rattle.view.proofs.Live.{owner-known, own-queue, shared-queue}
 use Rattle.settings.proofs.Pending.{blocked-read}
 use borrow.Author.Needs.{needs}
 use Rattle.settings.proofs.blocked.Statement.{statement}
@@ -14,7 +14,7 @@ process-of-requires c κs =
     let ts = a .args .ts .now in
     let tb = a .args .tb .now in
     let pb = a .args .pb .now in
-    (threads-long ps ts tb pb (a .pre .0), (thread-listed ps ts tb pb (a .args .thread) (a .pre .1), owner-good ps ts tb pb (a .pre .0) (a .args .thread) (a .pre .1)))
+    owner-known ps ts tb pb (a .pre .0) (a .args .thread) (a .pre .1)
 
 pending-of-requires : tie.Need-pending-of-requires
 pending-of-requires c κs =
@@ -23,7 +23,7 @@ pending-of-requires c κs =
     let ts = a .args .ts .now in
     let tb = a .args .tb .now in
     let pb = a .args .pb .now in
-    (a .pre .0, own-live ps ts tb pb (a .pre .0) (a .args .thread) (a .pre .1) (c .process-of .result) (c .process-of .ensures))
+    (a .pre .0, own-queue ps ts tb pb (a .pre .0) (a .args .thread) (a .pre .1) (c .process-of .result) (c .process-of .ensures))
 
 pending-of-requires-2 : tie.Need-pending-of-requires-2
 pending-of-requires-2 c κs =
@@ -32,7 +32,7 @@ pending-of-requires-2 c κs =
     let ts = a .args .ts .now in
     let tb = a .args .tb .now in
     let pb = a .args .pb .now in
-    (a .pre .0, shared-live ps ts tb pb (a .pre .0) (a .args .thread) (a .pre .1) (c .before .process-of .result) (c .before .process-of .ensures))
+    (a .pre .0, shared-queue ps ts tb pb (a .pre .0) (a .args .thread) (a .pre .1) (c .before .process-of .result) (c .before .process-of .ensures))
 
 mask-of-requires : tie.Need-mask-of-requires
 mask-of-requires c κs =
@@ -57,7 +57,7 @@ returns c =
     let tb = a .args .tb .now in
     let pb = a .args .pb .now in
     c .intersect .ensures
-    ∙ blocked-read ps ts tb pb (a .pre .0) (a .args .thread) (a .pre .1) (c .before .before .before .before .before .process-of .result) (c .before .before .before .before .before .process-of .ensures)
+    ∙ blocked-read ps ts tb pb (a .args .thread) (a .pre .1) (c .before .before .before .before .before .process-of .result) (c .before .before .before .before .before .process-of .ensures)
     (c .before .before .before .before .pending-of .result) (c .before .before .before .pending-of2 .result) (c .before .union .result) (c .before .before .mask-of .result)
     (c .before .before .before .before .pending-of .ensures) (c .before .before .before .pending-of2 .ensures) (c .before .union .ensures) (c .before .before .mask-of .ensures)
 

@@ -3,13 +3,12 @@ use mathlib.Core.Path.{sym, ap, _∙_}
 use native.Mathlib.Omega.{arith}
 use Rattle.siginfo.proofs.Numbers.{bytes-each}
 use Rattle.rules.specs.Types.{action}
-use Rattle.sound.proofs.Facts.{processes-long}
+use Rattle.sound.proofs.Facts.{processes-long, process-listed}
 use Rattle.answers.specs.Answers.{answerOf}
 use Rattle.answers.specs.Step.{lent}
-use Rattle.answers.proofs.Ends.{refused-by, refused-kept}
-use Rattle.view.proofs.Live.{process-listed}
+use Rattle.answers.proofs.Endings.{refused-ends}
 use Rattle.settings.specs.Given.{newAction}
-use Rattle.settings.proofs.Actions.{asked-signal, action-accepted, action-answered, action-kept, action-ready, action-stored}
+use Rattle.settings.proofs.Actions.{asked-signal, action-accepted, action-kept, action-ready, action-stored}
 use borrow.Author.Needs.{needs}
 use Rattle.settings.proofs.sigaction.Statement.{statement}
 use Rattle.settings.proofs.sigaction.Tie as tie
@@ -30,7 +29,6 @@ same-length-4 : tie.Need-same-length-4
 same-length-4 c = search needs
 
 returns : tie.Need-returns
-unfolding answerOf
 returns c =
     let a = c .before .before .before .before .before .before .before .before .before .before in
     let ps = a .args .ps .now in
@@ -42,7 +40,7 @@ returns c =
     let new = newAction (a .args .new) in
     let n = c .before .action-refusal .result in
     let e = c .before .action-refusal .ensures in
-    (refused-by (action p s new) (lent ps ts tb pb) n e (c .if1 .taken), refused-kept (action p s new) (lent ps ts tb pb) n e (c .if1 .taken))
+    refused-ends (action p s new) (lent ps ts tb pb) n e (c .if1 .taken)
 
 action-of-requires : tie.Need-action-of-requires
 action-of-requires c κs =
@@ -105,11 +103,9 @@ returns-2 c =
     let p = a .args .process in
     let s = a .args .signal in
     let new = newAction (a .args .new) in
-    let e = sym (c .before .before .before .before .before .action-refusal .ensures) ∙ c .before .before .before .before .if1 .left in (
-      action-answered (lent ps ts tb pb) p s new e (c .before .before .action-of .result) (c .before .before .action-of .ensures),
-      action-kept (lent ps ts tb pb) p s new e (ap newAction (c .enum-told .given .1)) (bytes-each tb (λ i. omega (arith, c .before .before .before .before .before .before .before .before .before .before .before .slice-known3 .given i)))
-          (bytes-each pb (λ i. omega (arith, c .before .before .before .before .before .before .before .before .before .before .slice-known4 .given i))),
-    )
+    let e = sym (c .before .before .before .before .before .action-refusal .ensures) ∙ c .before .before .before .before .if1 .left in
+    action-kept (lent ps ts tb pb) p s new e (c .before .before .action-of .result) (c .before .before .action-of .ensures) (ap newAction (c .enum-told .given .1)) (bytes-each tb (λ i. omega (arith, c .before .before .before .before .before .before .before .before .before .before .before .slice-known3 .given i)))
+    (bytes-each pb (λ i. omega (arith, c .before .before .before .before .before .before .before .before .before .before .slice-known4 .given i)))
 
 same-length-9 : tie.Need-same-length-9
 same-length-9 c = search needs
@@ -139,12 +135,12 @@ returns-3 c =
     let ps′ = w .store-action .last .0 in
     let ts′ = w .store-action .last .1 .0 in
     let tb′ = w .store-action .last .1 .1 .0 in
-    let pb′ = w .store-action .last .1 .1 .1 .0 in (
-      action-answered (lent ps ts tb pb) p s new e (c .before .before .before .before .before .before .before .before .before .before .before .before .before .before .before .before .before .action-of .result) (c .before .before .before .before .before .before .before .before .before .before .before .before .before .before .before .before .before .action-of .ensures),
-      action-stored (lent ps ts tb pb) p s new e (c .before .before .before .before .before .before .before .before .before .before .before .before .before .before .before .new .given .0 .0) (c .before .before .before .before .before .before .before .before .before .stored-of .result) (ap newAction (c .before .before .before .before .before .before .before .before .before .before .before .before .before .before .before .new .given .1)) (c .before .before .before .before .before .before .before .before .before .stored-of .ensures)
-          (lent ps′ ts′ tb′ pb′) (w .store-action .ensures .1) (bytes-each tb′ (λ i. omega (arith, c .before .before .slice-known7 .given i)))
-          (bytes-each pb′ (λ i. omega (arith, c .slice-known8 .given i))) (w .store-action .ensures .0),
-    )
+    let pb′ = w .store-action .last .1 .1 .1 .0 in
+    action-stored (lent ps ts tb pb) p s new e (c .before .before .before .before .before .before .before .before .before .before .before .before .before .before .before .new .given .0 .0) (c .before .before .before .before .before .before .before .before .before .stored-of .result) (ap newAction (c .before .before .before .before .before .before .before .before .before .before .before .before .before .before .before .new .given .1)) (c .before .before .before .before .before .before .before .before .before .stored-of .ensures)
+    (c .before .before .before .before .before .before .before .before .before .before .before .before .before .before .before .before .before .action-of .result) (c .before .before .before .before .before .before .before .before .before .before .before .before .before .before .before .before .before .action-of .ensures) (lent ps′ ts′ tb′ pb′)
+    (record { processes = search needs; threads = search needs; threadBuffer = search needs; processBuffer = search needs })
+    (bytes-each tb′ (λ i. omega (arith, c .before .before .slice-known7 .given i)))
+    (bytes-each pb′ (λ i. omega (arith, c .slice-known8 .given i))) (w .store-action .ensures .0)
 
 pub sigaction-spec : {M : Type 1} → statement M
 sigaction-spec =

@@ -1,15 +1,14 @@
 -- `sigmask` meets its contract: refused, enquired, or changed. Assumes nothing.
-use mathlib.Core.Path.{sym, ap, _∙_}
+use mathlib.Core.Path.{refl, sym, ap, _∙_}
 use native.Mathlib.Omega.{arith}
 use Rattle.siginfo.proofs.Numbers.{bytes-each}
 use Rattle.rules.specs.Types.{mask}
-use Rattle.sound.proofs.Facts.{threads-long}
+use Rattle.sound.proofs.Facts.{threads-long, thread-listed}
 use Rattle.answers.specs.Answers.{answerOf}
 use Rattle.answers.specs.Step.{lent}
-use Rattle.answers.proofs.Ends.{refused-by, refused-kept}
-use Rattle.view.proofs.Live.{thread-listed}
+use Rattle.answers.proofs.Endings.{refused-ends}
 use Rattle.settings.specs.Given.{newSet}
-use Rattle.settings.proofs.Masks.{mask-sound, mask-live, mask-answered, mask-kept, mask-ready, mask-stored}
+use Rattle.settings.proofs.Masks.{mask-sound, mask-live, mask-kept, mask-ready, mask-stored}
 use borrow.Author.Needs.{needs}
 use Rattle.settings.proofs.sigmask.Statement.{statement}
 use Rattle.settings.proofs.sigmask.Tie as tie
@@ -30,7 +29,6 @@ same-length-4 : tie.Need-same-length-4
 same-length-4 c = search needs
 
 returns : tie.Need-returns
-unfolding answerOf
 returns c =
     let a = c .before .before .before .before .before .before .before .before .before .before in
     let ps = a .args .ps .now in
@@ -42,7 +40,7 @@ returns c =
     let set = newSet (a .args .set) in
     let n = c .before .mask-refusal .result in
     let e = c .before .mask-refusal .ensures in
-    (refused-by (mask t way set) (lent ps ts tb pb) n e (c .if1 .taken), refused-kept (mask t way set) (lent ps ts tb pb) n e (c .if1 .taken))
+    refused-ends (mask t way set) (lent ps ts tb pb) n e (c .if1 .taken)
 
 mask-of-requires : tie.Need-mask-of-requires
 mask-of-requires c κs =
@@ -107,11 +105,9 @@ returns-2 c =
     let t = a .args .thread in
     let way = a .args .way in
     let set = newSet (a .args .set) in
-    let e = sym (c .before .before .before .before .before .mask-refusal .ensures) ∙ c .before .before .before .before .if1 .left in (
-      mask-answered (lent ps ts tb pb) t way set e (c .before .before .mask-of .result) (c .before .before .mask-of .ensures),
-      mask-kept (lent ps ts tb pb) t way set e (ap newSet (c .enum-told .given .1)) (bytes-each tb (λ i. omega (arith, c .before .before .before .before .before .before .before .before .before .before .before .slice-known3 .given i)))
-          (bytes-each pb (λ i. omega (arith, c .before .before .before .before .before .before .before .before .before .before .slice-known4 .given i))),
-    )
+    let e = sym (c .before .before .before .before .before .mask-refusal .ensures) ∙ c .before .before .before .before .if1 .left in
+    mask-kept (lent ps ts tb pb) t way set e (c .before .before .mask-of .result) (c .before .before .mask-of .ensures) (ap newSet (c .enum-told .given .1)) (bytes-each tb (λ i. omega (arith, c .before .before .before .before .before .before .before .before .before .before .before .slice-known3 .given i)))
+    (bytes-each pb (λ i. omega (arith, c .before .before .before .before .before .before .before .before .before .before .slice-known4 .given i)))
 
 same-length-9 : tie.Need-same-length-9
 same-length-9 c = search needs
@@ -138,13 +134,12 @@ returns-3 c =
     let t = a .args .thread in
     let way = a .args .way in
     let set = newSet (a .args .set) in
-    let e = sym (c .before .before .before .before .before .before .before .before .before .before .before .before .before .before .mask-refusal .ensures) ∙ c .before .before .before .before .before .before .before .before .before .before .before .before .before .if1 .left in (
-      mask-answered (lent ps ts tb pb) t way set e (o .mask-of .result) (o .mask-of .ensures),
-      mask-stored (lent ps ts tb pb) t way set e (o .mask-of .result) (o .mask-of .ensures) (c .before .before .before .before .before .before .before .before .before .set .given .0 .0) (c .before .before .before .mask-after .result)
-          (ap newSet (c .before .before .before .before .before .before .before .before .before .set .given .1)) (c .before .before .before .mask-after .ensures) (lent ps (w .set-mask .last .1 .0) tb pb) (w .set-mask .ensures .1)
-          (bytes-each tb (λ i. omega (arith, c .before .before .before .before .before .before .before .before .before .before .before .before .before .before .before .before .before .before .before .before .slice-known3 .given i))) (bytes-each pb (λ i. omega (arith, c .before .before .before .before .before .before .before .before .before .before .before .before .before .before .before .before .before .before .before .slice-known4 .given i)))
-          (w .set-mask .ensures .0),
-    )
+    let e = sym (c .before .before .before .before .before .before .before .before .before .before .before .before .before .before .mask-refusal .ensures) ∙ c .before .before .before .before .before .before .before .before .before .before .before .before .before .if1 .left in
+    mask-stored (lent ps ts tb pb) t way set e (o .mask-of .result) (o .mask-of .ensures) (c .before .before .before .before .before .before .before .before .before .set .given .0 .0) (c .before .before .before .mask-after .result)
+    (ap newSet (c .before .before .before .before .before .before .before .before .before .set .given .1)) (c .before .before .before .mask-after .ensures) (lent ps (w .set-mask .last .1 .0) tb pb)
+    (record { processes = refl; threads = search needs; threadBuffer = refl; processBuffer = refl })
+    (bytes-each tb (λ i. omega (arith, c .before .before .before .before .before .before .before .before .before .before .before .before .before .before .before .before .before .before .before .before .slice-known3 .given i))) (bytes-each pb (λ i. omega (arith, c .before .before .before .before .before .before .before .before .before .before .before .before .before .before .before .before .before .before .before .slice-known4 .given i)))
+    (w .set-mask .ensures .0)
 
 pub sigmask-spec : {M : Type 1} → statement M
 sigmask-spec =

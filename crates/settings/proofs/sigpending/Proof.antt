@@ -2,8 +2,9 @@
 use Rattle.rules.specs.Types.{pending}
 use Rattle.answers.specs.Answers.{answerOf}
 use Rattle.answers.specs.Step.{lent}
-use Rattle.answers.proofs.Ends.{refused-by}
-use Rattle.settings.proofs.Pending.{pending-refusal, pending-sound, pending-live, pending-answered}
+use Rattle.answers.proofs.Endings.{refused-ends}
+use Rattle.answers.proofs.Rows.{live-thread}
+use Rattle.settings.proofs.Pending.{pending-refusal, pending-answered}
 use borrow.Author.Needs.{needs}
 use Rattle.settings.proofs.sigpending.Statement.{statement}
 use Rattle.settings.proofs.sigpending.Tie as tie
@@ -12,7 +13,6 @@ thread-refusal-requires : tie.Need-thread-refusal-requires
 thread-refusal-requires c κs = search needs
 
 returns : tie.Need-returns
-unfolding answerOf
 returns c =
     let a = c .before .before .before .before .before .before in
     let ps = a .args .ps .now in
@@ -20,7 +20,7 @@ returns c =
     let tb = a .args .tb .now in
     let pb = a .args .pb .now in
     let n = c .before .thread-refusal .result in
-    refused-by (pending (a .args .thread)) (lent ps ts tb pb) n (pending-refusal (lent ps ts tb pb) (a .args .thread) n (c .before .thread-refusal .ensures)) (c .if1 .taken)
+    refused-ends (pending (a .args .thread)) (lent ps ts tb pb) n (pending-refusal (lent ps ts tb pb) (a .args .thread) n (c .before .thread-refusal .ensures)) (c .if1 .taken) .0
 
 blocked-requires : tie.Need-blocked-requires
 blocked-requires c κs =
@@ -29,11 +29,7 @@ blocked-requires c κs =
     let ts = a .args .ts .now in
     let tb = a .args .tb .now in
     let pb = a .args .pb .now in
-    let n = c .before .thread-refusal .result in
-    let h = c .before .thread-refusal .ensures in (
-      pending-sound (lent ps ts tb pb) (a .args .thread) n h (c .if1 .left),
-      pending-live (lent ps ts tb pb) (a .args .thread) n h (c .if1 .left),
-    )
+    live-thread (lent ps ts tb pb) (a .args .thread) (c .before .thread-refusal .result) (c .before .thread-refusal .ensures) (c .if1 .left)
 
 returns-2 : tie.Need-returns-2
 unfolding answerOf

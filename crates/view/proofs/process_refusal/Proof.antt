@@ -1,35 +1,51 @@
-use borrow.Author.Needs.{needs}
-use Rattle.view.proofs.process_refusal.Statement.{statement}
-use Rattle.view.proofs.process_refusal.Tie as tie
-use mathlib.Core.Path.{sym, ap, _∙_}
-use mathlib.Core.Bool.{not}
+-- `process_refusal` meets its contract: the one row. Assumes nothing.
+use mathlib.Core.Path.{sym, _∙_}
 use mathlib.Core.List.{[], _∷_}
+use borrow.Author.Needs.{needs}
 use borrow.Author.Tests.{not-true, not-false}
-use Rattle.rules.specs.View.{liveProcess}
 use Rattle.rules.specs.Store.{view}
 use Rattle.rules.specs.Refusals.{esrch, noProcessLive}
-use Rattle.sound.specs.Lent.{storeOf}
 use Rattle.sound.proofs.Facts.{processes-long}
-use Rattle.answers.specs.Step.{lent}
-use Rattle.answers.proofs.Endings.{rows-fault, rows-sound, row-on, row-off, rows-done}
+use Rattle.answers.specs.Step.{lent, decoded}
+use Rattle.answers.proofs.Endings.{rows-fault}
+use Rattle.answers.proofs.Rows.{rows-at, rows-none}
+use Rattle.view.proofs.Live.{no-process}
+use Rattle.view.proofs.process_refusal.Statement.{statement}
+use Rattle.view.proofs.process_refusal.Tie as tie
 
 sound-requires : tie.Need-sound-requires
 sound-requires c κs = search needs
 
 returns : tie.Need-returns
-returns c = let a = c .before .before .before .before .before .before in rows-fault ((esrch (noProcessLive (view (storeOf (a .args .ps .now) (a .args .ts .now) (a .args .tb .now) (a .args .pb .now))) (a .args .process))) ∷ []) (lent (a .args .ps .now) (a .args .ts .now) (a .args .tb .now) (a .args .pb .now)) (sym (c .before .sound .ensures) ∙ not-true (c .before .sound .result) (c .if1 .taken))
+returns c =
+    let s = c .before in
+    let a = s .before .before .before .before .before in
+    let l = lent (a .args .ps .now) (a .args .ts .now) (a .args .tb .now) (a .args .pb .now) in
+    rows-fault (esrch (noProcessLive (view (decoded l)) (a .args .process)) ∷ []) l (sym (s .sound .ensures) ∙ not-true (s .sound .result) (c .if1 .taken))
 
 is-process-requires : tie.Need-is-process-requires
-is-process-requires c κs = let a = c .before .before .before .before .before .before in processes-long (a .args .ps .now) (a .args .ts .now) (a .args .tb .now) (a .args .pb .now) (sym (c .before .sound .ensures) ∙ not-false (c .before .sound .result) (c .if1 .left))
+is-process-requires c κs =
+    let s = c .before in
+    let a = s .before .before .before .before .before in
+    processes-long (a .args .ps .now) (a .args .ts .now) (a .args .tb .now) (a .args .pb .now) (sym (s .sound .ensures) ∙ not-false (s .sound .result) (c .if1 .left))
 
 returns-2 : tie.Need-returns-2
-unfolding noProcessLive liveProcess view storeOf
-returns-2 c = let a = c .before .before .before .before .before .before .before .before in rows-sound ((esrch (noProcessLive (view (storeOf (a .args .ps .now) (a .args .ts .now) (a .args .tb .now) (a .args .pb .now))) (a .args .process))) ∷ []) (lent (a .args .ps .now) (a .args .ts .now) (a .args .tb .now) (a .args .pb .now)) (sym (c .before .before .before .sound .ensures) ∙ not-false (c .before .before .before .sound .result) (c .before .before .if1 .left)) _ (row-on (esrch (noProcessLive (view (storeOf (a .args .ps .now) (a .args .ts .now) (a .args .tb .now) (a .args .pb .now))) (a .args .process))) [] (ap not (sym (c .before .is-process .ensures)) ∙ c .if2 .taken))
+returns-2 c =
+    let i = c .before in
+    let s = i .before .before in
+    let a = s .before .before .before .before .before in
+    let l = lent (a .args .ps .now) (a .args .ts .now) (a .args .tb .now) (a .args .pb .now) in
+    rows-at l (sym (s .sound .ensures) ∙ not-false (s .sound .result) (i .before .if1 .left)) [] (esrch (noProcessLive (view (decoded l)) (a .args .process))) [] tt
+    (no-process (l .processes) (l .threads) (l .threadBuffer) (l .processBuffer) (a .args .process) (i .is-process .result) (i .is-process .ensures) ∙ c .if2 .taken)
 
 returns-3 : tie.Need-returns-3
-unfolding noProcessLive liveProcess view storeOf
-returns-3 c = let a = c .before .before .before .before .before .before .before .before in rows-sound ((esrch (noProcessLive (view (storeOf (a .args .ps .now) (a .args .ts .now) (a .args .tb .now) (a .args .pb .now))) (a .args .process))) ∷ []) (lent (a .args .ps .now) (a .args .ts .now) (a .args .tb .now) (a .args .pb .now)) (sym (c .before .before .before .sound .ensures) ∙ not-false (c .before .before .before .sound .result) (c .before .before .if1 .left)) _ (row-off (esrch (noProcessLive (view (storeOf (a .args .ps .now) (a .args .ts .now) (a .args .tb .now) (a .args .pb .now))) (a .args .process))) [] 0 (ap not (sym (c .before .is-process .ensures) ∙ not-false (c .before .is-process .result) (c .if2 .left))) rows-done)
+returns-3 c =
+    let i = c .before in
+    let s = i .before .before in
+    let a = s .before .before .before .before .before in
+    let l = lent (a .args .ps .now) (a .args .ts .now) (a .args .tb .now) (a .args .pb .now) in
+    rows-none l (sym (s .sound .ensures) ∙ not-false (s .sound .result) (i .before .if1 .left)) (esrch (noProcessLive (view (decoded l)) (a .args .process)) ∷ [])
+    (no-process (l .processes) (l .threads) (l .threadBuffer) (l .processBuffer) (a .args .process) (i .is-process .result) (i .is-process .ensures) ∙ c .if2 .left, tt)
 
 pub process-refusal-spec : {M : Type 1} → statement M
-process-refusal-spec =
-    tie.close (tie.spec sound-requires returns is-process-requires returns-2 returns-3)
+process-refusal-spec = tie.close (tie.spec sound-requires returns is-process-requires returns-2 returns-3)

@@ -1,35 +1,51 @@
-use borrow.Author.Needs.{needs}
-use Rattle.view.proofs.thread_refusal.Statement.{statement}
-use Rattle.view.proofs.thread_refusal.Tie as tie
-use mathlib.Core.Path.{sym, ap, _∙_}
-use mathlib.Core.Bool.{not}
+-- `thread_refusal` meets its contract: the one row. Assumes nothing.
+use mathlib.Core.Path.{sym, _∙_}
 use mathlib.Core.List.{[], _∷_}
+use borrow.Author.Needs.{needs}
 use borrow.Author.Tests.{not-true, not-false}
-use Rattle.rules.specs.View.{liveThread}
 use Rattle.rules.specs.Store.{view}
 use Rattle.rules.specs.Refusals.{esrch, noThreadLive}
-use Rattle.sound.specs.Lent.{storeOf}
 use Rattle.sound.proofs.Facts.{threads-long}
-use Rattle.answers.specs.Step.{lent}
-use Rattle.answers.proofs.Endings.{rows-fault, rows-sound, row-on, row-off, rows-done}
+use Rattle.answers.specs.Step.{lent, decoded}
+use Rattle.answers.proofs.Endings.{rows-fault}
+use Rattle.answers.proofs.Rows.{rows-at, rows-none}
+use Rattle.view.proofs.Live.{no-thread}
+use Rattle.view.proofs.thread_refusal.Statement.{statement}
+use Rattle.view.proofs.thread_refusal.Tie as tie
 
 sound-requires : tie.Need-sound-requires
 sound-requires c κs = search needs
 
 returns : tie.Need-returns
-returns c = let a = c .before .before .before .before .before .before in rows-fault ((esrch (noThreadLive (view (storeOf (a .args .ps .now) (a .args .ts .now) (a .args .tb .now) (a .args .pb .now))) (a .args .thread))) ∷ []) (lent (a .args .ps .now) (a .args .ts .now) (a .args .tb .now) (a .args .pb .now)) (sym (c .before .sound .ensures) ∙ not-true (c .before .sound .result) (c .if1 .taken))
+returns c =
+    let s = c .before in
+    let a = s .before .before .before .before .before in
+    let l = lent (a .args .ps .now) (a .args .ts .now) (a .args .tb .now) (a .args .pb .now) in
+    rows-fault (esrch (noThreadLive (view (decoded l)) (a .args .thread)) ∷ []) l (sym (s .sound .ensures) ∙ not-true (s .sound .result) (c .if1 .taken))
 
 is-thread-requires : tie.Need-is-thread-requires
-is-thread-requires c κs = let a = c .before .before .before .before .before .before in threads-long (a .args .ps .now) (a .args .ts .now) (a .args .tb .now) (a .args .pb .now) (sym (c .before .sound .ensures) ∙ not-false (c .before .sound .result) (c .if1 .left))
+is-thread-requires c κs =
+    let s = c .before in
+    let a = s .before .before .before .before .before in
+    threads-long (a .args .ps .now) (a .args .ts .now) (a .args .tb .now) (a .args .pb .now) (sym (s .sound .ensures) ∙ not-false (s .sound .result) (c .if1 .left))
 
 returns-2 : tie.Need-returns-2
-unfolding noThreadLive liveThread view storeOf
-returns-2 c = let a = c .before .before .before .before .before .before .before .before in rows-sound ((esrch (noThreadLive (view (storeOf (a .args .ps .now) (a .args .ts .now) (a .args .tb .now) (a .args .pb .now))) (a .args .thread))) ∷ []) (lent (a .args .ps .now) (a .args .ts .now) (a .args .tb .now) (a .args .pb .now)) (sym (c .before .before .before .sound .ensures) ∙ not-false (c .before .before .before .sound .result) (c .before .before .if1 .left)) _ (row-on (esrch (noThreadLive (view (storeOf (a .args .ps .now) (a .args .ts .now) (a .args .tb .now) (a .args .pb .now))) (a .args .thread))) [] (ap not (sym (c .before .is-thread .ensures)) ∙ c .if2 .taken))
+returns-2 c =
+    let i = c .before in
+    let s = i .before .before in
+    let a = s .before .before .before .before .before in
+    let l = lent (a .args .ps .now) (a .args .ts .now) (a .args .tb .now) (a .args .pb .now) in
+    rows-at l (sym (s .sound .ensures) ∙ not-false (s .sound .result) (i .before .if1 .left)) [] (esrch (noThreadLive (view (decoded l)) (a .args .thread))) [] tt
+    (no-thread (l .processes) (l .threads) (l .threadBuffer) (l .processBuffer) (a .args .thread) (i .is-thread .result) (i .is-thread .ensures) ∙ c .if2 .taken)
 
 returns-3 : tie.Need-returns-3
-unfolding noThreadLive liveThread view storeOf
-returns-3 c = let a = c .before .before .before .before .before .before .before .before in rows-sound ((esrch (noThreadLive (view (storeOf (a .args .ps .now) (a .args .ts .now) (a .args .tb .now) (a .args .pb .now))) (a .args .thread))) ∷ []) (lent (a .args .ps .now) (a .args .ts .now) (a .args .tb .now) (a .args .pb .now)) (sym (c .before .before .before .sound .ensures) ∙ not-false (c .before .before .before .sound .result) (c .before .before .if1 .left)) _ (row-off (esrch (noThreadLive (view (storeOf (a .args .ps .now) (a .args .ts .now) (a .args .tb .now) (a .args .pb .now))) (a .args .thread))) [] 0 (ap not (sym (c .before .is-thread .ensures) ∙ not-false (c .before .is-thread .result) (c .if2 .left))) rows-done)
+returns-3 c =
+    let i = c .before in
+    let s = i .before .before in
+    let a = s .before .before .before .before .before in
+    let l = lent (a .args .ps .now) (a .args .ts .now) (a .args .tb .now) (a .args .pb .now) in
+    rows-none l (sym (s .sound .ensures) ∙ not-false (s .sound .result) (i .before .if1 .left)) (esrch (noThreadLive (view (decoded l)) (a .args .thread)) ∷ [])
+    (no-thread (l .processes) (l .threads) (l .threadBuffer) (l .processBuffer) (a .args .thread) (i .is-thread .result) (i .is-thread .ensures) ∙ c .if2 .left, tt)
 
 pub thread-refusal-spec : {M : Type 1} → statement M
-thread-refusal-spec =
-    tie.close (tie.spec sound-requires returns is-thread-requires returns-2 returns-3)
+thread-refusal-spec = tie.close (tie.spec sound-requires returns is-thread-requires returns-2 returns-3)

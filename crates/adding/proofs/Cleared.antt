@@ -1,0 +1,38 @@
+-- How clearing ends: refused by the lengths, or done. Assumes nothing.
+use Prim.Native.Nat.{ℕ}
+use mathlib.Core.Path.{_≡_, refl, sym, ap, _∙_}
+use mathlib.Core.Bool.{Bool, true, false, not, cond}
+use lib.Dec.{eqb}
+use borrow.Author.Tests.{not-true, not-false}
+use Rattle.limits.specs.Limits.{EFAULT}
+use Rattle.lists.proofs.Bools.{clash}
+use Rattle.siginfo.specs.Bytes.{Bytes}
+use Rattle.rules.specs.Types.{clear}
+use Rattle.rules.specs.View.{forget}
+use Rattle.rules.specs.Store.{apply, applyAll}
+use Rattle.rules.specs.Refusals.{refusal, rows, isClear, fault, table, refusalOf}
+use Rattle.rules.specs.Calls.{changes, answer}
+use Rattle.answers.specs.declared.Answer.the-variants.{Refused, Done}
+use Rattle.answers.specs.Answers.{answerOf}
+use Rattle.answers.specs.Step.{Lent, decoded, refusalOn, stepOn}
+use Rattle.answers.proofs.Endings.{longAs, AsLong, places-right, refused-ends, accepted-ends}
+
+-- "clearing checks lengths only"
+clear-refusal : (l : Lent) → cond (longAs l) 0 EFAULT ≡ refusalOn clear l
+unfolding refusalOn refusalOf table refusal fault rows isClear
+clear-refusal l = rw (places-right l)
+
+module _ (l : Lent) (b : Bool) (e : b ≡ longAs l) where
+  pub clear-refused : not b ≡ true → (answerOf (Refused EFAULT) ≡ stepOn clear l .1) × (l ≡ stepOn clear l .0)
+  clear-refused f =
+      refused-ends clear l EFAULT (sym (ap (λ (x : Bool). cond x 0 EFAULT) (sym e ∙ not-true b f)) ∙ clear-refusal l)
+      (λ z. clash (ap (λ (n : ℕ). eqb n 0) z) refl)
+
+  pub clear-long : not b ≡ false → longAs l ≡ true
+  clear-long f = sym e ∙ not-false b f
+
+  pub clear-done : not b ≡ false → (m : Lent) → AsLong l m → Bytes (m .threadBuffer) → Bytes (m .processBuffer) → decoded m ≡ apply forget (decoded l)
+      → (answerOf Done ≡ stepOn clear l .1) × (m ≡ stepOn clear l .0)
+  unfolding answerOf answer changes applyAll
+  clear-done f m s bt bp h =
+      accepted-ends clear l (sym (clear-refusal l) ∙ ap (λ (x : Bool). cond x 0 EFAULT) (clear-long f)) (answerOf Done) refl m s bt bp h

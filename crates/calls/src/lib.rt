@@ -1,0 +1,73 @@
+// Every call by its value: what a host hands in, and what the layer answers.
+ghost use mathlib.Core.Path.{_≡_};
+ghost use Rattle.answers.specs.Answers.{answerOf};
+ghost use Rattle.answers.specs.Step.{lent, stepOn};
+ghost use Rattle.calls.specs.Calls.{callOf};
+use answers::Answer;
+use settings::GivenAction;
+use settings::GivenSet;
+use sigset::SigSet;
+
+// A call with its arguments in the documented order.
+pub enum Call {
+    Clear,
+    // id, real, effective, saved, session, thread, mask
+    AddProcess(u32, u32, u32, u32, u32, u32, SigSet),
+    // creator, id
+    AddThread(u32, u32),
+    EndProcess(u32),
+    EndThread(u32),
+    // by, to, thread, signal
+    Kill(u32, u32, u32, u32),
+    // by, to, thread, signal, value
+    Queue(u32, u32, u32, u32, u64),
+    // process, signal, new action
+    Action(u32, u32, GivenAction),
+    // thread, way, set
+    Mask(u32, u32, GivenSet),
+    Pending(u32),
+    Look(u32),
+    Who(u32),
+    Take(u32),
+    // thread, saved mask
+    Return(u32, SigSet),
+}
+
+// One call on the lent tables. Any tables and any arguments are answered; a refused call leaves every table exactly as it was.
+pub fn step(ps: &mut [u64], ts: &mut [u64], tb: &mut [u8], pb: &mut [u8], c: Call) -> Answer
+    ensures answer { λ r. ⌜ answerOf r ≡ stepOn (callOf c) (lent (now (ps .entry)) (now (ts .entry)) (now (tb .entry)) (now (pb .entry))) .1 ⌝ }
+    ensures tables { λ r. ⌜ lent (now (ps .exit)) (now (ts .exit)) (now (tb .exit)) (now (pb .exit)) ≡ stepOn (callOf c) (lent (now (ps .entry)) (now (ts .entry)) (now (tb .entry)) (now (pb .entry))) .0 ⌝ }
+{
+    match c {
+        Call::Clear => adding::clear(ps, ts, tb, pb),
+        Call::AddProcess(id, real, effective, saved, session, thread, mask) => {
+            adding::add_process(
+                ps,
+                ts,
+                tb,
+                pb,
+                id,
+                real,
+                effective,
+                saved,
+                session,
+                thread,
+                mask,
+            )
+        }
+        Call::AddThread(creator, id) => adding::add_thread(ps, ts, tb, pb, creator, id),
+        Call::EndProcess(id) => adding::end_process(ps, ts, tb, pb, id),
+        Call::EndThread(id) => adding::end_thread(ps, ts, tb, pb, id),
+        Call::Kill(by, to, thread, s) => sending::kill(ps, ts, tb, pb, by, to, thread, s),
+        Call::Queue(by, to, thread, s, value) => {
+            sending::sigqueue(ps, ts, tb, pb, by, to, thread, s, value)
+        }
+        Call::Action(process, s, new) => settings::sigaction(ps, ts, tb, pb, process, s, new),
+        Call::Mask(thread, way, set) => settings::sigmask(ps, ts, tb, pb, thread, way, set),
+        Call::Pending(thread) => settings::sigpending(ps, ts, tb, pb, thread),
+        Call::Look(thread) => looking::looked(ps, ts, tb, pb, thread),
+        Call::Who(process) => looking::who(ps, ts, tb, pb, process),
+        Call::Take(thread) => taking::take(ps, ts, tb, pb, thread),
+        Call::Return(thread, saved) => settings::sigreturn(ps, ts, tb, pb, thread, saved),
+    }
+}

@@ -1,0 +1,30 @@
+-- `looked` meets its contract. Assumes nothing.
+use borrow.Author.Needs.{needs}
+use Rattle.looking.proofs.Looks.{look-refused, look-sound, look-live, look-answered}
+use Rattle.looking.proofs.looked.Statement.{statement}
+use Rattle.looking.proofs.looked.Tie as tie
+
+thread-refusal-requires : tie.Need-thread-refusal-requires
+thread-refusal-requires c κs = search needs
+
+returns : tie.Need-returns
+returns c =
+    let a = c .before .before .before .before .before .before in
+    look-refused (a .args .ps .now) (a .args .ts .now) (a .args .tb .now) (a .args .pb .now) (a .args .thread) (c .before .thread-refusal .result) (c .before .thread-refusal .ensures) (c .if1 .taken)
+
+next-of-requires : tie.Need-next-of-requires
+next-of-requires c κs =
+    let a = c .before .before .before .before .before .before in (
+      look-sound (a .args .ps .now) (a .args .ts .now) (a .args .tb .now) (a .args .pb .now) (a .args .thread) (c .before .thread-refusal .result) (c .before .thread-refusal .ensures) (c .if1 .left),
+      look-live (a .args .ps .now) (a .args .ts .now) (a .args .tb .now) (a .args .pb .now) (a .args .thread) (c .before .thread-refusal .result) (c .before .thread-refusal .ensures) (c .if1 .left),
+    )
+
+returns-2 : tie.Need-returns-2
+returns-2 c =
+    let d = c .before .before in
+    let a = d .before .before .before .before .before in
+    look-answered (a .args .ps .now) (a .args .ts .now) (a .args .tb .now) (a .args .pb .now) (a .args .thread) (d .thread-refusal .result) (d .thread-refusal .ensures) (c .before .if1 .left)
+    (c .next-of .result) (c .next-of .ensures)
+
+pub looked-spec : {M : Type 1} → statement M
+looked-spec = tie.close (tie.spec thread-refusal-requires returns next-of-requires returns-2)

@@ -1,0 +1,79 @@
+-- The take as a call: refused, with nothing to take, or taken. Assumes nothing.
+use Prim.Native.Nat.{ℕ, _<_}
+use mathlib.Core.Path.{_≡_, refl, sym, ap, _∙_}
+use mathlib.Core.Bool.{true, false}
+use mathlib.Core.Logic.{_⊎_, inl, inr}
+use mathlib.Core.List.{[], _∷_}
+use lib.Dec.{eqb}
+use lib.ListN.{length, getD}
+use borrow.Author.Tests.{not-false}
+use denote.Enum.Declared.{tagOf}
+use Rattle.lists.proofs.Bools.{clash}
+use Rattle.rules.specs.Types.{Thread, Answer, take}
+use Rattle.rules.specs.View.{View, liveThread, theThread}
+use Rattle.rules.specs.Store.{view, applyAll}
+use Rattle.rules.specs.Taking.{next, takeChanges, takeAnswer}
+use Rattle.rules.specs.Refusals.{esrch, noThreadLive, rows, isClear}
+use Rattle.rules.specs.Calls.{changes, answer}
+use Rattle.answers.specs.declared.Next as declared
+use Rattle.answers.specs.declared.Next.the-variants as cases
+use Rattle.answers.specs.declared.Answer.the-variants.{Refused, Nothing}
+use Rattle.answers.specs.Answers.{nextOf, answerOf}
+use Rattle.answers.specs.Step.{Lent, decoded, refusalOn, rowsOn, stepOn}
+use Rattle.siginfo.proofs.Numbers.{bytes-each}
+use Rattle.answers.proofs.Endings.{isSound, rows-given, accepted-tables-sound, accepted-rows, refused-ends, accepted-ends}
+use Rattle.answers.proofs.Next.{the-type}
+use Rattle.taking.specs.Takes.{isNothing}
+
+-- the other two cases
+pub something : (x : declared.Next) → (tagOf the-type x ≡ 1) ⊎ (tagOf the-type x ≡ 2) → isNothing (nextOf x) ≡ false
+unfolding isNothing nextOf
+something cases.Nothing (inl e) = clash refl (ap (λ (k : ℕ). eqb k 0) e)
+something cases.Nothing (inr e) = clash refl (ap (λ (k : ℕ). eqb k 0) e)
+something (cases.Mark process thread s) e = refl
+something (cases.Record r) e = refl
+
+module _ (l : Lent) (t n : ℕ) (r : n ≡ rowsOn (esrch (noThreadLive (view (decoded l)) t) ∷ []) l) where
+  abbrev v : View
+  v = view (decoded l)
+
+  abbrev it : Thread
+  it = theThread v t
+
+  refusal-is : n ≡ refusalOn (take t) l
+  unfolding rows isClear
+  refusal-is = r ∙ sym (rows-given (take t) l refl)
+
+  pub take-refused : (n ≡ 0 → ⊥) → (answerOf (Refused n) ≡ stepOn (take t) l .1) × (l ≡ stepOn (take t) l .0)
+  unfolding answerOf
+  take-refused z = refused-ends (take t) l n refusal-is z
+
+  module _ (z : n ≡ 0) where
+    accepted : refusalOn (take t) l ≡ 0
+    accepted = sym refusal-is ∙ z
+
+    pub taker-sound : isSound l ≡ true
+    unfolding isClear
+    taker-sound = accepted-tables-sound (take t) l refl accepted
+
+    pub taker-live : liveThread v t ≡ true
+    unfolding rows noThreadLive
+    taker-live = not-false (liveThread v t) (accepted-rows (take t) l accepted .0)
+
+    module _ (x : declared.Next) (k : nextOf x ≡ next v it) where
+      pub take-made : (m : Lent) → length (m .processes) ≡ length (l .processes) → length (m .threads) ≡ length (l .threads)
+          → length (m .threadBuffer) ≡ length (l .threadBuffer) → length (m .processBuffer) ≡ length (l .processBuffer)
+          → ((i : ℕ) → getD (m .threadBuffer) i 0 < 256) → ((i : ℕ) → getD (m .processBuffer) i 0 < 256)
+          → (a : Answer) → a ≡ takeAnswer v it (nextOf x) → decoded m ≡ applyAll (takeChanges v it (nextOf x)) (decoded l)
+          → (a ≡ stepOn (take t) l .1) × (m ≡ stepOn (take t) l .0)
+      unfolding changes answer
+      take-made m p q b c bt bp a h d =
+          accepted-ends (take t) l accepted a (h ∙ ap (takeAnswer v it) k) m (record { processes = p; threads = q; threadBuffer = b; processBuffer = c })
+          (bytes-each (m .threadBuffer) bt) (bytes-each (m .processBuffer) bp) (d ∙ ap (λ y. applyAll (takeChanges v it y) (decoded l)) k)
+
+      pub take-nothing : x ≡ cases.Nothing → ((i : ℕ) → getD (l .threadBuffer) i 0 < 256) → ((i : ℕ) → getD (l .processBuffer) i 0 < 256)
+          → (answerOf Nothing ≡ stepOn (take t) l .1) × (l ≡ stepOn (take t) l .0)
+      unfolding answerOf nextOf takeAnswer takeChanges applyAll
+      take-nothing e bt bp =
+          take-made l refl refl refl refl bt bp (answerOf Nothing)
+          (ap (λ y. takeAnswer v it (nextOf y)) (sym e)) (ap (λ y. applyAll (takeChanges v it (nextOf y)) (decoded l)) (sym e))

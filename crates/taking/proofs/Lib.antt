@@ -1,0 +1,5 @@
+mod Changes
+mod Handlers
+mod Outcomes
+mod Taken
+mod Call

@@ -1,0 +1,117 @@
+-- `deliver_to` meets its contract: by default, or by a handler. Assumes nothing.
+use borrow.Author.Needs.{needs}
+use borrow.Author.Tests.{eq-eqb, ne-eqb}
+use Rattle.limits.specs.Limits.{sigDfl}
+use Rattle.rules.specs.Taking.{deliver, outcomeChanges}
+use Rattle.sound.specs.Lent.{storeOf}
+use Rattle.effects.specs.Effects.{threadOf}
+use Rattle.taking.proofs.Changes.{fits-as, made-as}
+use Rattle.taking.proofs.Outcomes.{by-default, by-handler}
+use Rattle.taking.specs.Takes.{handlerChanges, outcomeOf}
+use Rattle.taking.proofs.deliver_to.Statement.{statement}
+use Rattle.taking.proofs.deliver_to.Tie as tie
+
+outcome-of-requires : tie.Need-outcome-of-requires
+outcome-of-requires c κs = search needs
+
+suffer-requires : tie.Need-suffer-requires
+suffer-requires c κs =
+    let a = c .before .before .before .before .before .before .before .before .before .before .before in
+    let ps = a .args .ps .now in
+    let ts = a .args .ts .now in
+    let tb = a .args .tb .now in
+    let pb = a .args .pb .now in
+    let st = storeOf ps ts tb pb in
+    let t = threadOf (a .args .thread) (a .args .process) (a .args .mask) in
+    let s = a .args .signal in
+    let cs = deliver t (a .args .a) s in
+    let o = c .outcome-of in
+    let e = by-default t (a .args .a) s (eq-eqb (a .args .a .handler) sigDfl (c .before .before .before .before .before .if1 .taken)) (outcomeOf (o .result)) (o .ensures) in
+    (a .pre .0, fits-as cs st (outcomeChanges (outcomeOf (o .result)) (a .args .process)) e (a .pre .1))
+
+handle-requires : tie.Need-handle-requires
+handle-requires c κs =
+    let a = c .before .before .before .before .before .before .before .before .before .before in
+    let ps = a .args .ps .now in
+    let ts = a .args .ts .now in
+    let tb = a .args .tb .now in
+    let pb = a .args .pb .now in
+    let st = storeOf ps ts tb pb in
+    let t = threadOf (a .args .thread) (a .args .process) (a .args .mask) in
+    let s = a .args .signal in
+    let cs = deliver t (a .args .a) s in
+    let e = by-handler t (a .args .a) s (ne-eqb (a .args .a .handler) sigDfl (c .before .before .before .before .if1 .left)) in
+    (a .pre .0, fits-as cs st (handlerChanges t (a .args .a) s) e (a .pre .1))
+
+same-length : tie.Need-same-length
+same-length c = search needs
+
+same-length-2 : tie.Need-same-length-2
+same-length-2 c = search needs
+
+same-length-3 : tie.Need-same-length-3
+same-length-3 c = search needs
+
+same-length-4 : tie.Need-same-length-4
+same-length-4 c = search needs
+
+returns : tie.Need-returns
+returns c =
+    let a = c .before .before .before .before .before .before .before .before .before .before .before .before .before .before .before .before .before .before .before .before in
+    let ps = a .args .ps .now in
+    let ts = a .args .ts .now in
+    let tb = a .args .tb .now in
+    let pb = a .args .pb .now in
+    let st = storeOf ps ts tb pb in
+    let t = threadOf (a .args .thread) (a .args .process) (a .args .mask) in
+    let s = a .args .signal in
+    let cs = deliver t (a .args .a) s in
+    let o = c .before .before .before .before .before .before .before .before .before .outcome-of in
+    let e = by-default t (a .args .a) s (eq-eqb (a .args .a .handler) sigDfl (c .before .before .before .before .before .before .before .before .before .before .before .before .before .before .if1 .taken)) (outcomeOf (o .result)) (o .ensures) in
+    let w = c .before .before .before .before .before .before .before .before .suffer in
+    (made-as cs st (outcomeChanges (outcomeOf (o .result)) (a .args .process)) e (storeOf (w .last .0) (w .last .1 .0) (w .last .1 .1 .0) (w .last .1 .1 .1 .0)) (w .ensures .0), w .ensures .1)
+
+same-length-5 : tie.Need-same-length-5
+same-length-5 c = search needs
+
+same-length-6 : tie.Need-same-length-6
+same-length-6 c = search needs
+
+same-length-7 : tie.Need-same-length-7
+same-length-7 c = search needs
+
+same-length-8 : tie.Need-same-length-8
+same-length-8 c = search needs
+
+returns-2 : tie.Need-returns-2
+returns-2 c =
+    let a = c .before .before .before .before .before .before .before .before .before .before .before .before .before .before .before .before .before .before .before in
+    let ps = a .args .ps .now in
+    let ts = a .args .ts .now in
+    let tb = a .args .tb .now in
+    let pb = a .args .pb .now in
+    let st = storeOf ps ts tb pb in
+    let t = threadOf (a .args .thread) (a .args .process) (a .args .mask) in
+    let s = a .args .signal in
+    let cs = deliver t (a .args .a) s in
+    let e = by-handler t (a .args .a) s (ne-eqb (a .args .a .handler) sigDfl (c .before .before .before .before .before .before .before .before .before .before .before .before .before .if1 .left)) in
+    let w = c .before .before .before .before .before .before .before .before .handle in
+    (made-as cs st (handlerChanges t (a .args .a) s) e (storeOf (w .last .0) (w .last .1 .0) (w .last .1 .1 .0) (w .last .1 .1 .1 .0)) (w .ensures .0), w .ensures .1)
+
+pub deliver-to-spec : {M : Type 1} → statement M
+deliver-to-spec =
+    tie.close
+    (tie.spec
+    outcome-of-requires
+    suffer-requires
+    handle-requires
+    same-length
+    same-length-2
+    same-length-3
+    same-length-4
+    returns
+    same-length-5
+    same-length-6
+    same-length-7
+    same-length-8
+    returns-2)

@@ -1,0 +1,155 @@
+-- `suffer` meets its contract, a case for each outcome. Assumes nothing.
+use mathlib.Core.Path.{ap}
+use borrow.Author.Needs.{needs}
+use Rattle.rules.specs.Taking.{outcomeChanges}
+use Rattle.rules.specs.View.{removeProcess, setStopped}
+use Rattle.sound.specs.Lent.{storeOf}
+use Rattle.taking.proofs.Changes.{fits-one, made-none, made-one}
+use Rattle.taking.specs.Takes.{outcomeOf}
+use Rattle.taking.proofs.suffer.Statement.{statement}
+use Rattle.taking.proofs.suffer.Tie as tie
+
+enum-told : tie.Need-enum-told
+enum-told c = search needs
+
+enum-told-2 : tie.Need-enum-told-2
+enum-told-2 c = search needs
+
+set-stopped-requires : tie.Need-set-stopped-requires
+unfolding outcomeOf outcomeChanges
+set-stopped-requires c κs =
+    let a = c .before .before .before .before .before .before .before .before .before .before in
+    let ps = a .args .ps .now in
+    let ts = a .args .ts .now in
+    let tb = a .args .tb .now in
+    let pb = a .args .pb .now in
+    let st = storeOf ps ts tb pb in
+    let p = a .args .process in
+    let cs = outcomeChanges (outcomeOf (a .args .o)) p in
+    let e = ap (λ o. outcomeChanges (outcomeOf o) p) (c .before .before .before .before .enum-told2 .given .1) in
+    (a .pre .0, fits-one cs st (setStopped p 1) e (a .pre .1))
+
+enum-told-3 : tie.Need-enum-told-3
+enum-told-3 c = search needs
+
+enum-told-4 : tie.Need-enum-told-4
+enum-told-4 c = search needs
+
+remove-process-requires : tie.Need-remove-process-requires
+unfolding outcomeOf outcomeChanges
+remove-process-requires c κs =
+    let a = c .before .before .before .before .before .before .before .before .before .before in
+    let ps = a .args .ps .now in
+    let ts = a .args .ts .now in
+    let tb = a .args .tb .now in
+    let pb = a .args .pb .now in
+    let st = storeOf ps ts tb pb in
+    let p = a .args .process in
+    let cs = outcomeChanges (outcomeOf (a .args .o)) p in
+    let e = ap (λ o. outcomeChanges (outcomeOf o) p) (c .before .before .before .before .enum-told4 .given .1) in
+    (a .pre .0, fits-one cs st (removeProcess p) e (a .pre .1))
+
+returns : tie.Need-returns
+unfolding outcomeOf outcomeChanges
+returns c =
+    let a = c .before .before .before .before .before .before in
+    let ps = a .args .ps .now in
+    let ts = a .args .ts .now in
+    let tb = a .args .tb .now in
+    let pb = a .args .pb .now in
+    let st = storeOf ps ts tb pb in
+    let p = a .args .process in
+    let cs = outcomeChanges (outcomeOf (a .args .o)) p in
+    let e = ap (λ o. outcomeChanges (outcomeOf o) p) (c .enum-told .given .1) in
+    (made-none cs st e, a .pre .0)
+
+same-length : tie.Need-same-length
+same-length c = search needs
+
+same-length-2 : tie.Need-same-length-2
+same-length-2 c = search needs
+
+same-length-3 : tie.Need-same-length-3
+same-length-3 c = search needs
+
+same-length-4 : tie.Need-same-length-4
+same-length-4 c = search needs
+
+returns-2 : tie.Need-returns-2
+unfolding outcomeOf outcomeChanges
+returns-2 c =
+    let a = c .before .before .before .before .before .before .before .before .before .before .before .before .before in
+    let ps = a .args .ps .now in
+    let ts = a .args .ts .now in
+    let tb = a .args .tb .now in
+    let pb = a .args .pb .now in
+    let st = storeOf ps ts tb pb in
+    let p = a .args .process in
+    let cs = outcomeChanges (outcomeOf (a .args .o)) p in
+    let e = ap (λ o. outcomeChanges (outcomeOf o) p) (c .before .before .before .before .before .before .before .enum-told2 .given .1) in
+    let w = c .before .before .set-stopped in
+    (made-one cs st (setStopped p 1) e (storeOf (w .last .0) ts tb pb) (w .ensures .0), w .ensures .1)
+
+returns-3 : tie.Need-returns-3
+unfolding outcomeOf outcomeChanges
+returns-3 c =
+    let a = c .before .before .before .before .before .before in
+    let ps = a .args .ps .now in
+    let ts = a .args .ts .now in
+    let tb = a .args .tb .now in
+    let pb = a .args .pb .now in
+    let st = storeOf ps ts tb pb in
+    let p = a .args .process in
+    let cs = outcomeChanges (outcomeOf (a .args .o)) p in
+    let e = ap (λ o. outcomeChanges (outcomeOf o) p) (c .enum-told3 .given .1) in
+    (made-none cs st e, a .pre .0)
+
+same-length-5 : tie.Need-same-length-5
+same-length-5 c = search needs
+
+same-length-6 : tie.Need-same-length-6
+same-length-6 c = search needs
+
+same-length-7 : tie.Need-same-length-7
+same-length-7 c = search needs
+
+same-length-8 : tie.Need-same-length-8
+same-length-8 c = search needs
+
+returns-4 : tie.Need-returns-4
+unfolding outcomeOf outcomeChanges
+returns-4 c =
+    let a = c .before .before .before .before .before .before .before .before .before .before .before .before .before .before .before .before .before .before .before in
+    let ps = a .args .ps .now in
+    let ts = a .args .ts .now in
+    let tb = a .args .tb .now in
+    let pb = a .args .pb .now in
+    let st = storeOf ps ts tb pb in
+    let p = a .args .process in
+    let cs = outcomeChanges (outcomeOf (a .args .o)) p in
+    let e = ap (λ o. outcomeChanges (outcomeOf o) p) (c .before .before .before .before .before .before .before .before .before .before .before .before .before .enum-told4 .given .1) in
+    let w = c .before .before .before .before .before .before .before .before .remove-process in
+    (made-one cs st (removeProcess p) e (storeOf (w .last .0) (w .last .1 .0) (w .last .1 .1 .0) (w .last .1 .1 .1 .0)) (w .ensures .0), w .ensures .1)
+
+pub suffer-spec : {M : Type 1} → statement M
+suffer-spec =
+    tie.close
+    (tie.spec
+    enum-told
+    enum-told-2
+    set-stopped-requires
+    enum-told-3
+    enum-told-4
+    remove-process-requires
+    returns
+    same-length
+    same-length-2
+    same-length-3
+    same-length-4
+    returns-2
+    returns-3
+    same-length-5
+    same-length-6
+    same-length-7
+    same-length-8
+    returns-4)

@@ -1,0 +1,146 @@
+-- `take` meets its contract: refused, with nothing to take, or taken. Assumes nothing.
+use native.Mathlib.Omega.{arith}
+use borrow.Author.Needs.{needs}
+use Rattle.answers.specs.Answers.{answerOf}
+use Rattle.answers.specs.Step.{lent}
+use Rattle.taking.proofs.Call.{something, take-made, take-nothing, take-refused, taker-live, taker-sound}
+use Rattle.taking.proofs.take.Statement.{statement}
+use Rattle.taking.proofs.take.Tie as tie
+
+thread-refusal-requires : tie.Need-thread-refusal-requires
+thread-refusal-requires c κs = search needs
+
+same-length : tie.Need-same-length
+same-length c = search needs
+
+same-length-2 : tie.Need-same-length-2
+same-length-2 c = search needs
+
+same-length-3 : tie.Need-same-length-3
+same-length-3 c = search needs
+
+same-length-4 : tie.Need-same-length-4
+same-length-4 c = search needs
+
+returns : tie.Need-returns
+returns c =
+    let a = c .before .before .before .before .before .before .before .before .before .before in
+    let ps = a .args .ps .now in
+    let ts = a .args .ts .now in
+    let tb = a .args .tb .now in
+    let pb = a .args .pb .now in
+    let l = lent ps ts tb pb in
+    let t = a .args .thread in
+    let n = c .before .thread-refusal in
+    take-refused l t (n .result) (n .ensures) (c .if1 .taken)
+
+next-of-requires : tie.Need-next-of-requires
+next-of-requires c κs =
+    let a = c .before .before .before .before .before .before .before .before .before .before .before .before .before .before in
+    let ps = a .args .ps .now in
+    let ts = a .args .ts .now in
+    let tb = a .args .tb .now in
+    let pb = a .args .pb .now in
+    let l = lent ps ts tb pb in
+    let t = a .args .thread in
+    let n = c .before .before .before .before .before .thread-refusal in
+    let z = c .before .before .before .before .if1 .left in
+    (taker-sound l t (n .result) (n .ensures) z, taker-live l t (n .result) (n .ensures) z)
+
+enum-told : tie.Need-enum-told
+enum-told c = search needs
+
+same-length-5 : tie.Need-same-length-5
+same-length-5 c = search needs
+
+same-length-6 : tie.Need-same-length-6
+same-length-6 c = search needs
+
+same-length-7 : tie.Need-same-length-7
+same-length-7 c = search needs
+
+same-length-8 : tie.Need-same-length-8
+same-length-8 c = search needs
+
+returns-2 : tie.Need-returns-2
+returns-2 c =
+    let a = c .before .before .before .before .before .before .before .before .before .before .before .before .before .before .before .before .before in
+    let ps = a .args .ps .now in
+    let ts = a .args .ts .now in
+    let tb = a .args .tb .now in
+    let pb = a .args .pb .now in
+    let l = lent ps ts tb pb in
+    let t = a .args .thread in
+    let n = c .before .before .before .before .before .before .before .before .thread-refusal in
+    let x = c .before .before .next-of in
+    take-nothing l t (n .result) (n .ensures) (c .before .before .before .before .before .before .before .if1 .left) (x .result) (x .ensures) (c .enum-told .given .1)
+    (λ i. omega (arith, c .before .before .before .before .before .before .before .before .before .before .before .before .before .before .slice-known3 .given i))
+    (λ i. omega (arith, c .before .before .before .before .before .before .before .before .before .before .before .before .before .slice-known4 .given i))
+
+take-next-requires : tie.Need-take-next-requires
+take-next-requires c κs =
+    let a = c .before .before .before .before .before .before .before .before .before .before .before .before .before .before .before .before .before .before .before .before in
+    let ps = a .args .ps .now in
+    let ts = a .args .ts .now in
+    let tb = a .args .tb .now in
+    let pb = a .args .pb .now in
+    let l = lent ps ts tb pb in
+    let t = a .args .thread in
+    let n = c .before .before .before .before .before .before .before .before .before .before .before .thread-refusal in
+    let z = c .before .before .before .before .before .before .before .before .before .before .if1 .left in
+    let x = c .before .before .before .before .before .next-of in
+    (taker-sound l t (n .result) (n .ensures) z, (taker-live l t (n .result) (n .ensures) z, (x .ensures, something (x .result) (c .before .before .before .before .match .keys2))))
+
+same-length-9 : tie.Need-same-length-9
+same-length-9 c = search needs
+
+same-length-10 : tie.Need-same-length-10
+same-length-10 c = search needs
+
+same-length-11 : tie.Need-same-length-11
+same-length-11 c = search needs
+
+same-length-12 : tie.Need-same-length-12
+same-length-12 c = search needs
+
+returns-3 : tie.Need-returns-3
+returns-3 c =
+    let a = c .before .before .before .before .before .before .before .before .before .before .before .before .before .before .before .before .before .before .before .before .before .before .before .before .before .before .before .before .before in
+    let ps = a .args .ps .now in
+    let ts = a .args .ts .now in
+    let tb = a .args .tb .now in
+    let pb = a .args .pb .now in
+    let l = lent ps ts tb pb in
+    let t = a .args .thread in
+    let n = c .before .before .before .before .before .before .before .before .before .before .before .before .before .before .before .before .before .before .before .before .thread-refusal in
+    let x = c .before .before .before .before .before .before .before .before .before .before .before .before .before .before .next-of in
+    let w = c .before .before .before .before .before .before .before .before .take-next in
+    take-made l t (n .result) (n .ensures) (c .before .before .before .before .before .before .before .before .before .before .before .before .before .before .before .before .before .before .before .if1 .left) (x .result) (x .ensures) (lent (w .last .0) (w .last .1 .0) (w .last .1 .1 .0) (w .last .1 .1 .1 .0))
+    (search needs) (search needs) (search needs) (search needs)
+    (λ i. omega (arith, c .before .before .slice-known7 .given i))
+    (λ i. omega (arith, c .slice-known8 .given i))
+    (answerOf (w .result)) (w .ensures .0) (w .ensures .1)
+
+pub take-spec : {M : Type 1} → statement M
+take-spec =
+    tie.close
+    (tie.spec
+    thread-refusal-requires
+    same-length
+    same-length-2
+    same-length-3
+    same-length-4
+    returns
+    next-of-requires
+    enum-told
+    same-length-5
+    same-length-6
+    same-length-7
+    same-length-8
+    returns-2
+    take-next-requires
+    same-length-9
+    same-length-10
+    same-length-11
+    same-length-12
+    returns-3)
