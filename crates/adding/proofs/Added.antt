@@ -21,6 +21,7 @@ use Rattle.rules.specs.Calls.{changes, answer}
 use Rattle.rules.proofs.Table.{Off}
 use Rattle.tables.specs.Tables.{processesOf, threadsOf, heldProcesses, heldThreads}
 use Rattle.sound.specs.Lent.{storeOf, soundTables}
+use Rattle.effects.proofs.Places.{with-all}
 use Rattle.sound.proofs.Facts.{right-processes, right-threads, threads-long}
 use Rattle.effects.specs.Effects.{threadOf}
 use Rattle.view.specs.Named.{threadNamed}
@@ -75,7 +76,7 @@ module _ (ps ts tb pb : List ℕ) (id thread n : ℕ) (r : n ≡ refusalOn (addP
       process-made =
           let f : threadsOf ts′ ≡ fill isFreeThread (threadOf thread id (maskable mask)) (threadsOf ts) =
           t ∙ ap (λ (m : SigSet). fill isFreeThread (threadOf thread id m) (threadsOf ts)) g in
-          λ i. record { processes = p i; threads = f i; threadBuffer = storeOf ps ts tb pb .threadBuffer; processBuffer = storeOf ps ts tb pb .processBuffer }
+          with-all ps′ ts′ tb pb p f refl refl
 
       pub process-added : n ≡ 0 → length ps′ ≡ length ps → length ts′ ≡ length ts → Bytes tb → Bytes pb
           → (answerOf Done ≡ stepOn call (lent ps ts tb pb) .1) × (lent ps′ ts′ tb pb ≡ stepOn call (lent ps ts tb pb) .0)
@@ -117,7 +118,7 @@ module _ (ps ts tb pb : List ℕ) (creator id n : ℕ) (r : n ≡ refusalOn (add
       thread-made =
           let f : threadsOf ts′ ≡ fill isFreeThread (threadOf id (threadNamed ts creator .process) (threadNamed ts creator .mask)) (threadsOf ts) =
           t ∙ ap₂ (λ (k : ℕ) (s : SigSet). fill isFreeThread (threadOf id k s) (threadsOf ts)) o m in
-          λ i. record { processes = processesOf ps; threads = f i; threadBuffer = storeOf ps ts tb pb .threadBuffer; processBuffer = storeOf ps ts tb pb .processBuffer }
+          with-all ps ts′ tb pb refl f refl refl
 
       pub thread-added : length ts′ ≡ length ts → Bytes tb → Bytes pb
           → (answerOf Done ≡ stepOn (addThread creator id) (lent ps ts tb pb) .1) × (lent ps ts′ tb pb ≡ stepOn (addThread creator id) (lent ps ts tb pb) .0)

@@ -54,6 +54,12 @@ module _ (cs : List Change) (st : Store) where
   pub made : (js : List Change) → cs ≡ js → (st′ : Store) → st′ ≡ applyAll js st → st′ ≡ applyAll cs st
   made js e st′ h = h ∙ ap (λ (l : List Change). applyAll l st) (sym e)
 
+  pub made-none : cs ≡ [] → st ≡ applyAll cs st
+  made-none e = made [] e st (none-made st)
+
+  pub made-one : (ch : Change) → cs ≡ ch ∷ [] → (st′ : Store) → st′ ≡ apply ch st → st′ ≡ applyAll cs st
+  made-one ch e st′ h = made (ch ∷ []) e st′ (one-made ch st st′ h)
+
   module _ (f : fitsAll cs st ≡ true) where
     pub all-fit : (js : List Change) → cs ≡ js → fitsAll js st ≡ true
     all-fit js e = ap (λ (l : List Change). fitsAll l st) (sym e) ∙ f

@@ -2,7 +2,7 @@ pub mod Chain
 pub mod After
 pub mod Stores
 mod Fitted
-mod Places
+pub mod Places
 mod Fields
 mod Buffers
 mod Marks

@@ -34,7 +34,7 @@ use Rattle.answers.specs.declared.Next.the-variants as case
 use Rattle.answers.specs.Answers.{nextOf}
 use Rattle.view.specs.Named.{threadNamed}
 use Rattle.next.specs.Nexts.{isNextIn}
-use Rattle.next.proofs.Owners.{own-is, shared-is}
+use Rattle.view.proofs.Live.{own-is, shared-is}
 
 -- ---- in one queue
 

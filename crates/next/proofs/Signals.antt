@@ -15,7 +15,7 @@ use Rattle.rules.specs.Taking.{isStopped, canTakeSignal, nextSignal}
 use Rattle.sound.specs.Lent.{storeOf}
 use Rattle.view.specs.Named.{processNamed, threadNamed}
 use Rattle.view.proofs.Live.{pending-union}
-use Rattle.next.proofs.Owners.{own-is, shared-is}
+use Rattle.view.proofs.Live.{own-is, shared-is}
 
 module _ (v : View) (th : Thread) where
   pub none-stopped : isStopped v th ≡ true → 0 ≡ nextSignal v th

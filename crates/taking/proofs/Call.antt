@@ -6,7 +6,6 @@ use mathlib.Core.Logic.{_⊎_, inl, inr}
 use mathlib.Core.List.{[], _∷_}
 use lib.Dec.{eqb}
 use lib.ListN.{length, getD}
-use borrow.Author.Tests.{not-false}
 use denote.Enum.Declared.{tagOf}
 use Rattle.lists.proofs.Bools.{clash}
 use Rattle.rules.specs.Types.{Thread, Answer, take}
@@ -21,7 +20,8 @@ use Rattle.answers.specs.declared.Answer.the-variants.{Refused, Nothing}
 use Rattle.answers.specs.Answers.{nextOf, answerOf}
 use Rattle.answers.specs.Step.{Lent, decoded, refusalOn, rowsOn, stepOn}
 use Rattle.siginfo.proofs.Numbers.{bytes-each}
-use Rattle.answers.proofs.Endings.{isSound, rows-given, accepted-tables-sound, accepted-rows, refused-ends, accepted-ends}
+use Rattle.answers.proofs.Endings.{isSound, rows-given, refused-ends, accepted-ends}
+use Rattle.answers.proofs.Rows.{live-thread}
 use Rattle.answers.proofs.Next.{the-type}
 use Rattle.taking.specs.Takes.{isNothing}
 
@@ -53,12 +53,10 @@ module _ (l : Lent) (t n : ℕ) (r : n ≡ rowsOn (esrch (noThreadLive (view (de
     accepted = sym refusal-is ∙ z
 
     pub taker-sound : isSound l ≡ true
-    unfolding isClear
-    taker-sound = accepted-tables-sound (take t) l refl accepted
+    taker-sound = live-thread l t n r z .0
 
     pub taker-live : liveThread v t ≡ true
-    unfolding rows noThreadLive
-    taker-live = not-false (liveThread v t) (accepted-rows (take t) l accepted .0)
+    taker-live = live-thread l t n r z .1
 
     module _ (x : declared.Next) (k : nextOf x ≡ next v it) where
       pub take-made : (m : Lent) → length (m .processes) ≡ length (l .processes) → length (m .threads) ≡ length (l .threads)

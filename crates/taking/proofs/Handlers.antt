@@ -18,7 +18,7 @@ use Rattle.rules.specs.Taking.{handlerMask, resets, reset, resetChanges}
 use Rattle.rules.specs.Fitting.{fits, fitsAll}
 use Rattle.effects.proofs.Chain.{first-fits, rest-fits, then}
 use Rattle.taking.specs.Takes.{handlerChanges}
-use Rattle.taking.proofs.Changes.{fits-as, made-as, made-none}
+use Rattle.effects.proofs.Chain as chain
 
 -- ---- the mask
 
@@ -48,7 +48,7 @@ module _ (t : Thread) (a : Action) (s : ℕ) (st : Store) (f : fitsAll (handlerC
   starts = ap (λ (x : SigSet). setMask (t .id) x ∷ resetChanges (t .process) s a) (sym h)
 
   fitting : fitsAll (setMask (t .id) m ∷ resetChanges (t .process) s a) st ≡ true
-  fitting = fits-as (handlerChanges t a s) st (setMask (t .id) m ∷ resetChanges (t .process) s a) starts f
+  fitting = chain.all-fit (handlerChanges t a s) st f (setMask (t .id) m ∷ resetChanges (t .process) s a) starts
 
   pub mask-fits : fits (view st) (setMask (t .id) m) ≡ true
   mask-fits = first-fits (setMask (t .id) m) (resetChanges (t .process) s a) st fitting
@@ -56,12 +56,12 @@ module _ (t : Thread) (a : Action) (s : ℕ) (st : Store) (f : fitsAll (handlerC
   module _ (st′ : Store) (e : st′ ≡ apply (setMask (t .id) m) st) where
     made : (st″ : Store) → st″ ≡ applyAll (resetChanges (t .process) s a) st′ → st″ ≡ applyAll (handlerChanges t a s) st
     made st″ k =
-        made-as (handlerChanges t a s) st (setMask (t .id) m ∷ resetChanges (t .process) s a) starts st″
+        chain.made (handlerChanges t a s) st (setMask (t .id) m ∷ resetChanges (t .process) s a) starts st″
         (then (setMask (t .id) m) (resetChanges (t .process) s a) st st′ e st″ k)
 
     pub kept-made : resets a s ≡ false → st′ ≡ applyAll (handlerChanges t a s) st
     unfolding resetChanges
-    kept-made r = made st′ (made-none (resetChanges (t .process) s a) st′ (cond-false (storeChanges (t .process) s (reset a)) [] r))
+    kept-made r = made st′ (chain.made-none (resetChanges (t .process) s a) st′ (cond-false (storeChanges (t .process) s (reset a)) [] r))
 
     module _ (r : resets a s ≡ true) (n : Action) (g : n ≡ reset a) where
       resetting : resetChanges (t .process) s a ≡ storeChanges (t .process) s n
@@ -70,8 +70,8 @@ module _ (t : Thread) (a : Action) (s : ℕ) (st : Store) (f : fitsAll (handlerC
 
       pub reset-fits : fitsAll (storeChanges (t .process) s n) st′ ≡ true
       reset-fits =
-          fits-as (resetChanges (t .process) s a) st′ (storeChanges (t .process) s n) resetting
-          (rest-fits (setMask (t .id) m) (resetChanges (t .process) s a) st st′ e fitting)
+          chain.all-fit (resetChanges (t .process) s a) st′
+          (rest-fits (setMask (t .id) m) (resetChanges (t .process) s a) st st′ e fitting) (storeChanges (t .process) s n) resetting
 
       pub reset-made : (st″ : Store) → st″ ≡ applyAll (storeChanges (t .process) s n) st′ → st″ ≡ applyAll (handlerChanges t a s) st
-      reset-made st″ k = made st″ (made-as (resetChanges (t .process) s a) st′ (storeChanges (t .process) s n) resetting st″ k)
+      reset-made st″ k = made st″ (chain.made (resetChanges (t .process) s a) st′ (storeChanges (t .process) s n) resetting st″ k)

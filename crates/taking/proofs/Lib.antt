@@ -1,4 +1,3 @@
-mod Changes
 mod Handlers
 mod Outcomes
 mod Taken

@@ -27,10 +27,10 @@ use Rattle.answers.specs.declared.Next.the-variants as cases
 use Rattle.effects.specs.Effects.{threadOf}
 use Rattle.effects.proofs.Chain.{first-part-fits, second-part-fits, then-part}
 use Rattle.view.specs.Named.{processNamed, threadNamed}
-use Rattle.next.proofs.Owners.{owner-is}
+use Rattle.view.proofs.Live.{owner-is}
 use Rattle.next.proofs.Nexts.{next-is-signal}
 use Rattle.taking.specs.Takes.{isNothing, infoIn, leaving}
-use Rattle.taking.proofs.Changes.{fits-as, made-as}
+use Rattle.effects.proofs.Chain.{all-fit, made}
 
 -- ---- what is taken is a signal
 
@@ -85,7 +85,7 @@ pub record Ready (st : Store) (t u : Thread) (x : declared.Next) (r : Siginfo) (
 
 module _ {st : Store} {t u : Thread} {x : declared.Next} {r : Siginfo} {a : Action} (d : Ready st t u x r a) where
   both-fit : fitsAll (leaving (nextOf x) ++ deliver u a (r .signal)) st ≡ true
-  both-fit = fits-as (takeChanges (view st) t (nextOf x)) st (leaving (nextOf x) ++ deliver u a (r .signal)) (d .parts) (d .fitting)
+  both-fit = all-fit (takeChanges (view st) t (nextOf x)) st (d .fitting) (leaving (nextOf x) ++ deliver u a (r .signal)) (d .parts)
 
   pub leaving-fits : fitsAll (leaving (nextOf x)) st ≡ true
   leaving-fits = first-part-fits (leaving (nextOf x)) (deliver u a (r .signal)) st both-fit
@@ -96,7 +96,7 @@ module _ {st : Store} {t u : Thread} {x : declared.Next} {r : Siginfo} {a : Acti
 
     pub taken : (st″ : Store) → st″ ≡ applyAll (deliver u a (r .signal)) st′ → st″ ≡ applyAll (takeChanges (view st) t (nextOf x)) st
     taken st″ h =
-        made-as (takeChanges (view st) t (nextOf x)) st (leaving (nextOf x) ++ deliver u a (r .signal)) (d .parts) st″
+        made (takeChanges (view st) t (nextOf x)) st (leaving (nextOf x) ++ deliver u a (r .signal)) (d .parts) st″
         (then-part (leaving (nextOf x)) (deliver u a (r .signal)) st st′ e st″ h)
 
   -- of the thread, the answer reads the mask alone

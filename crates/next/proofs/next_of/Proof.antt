@@ -5,8 +5,8 @@ use Rattle.next.proofs.next_of.Tie as tie
 use Rattle.rules.specs.View.{theThread}
 use Rattle.rules.specs.Store.{view}
 use Rattle.sound.specs.Lent.{storeOf}
-use Rattle.sound.proofs.Facts.{threads-long, thread-buffer-long, process-buffer-long}
-use Rattle.next.proofs.Owners.{thread-held, owner-good, own-queue}
+use Rattle.sound.proofs.Facts.{threads-long, thread-buffer-long, process-buffer-long, thread-listed}
+use Rattle.view.proofs.Live.{owner-good, own-queue}
 use Rattle.next.proofs.Nexts.{nothing-next, own-next, shared-next}
 
 next-signal-requires : tie.Need-next-signal-requires
@@ -24,7 +24,7 @@ process-of-requires c κs =
     let a = c .before .before .before .before .before .before in (
       threads-long (a .args .ps .now) (a .args .ts .now) (a .args .tb .now) (a .args .pb .now) (a .pre .0),
       (
-        thread-held (a .args .ps .now) (a .args .ts .now) (a .args .tb .now) (a .args .pb .now) (a .pre .0) (a .args .thread) (a .pre .1),
+        thread-listed (a .args .ps .now) (a .args .ts .now) (a .args .tb .now) (a .args .pb .now) (a .args .thread) (a .pre .1),
         owner-good (a .args .ps .now) (a .args .ts .now) (a .args .tb .now) (a .args .pb .now) (a .pre .0) (a .args .thread) (a .pre .1),
       ),
     )

@@ -2,8 +2,8 @@
 use borrow.Author.Needs.{needs}
 use Rattle.next.proofs.next_signal.Statement.{statement}
 use Rattle.next.proofs.next_signal.Tie as tie
-use Rattle.sound.proofs.Facts.{processes-long, threads-long}
-use Rattle.next.proofs.Owners.{thread-held, owner-good, process-held, own-queue, shared-queue}
+use Rattle.sound.proofs.Facts.{processes-long, threads-long, thread-listed}
+use Rattle.view.proofs.Live.{owner-good, process-held, own-queue, shared-queue}
 use Rattle.next.proofs.Signals.{signal-stopped, signal-taken}
 
 process-of-requires : tie.Need-process-of-requires
@@ -11,7 +11,7 @@ process-of-requires c κs =
     let a = c .before .before .before .before in (
       threads-long (a .args .ps .now) (a .args .ts .now) (a .args .tb .now) (a .args .pb .now) (a .pre .0),
       (
-        thread-held (a .args .ps .now) (a .args .ts .now) (a .args .tb .now) (a .args .pb .now) (a .pre .0) (a .args .thread) (a .pre .1),
+        thread-listed (a .args .ps .now) (a .args .ts .now) (a .args .tb .now) (a .args .pb .now) (a .args .thread) (a .pre .1),
         owner-good (a .args .ps .now) (a .args .ts .now) (a .args .tb .now) (a .args .pb .now) (a .pre .0) (a .args .thread) (a .pre .1),
       ),
     )
@@ -50,7 +50,7 @@ mask-of-requires : tie.Need-mask-of-requires
 mask-of-requires c κs =
     let a = c .before .before .before .before .before .before .before .before .before .before in (
       threads-long (a .args .ps .now) (a .args .ts .now) (a .args .tb .now) (a .args .pb .now) (a .pre .0),
-      thread-held (a .args .ps .now) (a .args .ts .now) (a .args .tb .now) (a .args .pb .now) (a .pre .0) (a .args .thread) (a .pre .1),
+      thread-listed (a .args .ps .now) (a .args .ts .now) (a .args .tb .now) (a .args .pb .now) (a .args .thread) (a .pre .1),
     )
 
 without-requires : tie.Need-without-requires

@@ -5,7 +5,7 @@ use Rattle.limits.specs.Limits.{sigDfl}
 use Rattle.rules.specs.Taking.{deliver, outcomeChanges}
 use Rattle.sound.specs.Lent.{storeOf}
 use Rattle.effects.specs.Effects.{threadOf}
-use Rattle.taking.proofs.Changes.{fits-as, made-as}
+use Rattle.effects.proofs.Chain.{all-fit, made}
 use Rattle.taking.proofs.Outcomes.{by-default, by-handler}
 use Rattle.taking.specs.Takes.{handlerChanges, outcomeOf}
 use Rattle.taking.proofs.deliver_to.Statement.{statement}
@@ -27,7 +27,7 @@ suffer-requires c κs =
     let cs = deliver t (a .args .a) s in
     let o = c .outcome-of in
     let e = by-default t (a .args .a) s (eq-eqb (a .args .a .handler) sigDfl (c .before .before .before .before .before .if1 .taken)) (outcomeOf (o .result)) (o .ensures) in
-    (a .pre .0, fits-as cs st (outcomeChanges (outcomeOf (o .result)) (a .args .process)) e (a .pre .1))
+    (a .pre .0, all-fit cs st (a .pre .1) (outcomeChanges (outcomeOf (o .result)) (a .args .process)) e)
 
 handle-requires : tie.Need-handle-requires
 handle-requires c κs =
@@ -41,7 +41,7 @@ handle-requires c κs =
     let s = a .args .signal in
     let cs = deliver t (a .args .a) s in
     let e = by-handler t (a .args .a) s (ne-eqb (a .args .a .handler) sigDfl (c .before .before .before .before .if1 .left)) in
-    (a .pre .0, fits-as cs st (handlerChanges t (a .args .a) s) e (a .pre .1))
+    (a .pre .0, all-fit cs st (a .pre .1) (handlerChanges t (a .args .a) s) e)
 
 same-length : tie.Need-same-length
 same-length c = search needs
@@ -69,7 +69,7 @@ returns c =
     let o = c .before .before .before .before .before .before .before .before .before .outcome-of in
     let e = by-default t (a .args .a) s (eq-eqb (a .args .a .handler) sigDfl (c .before .before .before .before .before .before .before .before .before .before .before .before .before .before .if1 .taken)) (outcomeOf (o .result)) (o .ensures) in
     let w = c .before .before .before .before .before .before .before .before .suffer in
-    (made-as cs st (outcomeChanges (outcomeOf (o .result)) (a .args .process)) e (storeOf (w .last .0) (w .last .1 .0) (w .last .1 .1 .0) (w .last .1 .1 .1 .0)) (w .ensures .0), w .ensures .1)
+    (made cs st (outcomeChanges (outcomeOf (o .result)) (a .args .process)) e (storeOf (w .last .0) (w .last .1 .0) (w .last .1 .1 .0) (w .last .1 .1 .1 .0)) (w .ensures .0), w .ensures .1)
 
 same-length-5 : tie.Need-same-length-5
 same-length-5 c = search needs
@@ -96,7 +96,7 @@ returns-2 c =
     let cs = deliver t (a .args .a) s in
     let e = by-handler t (a .args .a) s (ne-eqb (a .args .a .handler) sigDfl (c .before .before .before .before .before .before .before .before .before .before .before .before .before .if1 .left)) in
     let w = c .before .before .before .before .before .before .before .before .handle in
-    (made-as cs st (handlerChanges t (a .args .a) s) e (storeOf (w .last .0) (w .last .1 .0) (w .last .1 .1 .0) (w .last .1 .1 .1 .0)) (w .ensures .0), w .ensures .1)
+    (made cs st (handlerChanges t (a .args .a) s) e (storeOf (w .last .0) (w .last .1 .0) (w .last .1 .1 .0) (w .last .1 .1 .1 .0)) (w .ensures .0), w .ensures .1)
 
 pub deliver-to-spec : {M : Type 1} → statement M
 deliver-to-spec =

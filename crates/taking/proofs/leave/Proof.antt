@@ -1,10 +1,11 @@
+use mathlib.Core.List.{[]}
 -- `leave` meets its contract, a case for each kind. Assumes nothing.
 use mathlib.Core.Path.{ap}
 use borrow.Author.Needs.{needs}
 use Rattle.rules.specs.View.{clearMark, dropOldest, queueOf, targetQueue}
 use Rattle.sound.specs.Lent.{storeOf}
 use Rattle.answers.specs.Answers.{nextOf}
-use Rattle.taking.proofs.Changes.{fits-one, made-none, made-one}
+use Rattle.effects.proofs.Chain.{starts, made-none, made-one}
 use Rattle.taking.specs.Takes.{leaving}
 use Rattle.taking.proofs.leave.Statement.{statement}
 use Rattle.taking.proofs.leave.Tie as tie
@@ -28,7 +29,7 @@ clear-mark-requires c κs =
     let d = c .before .before .before .before .before .next .given .0 in
     let ch = clearMark (targetQueue (d .0) (d .1 .0)) (d .1 .1 .0) in
     let e = ap (λ n. leaving (nextOf n)) (c .before .before .before .before .before .next .given .1) in
-    (a .pre .0, fits-one cs st ch e (a .pre .1))
+    (a .pre .0, starts cs st (a .pre .1) ch [] e)
 
 enum-known-next-2 : tie.Need-enum-known-next-2
 enum-known-next-2 c = search needs
@@ -46,7 +47,7 @@ drop-oldest-requires c κs =
     let r = c .before .before .before .before .before .next2 .given .0 .0 in
     let ch = dropOldest (queueOf r) (r .signal) in
     let e = ap (λ n. leaving (nextOf n)) (c .before .before .before .before .before .next2 .given .1) in
-    (a .pre .0, fits-one cs st ch e (a .pre .1))
+    (a .pre .0, starts cs st (a .pre .1) ch [] e)
 
 returns : tie.Need-returns
 unfolding leaving nextOf

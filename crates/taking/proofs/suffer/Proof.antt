@@ -1,10 +1,11 @@
+use mathlib.Core.List.{[]}
 -- `suffer` meets its contract, a case for each outcome. Assumes nothing.
 use mathlib.Core.Path.{ap}
 use borrow.Author.Needs.{needs}
 use Rattle.rules.specs.Taking.{outcomeChanges}
 use Rattle.rules.specs.View.{removeProcess, setStopped}
 use Rattle.sound.specs.Lent.{storeOf}
-use Rattle.taking.proofs.Changes.{fits-one, made-none, made-one}
+use Rattle.effects.proofs.Chain.{starts, made-none, made-one}
 use Rattle.taking.specs.Takes.{outcomeOf}
 use Rattle.taking.proofs.suffer.Statement.{statement}
 use Rattle.taking.proofs.suffer.Tie as tie
@@ -27,7 +28,7 @@ set-stopped-requires c κs =
     let p = a .args .process in
     let cs = outcomeChanges (outcomeOf (a .args .o)) p in
     let e = ap (λ o. outcomeChanges (outcomeOf o) p) (c .before .before .before .before .enum-told2 .given .1) in
-    (a .pre .0, fits-one cs st (setStopped p 1) e (a .pre .1))
+    (a .pre .0, starts cs st (a .pre .1) (setStopped p 1) [] e)
 
 enum-told-3 : tie.Need-enum-told-3
 enum-told-3 c = search needs
@@ -47,7 +48,7 @@ remove-process-requires c κs =
     let p = a .args .process in
     let cs = outcomeChanges (outcomeOf (a .args .o)) p in
     let e = ap (λ o. outcomeChanges (outcomeOf o) p) (c .before .before .before .before .enum-told4 .given .1) in
-    (a .pre .0, fits-one cs st (removeProcess p) e (a .pre .1))
+    (a .pre .0, starts cs st (a .pre .1) (removeProcess p) [] e)
 
 returns : tie.Need-returns
 unfolding outcomeOf outcomeChanges

@@ -1,9 +1,9 @@
 -- `take_next` meets its contract: what is next leaves its queue, then it is delivered. Assumes nothing.
 use borrow.Author.Needs.{needs}
-use Rattle.sound.proofs.Facts.{processes-long, threads-long}
+use Rattle.sound.proofs.Facts.{processes-long, threads-long, thread-listed}
 use Rattle.sound.specs.Lent.{storeOf}
 use Rattle.answers.specs.Answers.{answerOf}
-use Rattle.next.proofs.Owners.{owner-good, process-held, thread-held}
+use Rattle.view.proofs.Live.{owner-good, process-held}
 use Rattle.taking.proofs.Taken.{leaving-fits, delivering-fits, taken, answered, signal-named, ready}
 use Rattle.taking.proofs.take_next.Statement.{statement}
 use Rattle.taking.proofs.take_next.Tie as tie
@@ -19,7 +19,7 @@ process-of-requires c κs =
     let tb = a .args .tb .now in
     let pb = a .args .pb .now in
     let t = a .args .thread in
-    (threads-long ps ts tb pb (a .pre .0), (thread-held ps ts tb pb (a .pre .0) t (a .pre .1 .0), owner-good ps ts tb pb (a .pre .0) t (a .pre .1 .0)))
+    (threads-long ps ts tb pb (a .pre .0), (thread-listed ps ts tb pb t (a .pre .1 .0), owner-good ps ts tb pb (a .pre .0) t (a .pre .1 .0)))
 
 mask-of-requires : tie.Need-mask-of-requires
 mask-of-requires c κs =
@@ -29,7 +29,7 @@ mask-of-requires c κs =
     let tb = a .args .tb .now in
     let pb = a .args .pb .now in
     let t = a .args .thread in
-    (threads-long ps ts tb pb (a .pre .0), thread-held ps ts tb pb (a .pre .0) t (a .pre .1 .0))
+    (threads-long ps ts tb pb (a .pre .0), thread-listed ps ts tb pb t (a .pre .1 .0))
 
 action-of-requires : tie.Need-action-of-requires
 action-of-requires c κs =
