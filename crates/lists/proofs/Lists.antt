@@ -620,6 +620,10 @@ module _ {A : Type 0} (p : A → Bool) where
       (λ f. rw f (omega arith))
       (λ f. rw f (let h : any p xs ≡ true = sym (any-no p x xs f) ∙ e in omega (arith, count-no p x (dropFirst p xs) f, count-dropFirst xs h)))
 
+-- a test that all pass
+pub count-true : {A : Type 0} (l : List A) → count (λ _. true) l ≡ length l
+count-true l = count-all (λ _. true) l (All-every (λ _. true ≡ true) (λ _. refl) l)
+
 -- a test made besides, that does not look at the member
 pub count-and : {A : Type 0} (b : Bool) (p : A → Bool) (l : List A) → count (λ x. b && p x) l ≡ cond b (count p l) 0
 count-and true p l = refl

@@ -122,6 +122,15 @@ module _ {A : Type 0} (enc : A → List ℕ) (w : ℕ) where
   length-flat (x ∷ xs) good =
       rw (length-append, good .0, length-flat xs (good .1)) (add-comm w (length xs * w) ∙ sym (suc-mul (length xs) w))
 
+  -- a row of them is one value's words
+  pub row-flat : (d : A) (xs : List A) (i : ℕ) → All (λ x. length (enc x) ≡ w) xs → i < length xs → row w (flat enc xs) i ≡ enc (getD xs i d)
+  unfolding flat
+  row-flat d [] i good h = absurd (not-suc-le-zero h)
+  row-flat d (x ∷ xs) zero good h = ap (λ k. take w (drop k (enc x ++ flat enc xs))) (zero-mul w) ∙ take-at (enc x) (flat enc xs) w (good .0)
+  row-flat d (x ∷ xs) (suc i) good h =
+      ap (take w) (sym (row-suc w (enc x ++ flat enc xs) i) ∙ ap (drop (i * w)) (drop-at (enc x) (flat enc xs) w (good .0)))
+      ∙ row-flat d xs i (good .1) (le-of-suc-le-suc h)
+
 -- ---- the round trips
 
 module _ {A : Type 0} (dec : List ℕ → A) (enc : A → List ℕ) (w : ℕ) where

@@ -1,6 +1,6 @@
 -- Sums over lists. Assumes nothing.
 use mathlib.Core.Path.{_≡_, refl, sym, ap, ap₂, _∙_, fun-ext}
-use mathlib.Core.Bool.{Bool, false, cond}
+use mathlib.Core.Bool.{Bool, true, false, _&&_, cond}
 use mathlib.Core.List.{List, [], _∷_, _++_, map}
 use mathlib.Core.Option.{some}
 use Prim.Native.Nat.{ℕ, zero, suc, _+_, _*_, _≤_, _<_}
@@ -10,8 +10,8 @@ use lib.ListN.{length, getD, set}
 use lib.Dec.{eqb}
 use borrow.Author.Tests.{eqb-true, eqb-false, ne-eqb}
 use Rattle.lists.specs.Lists.{count, first, keep, change, replaceFirst, dropFirst, isSome, sum, range, All}
-use Rattle.lists.proofs.Bools.{split, clash, cond-map}
-use Rattle.lists.proofs.Lists.{change-map, first-yes, first-no}
+use Rattle.lists.proofs.Bools.{split, clash, and-right, cond-map}
+use Rattle.lists.proofs.Lists.{All-imp, change-map, count-and, count-same, first-yes, first-no}
 
 module _ {A : Type 0} where
   pub sum-zero : (l : List A) → sum (λ _. 0) l ≡ 0
@@ -129,6 +129,19 @@ module _ {A B : Type 0} where
   pigeonhole r k xs ys h room =
       omega
       (arith, sum-const 1 ys, sum-le (λ _. 1) (λ b. count (λ a. r a b) xs) ys h, count-swap r xs ys, sum-bound (λ a. count (r a) ys) k xs room)
+
+-- each member belongs to one part, its own: a test of part and member is counted at each member's own part
+pub sum-parts : {A B : Type 0} (r : A → B → Bool) (own : B → A) → ((a : A) (b : B) → r a b ≡ true → a ≡ own b) → (p : A → B → Bool) (xs : List A) (ys : List B)
+    → All (λ b. count (λ a. r a b) xs ≡ 1) ys → sum (λ a. count (λ b. p a b && r a b) ys) xs ≡ count (λ b. p (own b) b) ys
+sum-parts {A} r own o p xs ys h =
+    count-parts (λ a b. p a b && r a b) (λ b. p (own b) b) xs ys
+    (All-imp (λ b. count (λ a. r a b) xs ≡ 1) (λ b. count (λ a. p a b && r a b) xs ≡ cond (p (own b) b) 1 0)
+    (λ b e.
+    count-same (λ a. p a b && r a b) (λ a. p (own b) b && r a b) xs
+    (λ a. split (r a b) (λ e. ap (λ (x : A). p x b && r a b) (o a b e)) (λ e. and-right (p a b) e ∙ sym (and-right (p (own b) b) e)))
+    ∙ count-and (p (own b) b) (λ a. r a b) xs
+    ∙ ap (λ (n : ℕ). cond (p (own b) b) n 0) e)
+    ys h)
 
 -- ---- numbers from k on: one below k + n is met once
 

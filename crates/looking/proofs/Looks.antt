@@ -18,6 +18,7 @@ use Rattle.rules.specs.Store.{recordsFor, view}
 use Rattle.rules.specs.Taking.{next}
 use Rattle.rules.specs.Refusals.{esrch, isClear, noThreadLive, rows, refusalOf}
 use Rattle.rules.specs.Calls.{emptyPart, threadSlot, processSlot, partOf, slotOf, lookPart, answer}
+use Rattle.rules.proofs.Asking.{next-record}
 use Rattle.queue.specs.Queue.{recordsOf}
 use Rattle.queue.proofs.Buffer.{in-buffer}
 use Rattle.sound.specs.Lent.{storeOf, soundTables}
@@ -28,7 +29,6 @@ use Rattle.answers.specs.Answers.{nextOf, answerOf}
 use Rattle.answers.specs.Step.{Lent, lent, decoded, refusalOn, rowsOn, stepOn}
 use Rattle.answers.proofs.Endings.{longAs, rows-given, accepted-long, accepted-rules, answer-after, refused-ends}
 use Rattle.answers.proofs.Rows.{live-thread}
-use Rattle.next.proofs.Nexts.{record-oldest}
 use Rattle.looking.specs.Looks.{partBytes, lookBytes}
 
 -- ---- what a look gives
@@ -89,8 +89,8 @@ module _ (ps ts tb pb : List ℕ) (t n : ℕ) (e : n ≡ rowsOn (esrch (noThread
         oldest-is : first (inQueue (queueOf x) (x .signal)) (recordsFor (queueOf x) (storeOf ps ts tb pb)) ≡ some x
         unfolding nextOf view
         oldest-is =
-            record-oldest (view (storeOf ps ts tb pb)) (theThread (view (storeOf ps ts tb pb)) t) (queueOf x) (x .signal) x
-            (sym f ∙ ap nextOf h)
+            next-record (view (storeOf ps ts tb pb)) (theThread (view (storeOf ps ts tb pb)) t) (queueOf x) (x .signal) x
+            (sym f ∙ ap nextOf h) .1
 
         -- the slot that was found in the buffer that has the queue
         module _ (b : List ℕ) (o : recordsFor (queueOf x) (storeOf ps ts tb pb) ≡ recordsOf b) (g : k ≡ find (inQueue (queueOf x) (x .signal)) (recordsOf b)) where

@@ -3,15 +3,15 @@ use Prim.Native.Nat.{ℕ, _<_, _≤_}
 use mathlib.Core.Path.{_≡_, refl, sym, ap, ap₂, subst, _∙_}
 use mathlib.Core.Bool.{Bool, true, false}
 use mathlib.Core.List.{List}
-use mathlib.Core.Option.{Option, some, none}
+use mathlib.Core.Option.{some}
 use native.Mathlib.Omega.{arith}
 use lib.Dec.{eqb}
 use lib.ListN.{length, getD}
 use borrow.Author.Tests.{eqb-true, ne-eqb, eq-eqb}
 use Rattle.limits.specs.Limits.{recordBytes}
-use Rattle.lists.specs.Lists.{find, first, isSome}
+use Rattle.lists.specs.Lists.{find, first}
 use Rattle.lists.specs.Rows.{row}
-use Rattle.lists.proofs.Bools.{split, clash, and-fst, and-snd, cond-true, cond-false}
+use Rattle.lists.proofs.Bools.{and-fst, and-snd, cond-true, cond-false}
 use Rattle.lists.proofs.Lists.{first-none}
 use Rattle.lists.proofs.Loops.{any-find, find-at, first-find, find-le}
 use Rattle.lists.proofs.Finds.{absent-any}
@@ -21,7 +21,7 @@ use Rattle.sigset.proofs.Laws.{has-set, lowestOf-found}
 use Rattle.types.specs.declared.Siginfo.{Siginfo}
 use Rattle.types.specs.Values.{noSiginfo}
 use Rattle.siginfo.specs.Bytes.{siginfoOf}
-use Rattle.rules.specs.Types.{Thread, Queue, Next, noNext, nextMark, nextRecord}
+use Rattle.rules.specs.Types.{Thread, Queue, Next, noNext, nextRecord}
 use Rattle.rules.specs.View.{View, processQueue, threadQueue, targetQueue, queueOf, sameQueue, inQueue, liveThread, theThread, pendingIn}
 use Rattle.rules.specs.Store.{used, recordsFor, view}
 use Rattle.rules.specs.Taking.{canTakeSignal, nextSignal, nextQueue, nextIn, next}
@@ -94,29 +94,6 @@ module _ (v : View) (th : Thread) (s : ℕ) (e : s ≡ nextSignal v th) where
         ap (λ (a : Queue). nextIn v a s (v .oldest a s)) (sym h)
         ∙ ap (λ (x : ℕ). nextIn v (nextQueue v th x) x (v .oldest (nextQueue v th x) x)) e
         ∙ sym (cond-false noNext (in-queue v th) (ne-eqb (nextSignal v th) 0 (λ z. n (e ∙ z))))
-
--- what a next says: a queue, a signal, and the record if it has one
-abbrev says : Next → Queue × ℕ × Option Siginfo
-says noNext = (processQueue 0, 0, none)
-says (nextMark q s) = (q, s, none)
-says (nextRecord q s r) = (q, s, some r)
-
-says-in : (v : View) (q : Queue) (s : ℕ) (o : Option Siginfo) → says (nextIn v q s o) ≡ (q, s, o)
-unfolding nextIn
-says-in v q s none = refl
-says-in v q s (some r) = refl
-
--- the record that is next is the oldest of its queue and signal
-pub record-oldest : (v : View) (th : Thread) (q : Queue) (s : ℕ) (r : Siginfo) → next v th ≡ nextRecord q s r → v .oldest q s ≡ some r
-unfolding next
-record-oldest v th q s r e =
-    split (eqb (nextSignal v th) 0)
-    (λ z. clash refl (sym (ap (λ (x : Next). isSome (says x .2)) (sym (cond-true noNext (in-queue v th) z) ∙ e))))
-    (λ z.
-    let w : (nextQueue v th (nextSignal v th), nextSignal v th, v .oldest (nextQueue v th (nextSignal v th)) (nextSignal v th)) ≡ (q, s, some r) =
-    sym (says-in v (nextQueue v th (nextSignal v th)) (nextSignal v th) (v .oldest (nextQueue v th (nextSignal v th)) (nextSignal v th)))
-    ∙ ap says (sym (cond-false noNext (in-queue v th) z) ∙ e) in
-    ap₂ (λ (a : Queue) (n : ℕ). v .oldest a n) (sym (ap (λ x. x .0) w)) (sym (ap (λ x. x .1) w)) ∙ ap (λ x. x .2) w)
 
 module _ (ps ts tb pb : List ℕ) (t p s : ℕ) (l : liveThread (view (storeOf ps ts tb pb)) t ≡ true) (o : p ≡ threadNamed ts t .process)
     (e : s ≡ nextSignal (view (storeOf ps ts tb pb)) (theThread (view (storeOf ps ts tb pb)) t)) (n : (s ≡ 0 → ⊥)) (r : declared.Next) where

@@ -32,7 +32,7 @@ use Rattle.rules.proofs.Slots.{used-within, records-within}
 
 module _ (c : Queue → Bool) (x : SigSet) where
   -- the signal is one that the queue loses
-  abbrev lost : Queue → ℕ → Bool
+  abbrev pub lost : Queue → ℕ → Bool
   lost q s = c q && has x s
 
   cut-at : (q q′ : Queue) (m : SigSet) (s : ℕ) → Signal s → (sameQueue q q′ && has (cutting c x q′ m) s) ≡ ((sameQueue q q′ && has m s) && not (lost q s))
@@ -53,7 +53,7 @@ module _ (c : Queue → Bool) (x : SigSet) where
         ∙ any-same _ (λ (y : Place Thread). threadMark q s y && not (lost q s)) (st .threads) (λ y. cut-at q (threadQueue (y .holds)) (y .marks) s h)
         ∙ any-and (threadMark q s) (not (lost q s)) (st .threads)
 
-  cut-marks : (st : Store) (q : Queue) (s : ℕ) → markIn (onMarks (cutting c x) st) q s ≡ (markIn st q s && not (lost q s))
+  pub cut-marks : (st : Store) (q : Queue) (s : ℕ) → markIn (onMarks (cutting c x) st) q s ≡ (markIn st q s && not (lost q s))
   unfolding markIn
   cut-marks st q s =
       let a : Bool = any (processMark q s) (st .processes) in
@@ -93,7 +93,7 @@ module _ (p : ℕ) (x : SigSet) where
     abbrev after : Store
     after = apply (discard p x) st
 
-    discard-records : (q : Queue) → recordsFor q after ≡ keep (spared p x) (recordsFor q st)
+    pub discard-records : (q : Queue) → recordsFor q after ≡ keep (spared p x) (recordsFor q st)
     unfolding recordsFor apply
     discard-records q =
         ap used (sym (cond-map (onSlots (keep (spared p x))) (eqb (q .thread) 0) (st .processBuffer) (st .threadBuffer)))
@@ -106,7 +106,7 @@ module _ (p : ℕ) (x : SigSet) where
         ∙ any-same _ (λ (r : Siginfo). inQueue q s r && not (eqb (q .process) p && has x s)) (recordsFor q st) (spared-at q s)
         ∙ any-and (inQueue q s) (not (eqb (q .process) p && has x s)) (recordsFor q st)
 
-    discard-marks : (q : Queue) (s : ℕ) → markIn after q s ≡ (markIn st q s && not (eqb (q .process) p && has x s))
+    pub discard-marks : (q : Queue) (s : ℕ) → markIn after q s ≡ (markIn st q s && not (eqb (q .process) p && has x s))
     unfolding apply markIn
     discard-marks = cut-marks (λ q. eqb (q .process) p) x st
 

@@ -37,3 +37,5 @@ pub mod Calmer
 pub mod Fitted
 pub mod Taken
 pub mod Lasting
+pub mod Asking
+pub mod Made

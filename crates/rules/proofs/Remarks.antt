@@ -32,7 +32,7 @@ use Rattle.rules.proofs.Unmaskable.{unmasked-if, unmasked-has}
 -- ---- single values
 
 -- a free place has no marks
-free-process-marks : (x : Place Process) → zeroProcess x ≡ true → x .marks ≡ empty
+pub free-process-marks : (x : Place Process) → zeroProcess x ≡ true → x .marks ≡ empty
 unfolding zeroProcess
 free-process-marks x z =
     let z1 = and-snd (eqb (x .holds .real) 0) _ z in
@@ -42,7 +42,7 @@ free-process-marks x z =
     let z5 = and-snd (eqb (x .holds .stopped) 0) _ z4 in
     ap bits (eqb-true (x .marks .0) 0 (and-fst (eqb (x .marks .0) 0) _ z5))
 
-free-thread-marks : (x : Place Thread) → zeroThread x ≡ true → x .marks ≡ empty
+pub free-thread-marks : (x : Place Thread) → zeroThread x ≡ true → x .marks ≡ empty
 unfolding zeroThread
 free-thread-marks x z =
     ap bits (eqb-true (x .marks .0) 0 (and-snd (eqb (x .holds .mask .0) 0) _ (and-snd (eqb (x .holds .process) 0) _ z)))

@@ -6,6 +6,7 @@ pub mod Sound
 pub mod Sending
 pub mod Actions
 pub mod Taking
+pub mod Asking
 pub mod Adding
 pub mod Refusals
 pub mod Calls

@@ -1,0 +1,271 @@
+-- The tables and the ledger agree after each change, if they agreed before it. Assumes nothing.
+use Prim.Native.Nat.{ℕ}
+use mathlib.Core.Path.{_≡_, refl, sym, ap, _∙_}
+use mathlib.Core.Bool.{Bool, true, false, not, _&&_, _||_, cond, and-true, and-false, or-true, or-false}
+use mathlib.Core.List.{List, [], _∷_, _++_, tail}
+use lib.Dec.{eqb}
+use lib.ListN.{replicate}
+use Rattle.limits.specs.Limits.{processPlaces, threadPlaces, bufferRecords, siQueue}
+use Rattle.lists.specs.Lists.{all, any, change, keep, replaceFirst}
+use Rattle.lists.proofs.Bools.{clash, and-fst, and-snd, and-right, or-both, cond-map, cond-same}
+use Rattle.lists.proofs.Lists.{map-change, map-replaceFirst, any-changed, any-replicate, leading-replicate}
+use Rattle.lists.proofs.Sublists.{keep-within}
+use Rattle.sigset.specs.declared.SigSet.{SigSet}
+use Rattle.sigset.specs.Set.{has}
+use Rattle.types.specs.declared.Siginfo.{Siginfo}
+use Rattle.types.specs.declared.Action.{Action}
+use Rattle.types.specs.Values.{noSiginfo}
+use Rattle.rules.specs.Types.{Process, Thread, Queue, noProcess, noThread}
+use Rattle.rules.specs.Signals.{isSignal}
+use Rattle.rules.specs.View.{Change, forget, newProcess, newThread, removeProcess, removeThread, setStopped, setAction, setMask, setMark, clearMark, append, dropOldest, discard, isProcess, isThread, belongsTo, queueOf, inQueue, liveThread}
+use Rattle.rules.specs.Store.{Store, held, view, inUse, used, recordsFor, markIn, spared, processMark, threadMark, freeProcess, freeThread, isFreeProcess, isFreeThread, withStopped, withAction, withMask, cleared, apply}
+use Rattle.rules.specs.Sound.{ifFree, processId, threadId, zeroProcess, zeroThread, nameable, freeZero, sound}
+use Rattle.rules.specs.Fitting.{admits, liveQueue, fits}
+use Rattle.rules.proofs.Clauses.{clauses}
+use Rattle.rules.proofs.Fading.{discard-records, discard-marks}
+use Rattle.rules.proofs.Marks.{process-named, thread-named}
+use Rattle.rules.proofs.Queues.{queue-target, target-process}
+use Rattle.rules.proofs.Seen.{seen-setMark-processes, seen-setMark-threads, seen-clearMark-processes, seen-clearMark-threads, seen-discard-processes, seen-discard-threads}
+use Rattle.rules.proofs.Slots.{zero-free}
+use Rattle.rules.proofs.Vacated.{held-vacated, free-process-unmarked, free-thread-unmarked}
+use Rattle.history.specs.Ledger.{Line, Ledger, emptyLedger, emptyLine, withMark, keepSend, takeSend, isAt, ofProcess, note}
+use Rattle.history.proofs.Relation.{Agrees}
+use Rattle.history.proofs.Records.{keep-left, both-buffers, append-records, drop-records}
+use Rattle.history.proofs.Marks.{remove-process-marks, remove-thread-marks, new-process-marks, new-thread-marks, set-marks, clear-marks}
+
+-- ---- one line
+
+module _ (b : Bool) (x : Line) where
+  -- an emptied one has no sends and no mark
+  emptied-sends : (rs : List Siginfo) → rs ≡ x .sends → cond b [] rs ≡ cond b (emptyLine x) x .sends
+  emptied-sends rs e = ap (λ (y : List Siginfo). cond b [] y) e ∙ sym (cond-map (λ (y : Line). y .sends) b (emptyLine x) x)
+
+  emptied-mark : (m : Bool) → m ≡ x .mark → (m && not b) ≡ cond b (emptyLine x) x .mark
+  emptied-mark m e = go b
+    where
+      go : (c : Bool) → (m && not c) ≡ cond c (emptyLine x) x .mark
+      go true = and-false m
+      go false = and-true m ∙ e
+
+  -- a change of the sends alone leaves the mark, and the other way round
+  same-mark : (g : Line → Line) → g x .mark ≡ x .mark → cond b (g x) x .mark ≡ x .mark
+  same-mark g e = go b
+    where
+      go : (c : Bool) → cond c (g x) x .mark ≡ x .mark
+      go true = e
+      go false = refl
+
+  same-sends : (g : Line → Line) → g x .sends ≡ x .sends → cond b (g x) x .sends ≡ x .sends
+  same-sends g e = go b
+    where
+      go : (c : Bool) → cond c (g x) x .sends ≡ x .sends
+      go true = e
+      go false = refl
+
+  set-mark : (m : Bool) → m ≡ x .mark → (m || b) ≡ cond b (withMark true x) x .mark
+  set-mark m e = go b
+    where
+      go : (c : Bool) → (m || c) ≡ cond c (withMark true x) x .mark
+      go true = or-true m
+      go false = or-false m ∙ e
+
+  clear-mark : (m : Bool) → m ≡ x .mark → (m && not b) ≡ cond b (withMark false x) x .mark
+  clear-mark m e = go b
+    where
+      go : (c : Bool) → (m && not c) ≡ cond c (withMark false x) x .mark
+      go true = and-false m
+      go false = and-true m ∙ e
+
+-- ---- the changes
+
+-- a free thread place is all zero
+pub free-threads : (st : Store) → freeZero st ≡ true → all (ifFree threadId zeroThread) (st .threads) ≡ true
+unfolding freeZero
+free-threads st z = and-snd (all (ifFree processId zeroProcess) (st .processes)) _ z
+
+module _ (st : Store) (k : Ledger) (a : Agrees st k) where
+  -- a process or a thread amended keeps its queue
+  agrees-setStopped : (n b : ℕ) → Agrees (apply (setStopped n b) st) (note (setStopped n b) k)
+  unfolding apply note recordsFor markIn
+  agrees-setStopped n b =
+      record {
+        processes = map-change held (isProcess n) _ (withStopped b) (λ x. refl) (st .processes) ∙ ap (change (isProcess n) (withStopped b)) (a .processes);
+        threads = a .threads;
+        records = a .records;
+        marks = λ q s. ap (λ (m : Bool). isSignal s && (m || any (threadMark q s) (st .threads))) (any-changed (processMark q s) _ _ (st .processes) (λ x _. refl)) ∙ a .marks q s;
+      }
+
+  agrees-setAction : (n s : ℕ) (c : Action) → Agrees (apply (setAction n s c) st) (note (setAction n s c) k)
+  unfolding apply note recordsFor markIn
+  agrees-setAction n i c =
+      record {
+        processes = map-change held (isProcess n) _ (withAction i c) (λ x. refl) (st .processes) ∙ ap (change (isProcess n) (withAction i c)) (a .processes);
+        threads = a .threads;
+        records = a .records;
+        marks = λ q s. ap (λ (m : Bool). isSignal s && (m || any (threadMark q s) (st .threads))) (any-changed (processMark q s) _ _ (st .processes) (λ x _. refl)) ∙ a .marks q s;
+      }
+
+  agrees-setMask : (n : ℕ) (m : SigSet) → Agrees (apply (setMask n m) st) (note (setMask n m) k)
+  unfolding apply note recordsFor markIn
+  agrees-setMask n m =
+      record {
+        processes = a .processes;
+        threads = map-change held (isThread n) _ (withMask m) (λ x. refl) (st .threads) ∙ ap (change (isThread n) (withMask m)) (a .threads);
+        records = a .records;
+        marks = λ q s. ap (λ (b : Bool). isSignal s && (any (processMark q s) (st .processes) || b)) (any-changed (threadMark q s) _ _ (st .threads) (λ x _. refl)) ∙ a .marks q s;
+      }
+
+  -- the lowest free place is filled
+  pub agrees-newProcess : freeZero st ≡ true → (p : Process) → Agrees (apply (newProcess p) st) (note (newProcess p) k)
+  unfolding apply note recordsFor
+  agrees-newProcess z p =
+      record {
+        processes = map-replaceFirst held isFreeProcess _ (st .processes) ∙ ap (replaceFirst isFreeProcess p) (a .processes);
+        threads = a .threads;
+        records = a .records;
+        marks = λ q s. new-process-marks st q s z p ∙ a .marks q s;
+      }
+
+  pub agrees-newThread : all (ifFree threadId zeroThread) (st .threads) ≡ true → (t : Thread) → Agrees (apply (newThread t) st) (note (newThread t) k)
+  unfolding apply note recordsFor
+  agrees-newThread z t =
+      record {
+        processes = a .processes;
+        threads = map-replaceFirst held isFreeThread _ (st .threads) ∙ ap (replaceFirst isFreeThread t) (a .threads);
+        records = a .records;
+        marks = λ q s. new-thread-marks st q s z t ∙ a .marks q s;
+      }
+
+  -- who ends takes the queues along
+  agrees-removeProcess : (n : ℕ) → eqb n 0 ≡ false → Agrees (apply (removeProcess n) st) (note (removeProcess n) k)
+  unfolding apply note recordsFor
+  agrees-removeProcess n z =
+      record {
+        processes = held-vacated freeProcess (isProcess n) (st .processes) ∙ ap (change (isProcess n) (λ _. noProcess)) (a .processes);
+        threads = held-vacated freeThread (belongsTo n) (st .threads) ∙ ap (change (belongsTo n) (λ _. noThread)) (a .threads);
+        records = λ q s.
+            ap (keep (inQueue q s)) (both-buffers (keep (λ (r : Siginfo). not (eqb (r .process) n))) (keep-within _) (eqb (q .thread) 0) (st .processBuffer) (st .threadBuffer))
+            ∙ keep-left (ofProcess n) (λ (r : Siginfo). not (eqb (r .process) n)) (λ r. refl) q s (recordsFor q st)
+            ∙ emptied-sends (eqb (q .process) n) (k .lines q s) _ (a .records q s);
+        marks = λ q s. remove-process-marks st q s n z ∙ emptied-mark (eqb (q .process) n) (k .lines q s) (markIn st q s) (a .marks q s);
+      }
+
+  agrees-removeThread : (n : ℕ) → eqb n 0 ≡ false → Agrees (apply (removeThread n) st) (note (removeThread n) k)
+  unfolding apply note recordsFor
+  agrees-removeThread n z =
+      record {
+        processes = a .processes;
+        threads = held-vacated freeThread (isThread n) (st .threads) ∙ ap (change (isThread n) (λ _. noThread)) (a .threads);
+        records = λ q s.
+            ap (keep (inQueue q s)) (both-buffers (keep (λ (r : Siginfo). not (eqb (r .thread) n))) (keep-within _) (eqb (q .thread) 0) (st .processBuffer) (st .threadBuffer))
+            ∙ keep-left (λ (j : Queue) _. eqb (j .thread) n) (λ (r : Siginfo). not (eqb (r .thread) n)) (λ r. refl) q s (recordsFor q st)
+            ∙ emptied-sends (eqb (q .thread) n) (k .lines q s) _ (a .records q s);
+        marks = λ q s. remove-thread-marks st q s n z ∙ emptied-mark (eqb (q .thread) n) (k .lines q s) (markIn st q s) (a .marks q s);
+      }
+
+  agrees-discard : (n : ℕ) (x : SigSet) → Agrees (apply (discard n x) st) (note (discard n x) k)
+  unfolding note
+  agrees-discard n x =
+      record {
+        processes = unfold view in seen-discard-processes st n x ∙ a .processes;
+        threads = unfold view in seen-discard-threads st n x ∙ a .threads;
+        records = λ q s.
+            ap (keep (inQueue q s)) (discard-records n x st q)
+            ∙ keep-left (λ (j : Queue) (i : ℕ). eqb (j .process) n && has x i) (spared n x) (λ r. refl) q s (recordsFor q st)
+            ∙ emptied-sends (eqb (q .process) n && has x s) (k .lines q s) _ (a .records q s);
+        marks = λ q s. discard-marks n x st q s ∙ emptied-mark (eqb (q .process) n && has x s) (k .lines q s) (markIn st q s) (a .marks q s);
+      }
+
+  agrees-setMark : (j : Queue) (n : ℕ) → admits (view st) j n ≡ true → Agrees (apply (setMark j n) st) (note (setMark j n) k)
+  unfolding note admits nameable
+  agrees-setMark j n f =
+      let f1 = and-snd (liveQueue (view st) j) _ f in
+      let i : isSignal n ≡ true = and-fst (isSignal n) _ (and-fst (nameable n) _ f1) in
+      record {
+        processes = unfold view in seen-setMark-processes st j n ∙ a .processes;
+        threads = unfold view in seen-setMark-threads st j n ∙ a .threads;
+        records = λ q s. unfold apply recordsFor in a .records q s ∙ sym (same-sends (isAt j n q s) (k .lines q s) (withMark true) refl);
+        marks = λ q s. set-marks st q s j n (and-fst (liveQueue (view st) j) _ f) i ∙ set-mark (isAt j n q s) (k .lines q s) (markIn st q s) (a .marks q s);
+      }
+
+  agrees-clearMark : (j : Queue) (n : ℕ) → Agrees (apply (clearMark j n) st) (note (clearMark j n) k)
+  unfolding note
+  agrees-clearMark j n =
+      record {
+        processes = unfold view in seen-clearMark-processes st j n ∙ a .processes;
+        threads = unfold view in seen-clearMark-threads st j n ∙ a .threads;
+        records = λ q s. unfold apply recordsFor in a .records q s ∙ sym (same-sends (isAt j n q s) (k .lines q s) (withMark false) refl);
+        marks = λ q s. clear-marks st q s j n ∙ clear-mark (isAt j n q s) (k .lines q s) (markIn st q s) (a .marks q s);
+      }
+
+  agrees-append : (r : Siginfo) → inUse r ≡ true → Agrees (apply (append r) st) (note (append r) k)
+  unfolding note
+  agrees-append r u =
+      record {
+        processes = unfold apply in a .processes;
+        threads = unfold apply in a .threads;
+        records = λ q s.
+            append-records r u st q s
+            ∙ ap (λ (rs : List Siginfo). cond (inQueue q s r) (rs ++ (r ∷ [])) rs) (a .records q s)
+            ∙ sym (cond-map (λ (y : Line). y .sends) (inQueue q s r) (keepSend r (k .lines q s)) (k .lines q s));
+        marks = λ q s. unfold apply markIn in a .marks q s ∙ sym (same-mark (inQueue q s r) (k .lines q s) (keepSend r) refl);
+      }
+
+  agrees-dropOldest : (j : Queue) (n : ℕ) → Agrees (apply (dropOldest j n) st) (note (dropOldest j n) k)
+  unfolding note
+  agrees-dropOldest j n =
+      record {
+        processes = unfold apply in a .processes;
+        threads = unfold apply in a .threads;
+        records = λ q s.
+            drop-records j n st q s
+            ∙ ap (λ (rs : List Siginfo). cond (isAt j n q s) (tail rs) rs) (a .records q s)
+            ∙ sym (cond-map (λ (y : Line). y .sends) (isAt j n q s) (takeSend (k .lines q s)) (k .lines q s));
+        marks = λ q s. unfold apply markIn in a .marks q s ∙ sym (same-mark (isAt j n q s) (k .lines q s) takeSend refl);
+      }
+
+-- ---- cleared tables
+
+-- nothing is recorded there, and nothing is marked
+no-records : (q : Queue) (s : ℕ) → keep (inQueue q s) (recordsFor q cleared) ≡ []
+unfolding recordsFor cleared used keep
+no-records q s = ap (λ (rs : List Siginfo). keep (inQueue q s) (used rs)) (cond-same (eqb (q .thread) 0) (replicate bufferRecords noSiginfo)) ∙ ap (keep (inQueue q s)) (leading-replicate inUse noSiginfo zero-free bufferRecords)
+
+no-marks : (q : Queue) (s : ℕ) → markIn cleared q s ≡ false
+unfolding markIn cleared
+no-marks q s =
+    and-right (isSignal s)
+    (or-both (any-replicate (processMark q s) freeProcess (free-process-unmarked q s) processPlaces) (any-replicate (threadMark q s) freeThread (free-thread-unmarked q s) threadPlaces))
+
+pub agrees-start : Agrees cleared emptyLedger
+unfolding cleared emptyLedger
+agrees-start = record { processes = refl; threads = refl; records = no-records; marks = no-marks }
+
+agrees-forget : (st : Store) (k : Ledger) → Agrees (apply forget st) (note forget k)
+unfolding apply note cleared
+agrees-forget st k = record { processes = refl; threads = refl; records = no-records; marks = no-marks }
+
+-- ---- every change
+
+-- a record that fits names a live process
+append-used : (st : Store) (r : Siginfo) → admits (view st) (queueOf r) (r .signal) ≡ true → inUse r ≡ true
+unfolding admits inUse
+append-used st r f =
+    ap not (process-named st (r .process) (target-process (view st) (r .process) (r .thread) (queue-target (view st) (r .process) (r .thread) (and-fst (liveQueue (view st) (queueOf r)) _ f))))
+
+pub agrees-change : (ch : Change) (st : Store) (k : Ledger) → sound st ≡ true → fits (view st) ch ≡ true → Agrees st k → Agrees (apply ch st) (note ch k)
+unfolding fits
+agrees-change forget st k e f a = agrees-forget st k
+agrees-change (newProcess p) st k e f a = clash f refl
+agrees-change (newThread t) st k e f a = agrees-newThread st k a (free-threads st (clauses st e .freePlaces)) t
+agrees-change (removeProcess n) st k e f a = agrees-removeProcess st k a n (process-named st n f)
+agrees-change (removeThread n) st k e f a = agrees-removeThread st k a n (thread-named st n (and-fst (liveThread (view st) n) _ f))
+agrees-change (setStopped n b) st k e f a = agrees-setStopped st k a n b
+agrees-change (setAction n s c) st k e f a = agrees-setAction st k a n s c
+agrees-change (setMask n m) st k e f a = agrees-setMask st k a n m
+agrees-change (setMark q s) st k e f a = agrees-setMark st k a q s f
+agrees-change (clearMark q s) st k e f a = agrees-clearMark st k a q s
+agrees-change (append r) st k e f a =
+    agrees-append st k a r (append-used st r (and-fst (admits (view st) (queueOf r) (r .signal)) _ (and-snd (eqb (r .code) siQueue) _ f)))
+agrees-change (dropOldest q s) st k e f a = agrees-dropOldest st k a q s
+agrees-change (discard n x) st k e f a = agrees-discard st k a n x

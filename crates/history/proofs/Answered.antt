@@ -1,0 +1,144 @@
+-- A call's refusal and answer are what is read in the ledger; none is 14; room is what the ledger counts. Assumes nothing.
+use Prim.Native.Nat.{ℕ, zero, suc, _≤_}
+use mathlib.Core.Path.{_≡_, refl, sym, ap, ap₂, _∙_}
+use mathlib.Core.Bool.{Bool, true, false, not, _&&_, cond}
+use mathlib.Core.List.{[], _∷_}
+use native.Mathlib.Omega.{arith}
+use lib.Dec.{eqb, leb, eqb·suc-zero}
+use borrow.Author.Tests.{eqb-true, eq-eqb, leb-true, le-leb, not-true}
+use Rattle.limits.specs.Limits.{recordLimit, EAGAIN, EFAULT}
+use Rattle.lists.specs.Lists.{All}
+use Rattle.lists.proofs.Bools.{split, clash, same-test, cond-false}
+use Rattle.rules.specs.Types.{Call, clear, addProcess, addThread, endProcess, endThread, kill, queue, action, mask, pending, look, who, take, return, Answer, refused, done, tested, acted, dropped, absorbed, marked, kept, oldAction, oldMask, pendingSet, looked, canTake, noneCan, nothing, handler, end, stop, noAction}
+use Rattle.rules.specs.View.{View, targetQueue}
+use Rattle.rules.specs.Store.{Store, view}
+use Rattle.rules.specs.Sound.{sound}
+use Rattle.rules.specs.Sending.{fate, needsRecord}
+use Rattle.rules.specs.Refusals.{Row, refusal, rows, isClear, fault, table, refusalOf, noRoom, einval, esrch, eperm, eagain}
+use Rattle.rules.specs.Calls.{answer, finish, step, isRefused}
+use Rattle.rules.proofs.Clauses.{clauses}
+use Rattle.rules.proofs.Facts.{within-limit}
+use Rattle.rules.proofs.Refused.{accepted-answers}
+use Rattle.rules.proofs.Table.{given-passes}
+use Rattle.history.specs.Ledger.{Ledger, ledgerView, ledgerRefusal, ledgerAnswer, ofProcess, pendingWhere}
+use Rattle.history.specs.History.{isRefusedWith}
+use Rattle.history.proofs.Counted.{same-queued}
+use Rattle.history.proofs.Holds.{Holds, same-view}
+
+-- ---- the tables' refusal is the ledger's
+
+-- the row of 14 does not apply to a sound store
+fault-off : (c : Call) (st : Store) → sound st ≡ true → fault st c .applies ≡ false
+unfolding fault
+fault-off c st e = split (isClear c) (λ k. rw (k, clauses st e .lengths)) (λ k. rw (k, e))
+
+module _ (st : Store) (k : Ledger) (h : Holds st k) (c : Call) where
+  pub same-refusal : refusalOf st c ≡ ledgerRefusal k c
+  unfolding refusalOf table refusal ledgerRefusal
+  same-refusal = cond-false _ _ (fault-off c st (h .isSound)) ∙ ap (λ (v : View). refusal (rows v c)) (same-view st k h)
+
+  finished : (n : ℕ) → finish n c st .1 ≡ cond (eqb n 0) (answer (view st) c) (refused n)
+  unfolding finish
+  finished zero = refl
+  finished (suc n) = sym (cond-false (answer (view st) c) (refused (suc n)) (eqb·suc-zero n))
+
+  pub same-answer : step c st .1 ≡ ledgerAnswer k c
+  unfolding step ledgerAnswer
+  same-answer =
+      finished (refusalOf st c)
+      ∙ ap₂ (λ (n : ℕ) (v : View). cond (eqb n 0) (answer v c) (refused n)) same-refusal (same-view st k h)
+
+-- ---- refusals by number
+
+-- an accepted answer is no refusal
+not-refused : (n : ℕ) (a : Answer) → isRefused a ≡ false → isRefusedWith n a ≡ false
+unfolding isRefused isRefusedWith
+not-refused n (refused m) e = clash refl e
+not-refused n done e = refl
+not-refused n tested e = refl
+not-refused n acted e = refl
+not-refused n dropped e = refl
+not-refused n absorbed e = refl
+not-refused n marked e = refl
+not-refused n kept e = refl
+not-refused n (oldAction a) e = refl
+not-refused n (oldMask m) e = refl
+not-refused n (pendingSet m) e = refl
+not-refused n (looked x) e = refl
+not-refused n (canTake t) e = refl
+not-refused n noneCan e = refl
+not-refused n nothing e = refl
+not-refused n (handler x s r flags saved) e = refl
+not-refused n (end s) e = refl
+not-refused n (stop s) e = refl
+not-refused n (noAction s) e = refl
+
+module _ (k : Ledger) (c : Call) where
+  -- what the ledger refuses with a number other than 0
+  refused-with : (n : ℕ) → eqb 0 n ≡ false → isRefusedWith n (ledgerAnswer k c) ≡ eqb (ledgerRefusal k c) n
+  unfolding ledgerAnswer isRefusedWith
+  refused-with n z =
+      split (eqb (ledgerRefusal k c) 0)
+      (λ e. rw e (not-refused n (answer (ledgerView k) c) (accepted-answers (ledgerView k) c) ∙ sym (ap (λ m. eqb m n) (eqb-true (ledgerRefusal k c) 0 e) ∙ z)))
+      (λ e. rw e)
+
+abbrev notFault : ℕ → Bool
+notFault n = not (eqb n EFAULT)
+
+-- the rows below 14 do not give it
+rows-no-fault : (v : View) (c : Call) → notFault (refusal (rows v c)) ≡ true
+unfolding rows
+rows-no-fault v c = given-passes notFault (rows v c) refl (below v c)
+  where
+    below : (v : View) (c : Call) → All (λ (r : Row). r .applies ≡ true → notFault (r .errno) ≡ true) (rows v c)
+    below v clear = tt
+    below v (addProcess id real effective saved session thread m) = ((λ e. refl), ((λ e. refl), ((λ e. refl), tt)))
+    below v (addThread creator id) = ((λ e. refl), ((λ e. refl), ((λ e. refl), ((λ e. refl), tt))))
+    below v (endProcess id) = ((λ e. refl), tt)
+    below v (endThread id) = ((λ e. refl), tt)
+    below v (kill by to t s) = ((λ e. refl), ((λ e. refl), ((λ e. refl), tt)))
+    below v (queue by to t s value) = ((λ e. refl), ((λ e. refl), ((λ e. refl), ((λ e. refl), tt))))
+    below v (action p s new) = ((λ e. refl), ((λ e. refl), tt))
+    below v (mask t way set) = ((λ e. refl), ((λ e. refl), tt))
+    below v (pending t) = ((λ e. refl), tt)
+    below v (look t) = ((λ e. refl), tt)
+    below v (who p) = ((λ e. refl), tt)
+    below v (take t) = ((λ e. refl), tt)
+    below v (return t saved) = ((λ e. refl), tt)
+
+pub never-fault : (k : Ledger) (c : Call) → isRefusedWith EFAULT (ledgerAnswer k c) ≡ false
+unfolding ledgerRefusal
+never-fault k c = refused-with k c EFAULT refl ∙ not-true (eqb (ledgerRefusal k c) EFAULT) (rows-no-fault (ledgerView k) c)
+
+-- ---- room
+
+-- a queued send has one row more than a plain one, the last
+last-row : (x y z w : Bool)
+    → eqb (refusal (einval x ∷ esrch y ∷ eperm z ∷ eagain w ∷ [])) EAGAIN ≡ (eqb (refusal (einval x ∷ esrch y ∷ eperm z ∷ [])) 0 && w)
+unfolding refusal
+last-row true y z w = refl
+last-row false true z w = refl
+last-row false false true w = refl
+last-row false false false true = refl
+last-row false false false false = refl
+
+-- at most 32: at least 32 is exactly 32
+full : (n : ℕ) → n ≤ recordLimit → leb recordLimit n ≡ eqb n recordLimit
+full n h =
+    same-test (leb recordLimit n) (eqb n recordLimit)
+    (λ e. let i : recordLimit ≤ n = leb-true recordLimit n e in eq-eqb n recordLimit (omega arith))
+    (λ e. let i : n ≡ recordLimit = eqb-true n recordLimit e in le-leb recordLimit n (omega arith))
+
+module _ (st : Store) (k : Ledger) (h : Holds st k) where
+  pub pending-limit : (n : ℕ) → pendingWhere k (ofProcess n) ≤ recordLimit
+  pending-limit n = omega (arith, same-queued st k (h .isSound) (h .beside .agrees) n, within-limit st (h .isSound) n)
+
+  pub room-counted : (by to t s value : ℕ) → isRefusedWith EAGAIN (ledgerAnswer k (queue by to t s value))
+      ≡ (eqb (refusal (rows (ledgerView k) (kill by to t s))) 0
+      && (needsRecord (fate (ledgerView k) true (targetQueue to t) s) && eqb (pendingWhere k (ofProcess to)) recordLimit))
+  unfolding ledgerRefusal rows noRoom
+  room-counted by to t s value =
+      refused-with k (queue by to t s value) EAGAIN refl
+      ∙ last-row _ _ _ (noRoom (ledgerView k) to t s)
+      ∙ ap (λ (b : Bool). eqb (refusal (rows (ledgerView k) (kill by to t s))) 0 && (needsRecord (fate (ledgerView k) true (targetQueue to t) s) && b))
+      (unfold ledgerView in full (pendingWhere k (ofProcess to)) (pending-limit to))

@@ -1,0 +1,150 @@
+-- What holds of the tables and the ledger side by side: after a change, after a call. Assumes nothing.
+use Prim.Native.Nat.{ℕ}
+use mathlib.Core.Path.{_≡_, refl, sym, ap, _∙_, subst}
+use mathlib.Core.Bool.{Bool, true, false, not}
+use mathlib.Core.List.{List, [], _∷_, head?}
+use lib.Dec.{eqb}
+use borrow.Author.Tests.{eqb-true}
+use Rattle.lists.specs.Lists.{first}
+use Rattle.lists.proofs.Bools.{and-fst, and-snd, cond-true, split}
+use Rattle.lists.proofs.Lists.{first-keep}
+use Rattle.rules.specs.Types.{Queue, Process, Thread, Call, clear, addProcess, addThread, endProcess, endThread, kill, queue, action, mask, pending, look, who, take, return}
+use Rattle.rules.specs.View.{View, Change, newProcess, newThread, inQueue}
+use Rattle.rules.specs.Store.{Store, cleared, view, recordsFor, apply, applyAll}
+use Rattle.rules.specs.Sound.{freeZero, sound}
+use Rattle.rules.specs.Adding.{addProcessChanges}
+use Rattle.rules.specs.Refusals.{refusalOf}
+use Rattle.rules.specs.Calls.{changes, stages, step, isRefused}
+use Rattle.rules.specs.Fitting.{fits, fitsAll}
+use Rattle.rules.specs.Machine.{machine}
+use Rattle.rules.proofs.Clauses.{clauses}
+use Rattle.rules.proofs.Cleared.{sound-cleared}
+use Rattle.rules.proofs.Keeps.{fits-keeps}
+use Rattle.rules.proofs.Lasting.{isAddProcess, call-fits, accepted-sound-after}
+use Rattle.rules.proofs.Refused.{refused-by-table, refused-keeps}
+use Rattle.rules.proofs.Steps.{accepted-step}
+use Rattle.history.specs.Ledger.{Ledger, Entry, emptyLedger, ledgerView, note, noteAll, noteStages, enter}
+use Rattle.history.proofs.Relation.{Agrees}
+use Rattle.history.proofs.Agree.{free-threads, agrees-newProcess, agrees-newThread, agrees-start, agrees-change}
+use Rattle.history.proofs.Counted.{same-queued}
+use Rattle.history.proofs.Lines.{AllBalanced, balanced-start, balanced-change}
+use Rattle.history.proofs.Totals.{Total, total-start, total-newProcess, total-newThread, total-change}
+
+-- what needs no sound store: it holds between the two changes of an added process too
+pub record Beside (st : Store) (k : Ledger) : Type 0 where
+  pub agrees : Agrees st k
+  pub total : Total st k
+  pub balanced : AllBalanced k
+
+pub record Holds (st : Store) (k : Ledger) : Type 0 where
+  pub isSound : sound st ≡ true
+  pub beside : Beside st k
+
+-- ---- a change, a list of them
+
+holds-change : (ch : Change) (st : Store) (k : Ledger) → fits (view st) ch ≡ true → Holds st k → Holds (apply ch st) (note ch k)
+holds-change ch st k f h =
+    record {
+      isSound = fits-keeps ch st (h .isSound) f;
+      beside =
+          record {
+            agrees = agrees-change ch st k (h .isSound) f (h .beside .agrees);
+            total = total-change ch st k (h .isSound) f (h .beside .agrees) (h .beside .total);
+            balanced = balanced-change ch k (h .beside .balanced);
+          };
+    }
+
+holds-changes : (cs : List Change) (st : Store) (k : Ledger) → fitsAll cs st ≡ true → Holds st k → Holds (applyAll cs st) (noteAll cs k)
+unfolding fitsAll applyAll noteAll
+holds-changes [] st k f h = h
+holds-changes (c ∷ cs) st k f h =
+    holds-changes cs (apply c st) (note c k) (and-snd (fits (view st) c) (fitsAll cs (apply c st)) f)
+    (holds-change c st k (and-fst (fits (view st) c) (fitsAll cs (apply c st)) f) h)
+
+-- ---- what both say
+
+pub same-view : (st : Store) (k : Ledger) → Holds st k → view st ≡ ledgerView k
+unfolding view ledgerView
+same-view st k h =
+    let a : Agrees st k = h .beside .agrees in
+    let o : (q : Queue) (s : ℕ) → first (inQueue q s) (recordsFor q st) ≡ head? (k .lines q s .sends) = λ q s. first-keep (inQueue q s) (recordsFor q st) ∙ ap head? (a .records q s) in
+    λ i. record { processes = a .processes i; threads = a .threads i; marks = λ q s. a .marks q s i; oldest = λ q s. o q s i; queued = λ n. same-queued st k (h .isSound) a n i }
+
+-- ---- a call
+
+-- an added process: two changes, of which the first alone would leave it without a thread
+module _ (p : Process) (t : Thread) (st : Store) (k : Ledger) (h : Holds st k) where
+  abbrev both : List Change
+  both = newProcess p ∷ newThread t ∷ []
+
+  beside-added : Beside (applyAll both st) (noteAll both k)
+  unfolding applyAll noteAll
+  beside-added =
+      record {
+        agrees = agrees-newThread (apply (newProcess p) st) (note (newProcess p) k) (agrees-newProcess st k (h .beside .agrees) free p) (unfold apply in free-threads st free) t;
+        total = total-newThread t (apply (newProcess p) st) (note (newProcess p) k) (total-newProcess p st k (h .beside .total));
+        balanced = balanced-change (newThread t) (note (newProcess p) k) (balanced-change (newProcess p) k (h .beside .balanced));
+      }
+    where
+      free : freeZero st ≡ true
+      free = clauses st (h .isSound) .freePlaces
+
+module _ (c : Call) (st : Store) (k : Ledger) (u : machine c ≡ true) (e : refusalOf st c ≡ 0) (h : Holds st k) where
+  after-sound : sound (applyAll (changes (view st) c) st) ≡ true
+  after-sound = ap sound (sym (accepted-step c st e)) ∙ accepted-sound-after c st u e
+
+  fitting-holds : isAddProcess c ≡ false → Holds (applyAll (changes (view st) c) st) (noteAll (changes (view st) c) k)
+  fitting-holds a = holds-changes (changes (view st) c) st k (call-fits c st a e) h
+
+holds-accepted : (c : Call) (st : Store) (k : Ledger) → machine c ≡ true → refusalOf st c ≡ 0 → Holds st k
+    → Holds (applyAll (changes (view st) c) st) (noteAll (changes (view st) c) k)
+unfolding isAddProcess
+holds-accepted clear st k u e h = fitting-holds clear st k u e h refl
+holds-accepted (addProcess id real effective saved session thread m) st k u e h =
+    record {
+      isSound = after-sound (addProcess id real effective saved session thread m) st k u e h;
+      beside = unfold changes addProcessChanges in beside-added _ _ st k h;
+    }
+holds-accepted (addThread creator id) st k u e h = fitting-holds (addThread creator id) st k u e h refl
+holds-accepted (endProcess id) st k u e h = fitting-holds (endProcess id) st k u e h refl
+holds-accepted (endThread id) st k u e h = fitting-holds (endThread id) st k u e h refl
+holds-accepted (kill by to t s) st k u e h = fitting-holds (kill by to t s) st k u e h refl
+holds-accepted (queue by to t s value) st k u e h = fitting-holds (queue by to t s value) st k u e h refl
+holds-accepted (action p s new) st k u e h = fitting-holds (action p s new) st k u e h refl
+holds-accepted (mask t way set) st k u e h = fitting-holds (mask t way set) st k u e h refl
+holds-accepted (pending t) st k u e h = fitting-holds (pending t) st k u e h refl
+holds-accepted (look t) st k u e h = fitting-holds (look t) st k u e h refl
+holds-accepted (who p) st k u e h = fitting-holds (who p) st k u e h refl
+holds-accepted (take t) st k u e h = fitting-holds (take t) st k u e h refl
+holds-accepted (return t saved) st k u e h = fitting-holds (return t saved) st k u e h refl
+
+-- the ledger after an accepted call, by the view of the tables
+pub entered : (c : Call) (st : Store) (k : Ledger) → Holds st k → enter (record { call = c; refused = false }) k ≡ noteAll (changes (view st) c) k
+unfolding enter stages noteStages
+entered c st k h = ap (λ (v : View). noteAll (changes v c) k) (sym (same-view st k h))
+
+-- what the ledger is told of a call that the rules answer so
+abbrev pub tellOf : Call → Store → Entry
+tellOf c st = record { call = c; refused = isRefused (step c st .1) }
+
+-- "A refused call leaves it alone"
+left-alone : (c : Call) (st : Store) (k : Ledger) → isRefused (step c st .1) ≡ true → enter (tellOf c st) k ≡ k
+unfolding enter
+left-alone c st k n = cond-true k _ n
+
+pub holds-step : (c : Call) (st : Store) (k : Ledger) → machine c ≡ true → Holds st k → Holds (step c st .0) (enter (tellOf c st) k)
+holds-step c st k u h =
+    split (eqb (refusalOf st c) 0)
+    (λ z.
+    let e : refusalOf st c ≡ 0 = eqb-true (refusalOf st c) 0 z in
+    let n : isRefused (step c st .1) ≡ false = refused-by-table c st ∙ ap not z in
+    subst (λ (x : Store). Holds x (enter (tellOf c st) k)) (sym (accepted-step c st e))
+    (subst (λ (b : Bool). Holds (applyAll (changes (view st) c) st) (enter (record { call = c; refused = b }) k)) (sym n)
+    (subst (Holds (applyAll (changes (view st) c) st)) (sym (entered c st k h)) (holds-accepted c st k u e h))))
+    (λ z.
+    let n : isRefused (step c st .1) ≡ true = refused-by-table c st ∙ ap not z in
+    subst (λ (x : Store). Holds x (enter (tellOf c st) k)) (sym (refused-keeps c st n))
+    (subst (Holds st) (sym (left-alone c st k n)) h))
+
+pub holds-start : Holds cleared emptyLedger
+holds-start = record { isSound = sound-cleared; beside = record { agrees = agrees-start; total = total-start; balanced = balanced-start } }

@@ -1,0 +1,15 @@
+pub mod Relation
+pub mod Records
+pub mod Marks
+pub mod Agree
+pub mod Lines
+pub mod Counted
+pub mod Totals
+pub mod Widths
+pub mod Encoded
+pub mod Holds
+pub mod Answered
+pub mod Counting
+pub mod Tallies
+pub mod Looks
+pub mod Demand3

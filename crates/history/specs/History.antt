@@ -1,0 +1,125 @@
+-- A list of calls on the lent tables, from cleared ones on, and what the ledger is told of it.
+use Prim.Native.Nat.{ℕ}
+use mathlib.Core.Bool.{Bool, true, false, cond}
+use mathlib.Core.List.{List, [], _∷_}
+use lib.Dec.{eqb}
+use lib.ListN.{replicate}
+use Rattle.limits.specs.Limits.{processTable, threadTable, bufferBytes}
+use Rattle.siginfo.specs.Bytes.{bytesOf}
+use Rattle.rules.specs.Types.{Queue, Next, noNext, nextMark, nextRecord, Call, clear, addProcess, addThread, endProcess, endThread, kill, queue, action, mask, pending, look, who, take, return, Answer, refused, done, tested, acted, dropped, absorbed, marked, kept, oldAction, oldMask, pendingSet, looked, canTake, noneCan, nothing, handler, end, stop, noAction}
+use Rattle.rules.specs.View.{targetQueue, theThread}
+use Rattle.rules.specs.Taking.{next}
+use Rattle.rules.specs.Asking.{takenBy}
+use Rattle.rules.specs.Calls.{isRefused}
+use Rattle.answers.specs.Step.{Lent, lent, stepOn}
+use Rattle.history.specs.Ledger.{Ledger, Entry, isAt, ledgerView, ledgerRefusal, emptyLedger, enterAll}
+
+-- all zero
+unfoldable pub clearedTables : Lent
+clearedTables = lent (replicate processTable 0) (replicate threadTable 0) (replicate bufferBytes 0) (replicate bufferBytes 0)
+
+-- "Each gets the tables as the one before left them; nobody else writes them."
+unfoldable pub tablesAfter : List Call → Lent → Lent
+tablesAfter [] l = l
+tablesAfter (c ∷ cs) l = tablesAfter cs (stepOn c l .0)
+
+-- what the ledger is told of a call on the tables
+unfoldable pub entryOf : Call → Lent → Entry
+entryOf c l = record { call = c; refused = isRefused (stepOn c l .1) }
+
+unfoldable pub entriesOf : List Call → Lent → List Entry
+entriesOf [] l = []
+entriesOf (c ∷ cs) l = entryOf c l ∷ entriesOf cs (stepOn c l .0)
+
+-- the ledger after the calls
+unfoldable pub ledgerAfter : List Call → Ledger
+ledgerAfter cs = enterAll (entriesOf cs clearedTables) emptyLedger
+
+-- ---- what a call and its answer say of counts
+
+-- refused with this number
+unfoldable pub isRefusedWith : ℕ → Answer → Bool
+isRefusedWith n (refused m) = eqb m n
+isRefusedWith n done = false
+isRefusedWith n tested = false
+isRefusedWith n acted = false
+isRefusedWith n dropped = false
+isRefusedWith n absorbed = false
+isRefusedWith n marked = false
+isRefusedWith n kept = false
+isRefusedWith n (oldAction a) = false
+isRefusedWith n (oldMask m) = false
+isRefusedWith n (pendingSet m) = false
+isRefusedWith n (looked x) = false
+isRefusedWith n (canTake t) = false
+isRefusedWith n noneCan = false
+isRefusedWith n nothing = false
+isRefusedWith n (handler h s r flags saved) = false
+isRefusedWith n (end s) = false
+isRefusedWith n (stop s) = false
+isRefusedWith n (noAction s) = false
+
+unfoldable pub isKept : Answer → Bool
+isKept (refused n) = false
+isKept done = false
+isKept tested = false
+isKept acted = false
+isKept dropped = false
+isKept absorbed = false
+isKept marked = false
+isKept kept = true
+isKept (oldAction a) = false
+isKept (oldMask m) = false
+isKept (pendingSet m) = false
+isKept (looked n) = false
+isKept (canTake t) = false
+isKept noneCan = false
+isKept nothing = false
+isKept (handler n s r flags saved) = false
+isKept (end s) = false
+isKept (stop s) = false
+isKept (noAction s) = false
+
+-- the call is a queued send of that signal to that queue
+unfoldable pub keepsAt : Call → Queue → ℕ → Bool
+keepsAt clear q s = false
+keepsAt (addProcess id real effective saved session thread m) q s = false
+keepsAt (addThread creator id) q s = false
+keepsAt (endProcess id) q s = false
+keepsAt (endThread id) q s = false
+keepsAt (kill by to t n) q s = false
+keepsAt (queue by to t n value) q s = isAt (targetQueue to t) n q s
+keepsAt (action p n new) q s = false
+keepsAt (mask t way set) q s = false
+keepsAt (pending t) q s = false
+keepsAt (look t) q s = false
+keepsAt (who p) q s = false
+keepsAt (take t) q s = false
+keepsAt (return t saved) q s = false
+
+-- it is a send of that signal in that queue
+unfoldable pub isSendAt : Next → Queue → ℕ → Bool
+isSendAt noNext q s = false
+isSendAt (nextMark j n) q s = false
+isSendAt (nextRecord j n r) q s = isAt j n q s
+
+unfoldable pub isSend : Next → Bool
+isSend noNext = false
+isSend (nextMark q s) = false
+isSend (nextRecord q s r) = true
+
+abbrev pub takesAt : Ledger → Call → Queue → ℕ → Bool
+takesAt k c = isSendAt (takenBy (ledgerView k) c)
+
+abbrev pub takesOne : Ledger → Call → Bool
+takesOne k c = isSend (takenBy (ledgerView k) c)
+
+-- the bytes of what is next: of a send its record's, else none
+unfoldable pub nextBytes : Next → List ℕ
+nextBytes noNext = []
+nextBytes (nextMark q s) = []
+nextBytes (nextRecord q s r) = bytesOf r
+
+-- the bytes that the ledger says a look hands back: "a refused look is the empty part too"
+unfoldable pub lookedBytes : Ledger → (thread : ℕ) → List ℕ
+lookedBytes k t = cond (eqb (ledgerRefusal k (look t)) 0) (nextBytes (next (ledgerView k) (theThread (ledgerView k) t))) []
