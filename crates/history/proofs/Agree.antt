@@ -7,18 +7,17 @@ use lib.Dec.{eqb}
 use lib.ListN.{replicate}
 use Rattle.limits.specs.Limits.{processPlaces, threadPlaces, bufferRecords, siQueue}
 use Rattle.lists.specs.Lists.{all, any, change, keep, replaceFirst}
-use Rattle.lists.proofs.Bools.{clash, and-fst, and-snd, and-right, or-both, cond-map, cond-same}
+use Rattle.lists.proofs.Bools.{clash, and-fst, and-snd, and-right, or-both, cond-map, cond-kept, cond-same}
 use Rattle.lists.proofs.Lists.{map-change, map-replaceFirst, any-changed, any-replicate, leading-replicate}
 use Rattle.lists.proofs.Sublists.{keep-within}
 use Rattle.sigset.specs.declared.SigSet.{SigSet}
 use Rattle.sigset.specs.Set.{has}
 use Rattle.types.specs.declared.Siginfo.{Siginfo}
-use Rattle.types.specs.declared.Action.{Action}
 use Rattle.types.specs.Values.{noSiginfo}
 use Rattle.rules.specs.Types.{Process, Thread, Queue, noProcess, noThread}
 use Rattle.rules.specs.Signals.{isSignal}
-use Rattle.rules.specs.View.{Change, forget, newProcess, newThread, removeProcess, removeThread, setStopped, setAction, setMask, setMark, clearMark, append, dropOldest, discard, isProcess, isThread, belongsTo, queueOf, inQueue, liveThread}
-use Rattle.rules.specs.Store.{Store, held, view, inUse, used, recordsFor, markIn, spared, processMark, threadMark, freeProcess, freeThread, isFreeProcess, isFreeThread, withStopped, withAction, withMask, cleared, apply}
+use Rattle.rules.specs.View.{sameQueue, processQueue, Change, forget, newProcess, newThread, removeProcess, removeThread, setStopped, setAction, setMask, setMark, clearMark, append, dropOldest, discard, isProcess, isThread, belongsTo, queueOf, inQueue, liveThread}
+use Rattle.rules.specs.Store.{Store, held, view, inUse, used, recordsFor, markIn, spared, processMark, threadMark, amend, onProcesses, freeProcess, freeThread, isFreeProcess, isFreeThread, withStopped, withAction, withMask, cleared, apply}
 use Rattle.rules.specs.Sound.{ifFree, processId, threadId, zeroProcess, zeroThread, nameable, freeZero, sound}
 use Rattle.rules.specs.Fitting.{admits, liveQueue, fits}
 use Rattle.rules.proofs.Clauses.{clauses}
@@ -28,53 +27,44 @@ use Rattle.rules.proofs.Queues.{queue-target, target-process}
 use Rattle.rules.proofs.Seen.{seen-setMark-processes, seen-setMark-threads, seen-clearMark-processes, seen-clearMark-threads, seen-discard-processes, seen-discard-threads}
 use Rattle.rules.proofs.Slots.{zero-free}
 use Rattle.rules.proofs.Vacated.{held-vacated, free-process-unmarked, free-thread-unmarked}
+use Rattle.history.specs.Ledger as ledger
 use Rattle.history.specs.Ledger.{Line, Ledger, emptyLedger, emptyLine, withMark, keepSend, takeSend, isAt, ofProcess, note}
 use Rattle.history.proofs.Relation.{Agrees}
 use Rattle.history.proofs.Records.{keep-left, both-buffers, append-records, drop-records}
 use Rattle.history.proofs.Marks.{remove-process-marks, remove-thread-marks, new-process-marks, new-thread-marks, set-marks, clear-marks}
 
--- ---- one line
+-- ---- one line that may change
+
+abbrev sendsOf : Line → List Siginfo
+sendsOf x = x .sends
+
+abbrev markOf : Line → Bool
+markOf x = x .mark
 
 module _ (b : Bool) (x : Line) where
-  -- an emptied one has no sends and no mark
-  emptied-sends : (rs : List Siginfo) → rs ≡ x .sends → cond b [] rs ≡ cond b (emptyLine x) x .sends
-  emptied-sends rs e = ap (λ (y : List Siginfo). cond b [] y) e ∙ sym (cond-map (λ (y : Line). y .sends) b (emptyLine x) x)
+  module _ {A : Type 0} (f : Line → A) (g : Line → Line) where
+    -- a part that the change leaves
+    left-part : f (g x) ≡ f x → f (cond b (g x) x) ≡ f x
+    left-part e = cond-map f b (g x) x ∙ cond-kept b (λ _. e)
 
-  emptied-mark : (m : Bool) → m ≡ x .mark → (m && not b) ≡ cond b (emptyLine x) x .mark
-  emptied-mark m e = go b
-    where
-      go : (c : Bool) → (m && not c) ≡ cond c (emptyLine x) x .mark
-      go true = and-false m
-      go false = and-true m ∙ e
+    -- and one that it makes anew
+    made-part : (y : A) → y ≡ f x → cond b (f (g x)) y ≡ f (cond b (g x) x)
+    made-part y e = ap (λ (z : A). cond b (f (g x)) z) e ∙ sym (cond-map f b (g x) x)
 
-  -- a change of the sends alone leaves the mark, and the other way round
-  same-mark : (g : Line → Line) → g x .mark ≡ x .mark → cond b (g x) x .mark ≡ x .mark
-  same-mark g e = go b
+  -- a mark that goes where b holds, and one that comes
+  unmarked : (g : Line → Line) → g x .mark ≡ false → (m : Bool) → m ≡ x .mark → (m && not b) ≡ cond b (g x) x .mark
+  unmarked g z m e = goes b ∙ ap (λ (y : Bool). cond b y m) (sym z) ∙ made-part markOf g m e
     where
-      go : (c : Bool) → cond c (g x) x .mark ≡ x .mark
-      go true = e
-      go false = refl
+      goes : (c : Bool) → (m && not c) ≡ cond c false m
+      goes true = and-false m
+      goes false = and-true m
 
-  same-sends : (g : Line → Line) → g x .sends ≡ x .sends → cond b (g x) x .sends ≡ x .sends
-  same-sends g e = go b
+  marked : (m : Bool) → m ≡ x .mark → (m || b) ≡ cond b (withMark true x) x .mark
+  marked m e = comes b ∙ made-part markOf (withMark true) m e
     where
-      go : (c : Bool) → cond c (g x) x .sends ≡ x .sends
-      go true = e
-      go false = refl
-
-  set-mark : (m : Bool) → m ≡ x .mark → (m || b) ≡ cond b (withMark true x) x .mark
-  set-mark m e = go b
-    where
-      go : (c : Bool) → (m || c) ≡ cond c (withMark true x) x .mark
-      go true = or-true m
-      go false = or-false m ∙ e
-
-  clear-mark : (m : Bool) → m ≡ x .mark → (m && not b) ≡ cond b (withMark false x) x .mark
-  clear-mark m e = go b
-    where
-      go : (c : Bool) → (m && not c) ≡ cond c (withMark false x) x .mark
-      go true = and-false m
-      go false = and-true m ∙ e
+      comes : (c : Bool) → (m || c) ≡ cond c true m
+      comes true = or-true m
+      comes false = or-false m
 
 -- ---- the changes
 
@@ -85,24 +75,18 @@ free-threads st z = and-snd (all (ifFree processId zeroProcess) (st .processes))
 
 module _ (st : Store) (k : Ledger) (a : Agrees st k) where
   -- a process or a thread amended keeps its queue
-  agrees-setStopped : (n b : ℕ) → Agrees (apply (setStopped n b) st) (note (setStopped n b) k)
-  unfolding apply note recordsFor markIn
-  agrees-setStopped n b =
+  agrees-amended : (n : ℕ) (g : Process → Process) → ((p : Process) → g p .id ≡ p .id)
+      → Agrees (onProcesses (amend (isProcess n) g) st) (ledger.onProcesses (change (isProcess n) g) k)
+  unfolding recordsFor markIn
+  agrees-amended n g h =
       record {
-        processes = map-change held (isProcess n) _ (withStopped b) (λ x. refl) (st .processes) ∙ ap (change (isProcess n) (withStopped b)) (a .processes);
+        processes = map-change held (isProcess n) _ g (λ x. refl) (st .processes) ∙ ap (change (isProcess n) g) (a .processes);
         threads = a .threads;
         records = a .records;
-        marks = λ q s. ap (λ (m : Bool). isSignal s && (m || any (threadMark q s) (st .threads))) (any-changed (processMark q s) _ _ (st .processes) (λ x _. refl)) ∙ a .marks q s;
-      }
-
-  agrees-setAction : (n s : ℕ) (c : Action) → Agrees (apply (setAction n s c) st) (note (setAction n s c) k)
-  unfolding apply note recordsFor markIn
-  agrees-setAction n i c =
-      record {
-        processes = map-change held (isProcess n) _ (withAction i c) (λ x. refl) (st .processes) ∙ ap (change (isProcess n) (withAction i c)) (a .processes);
-        threads = a .threads;
-        records = a .records;
-        marks = λ q s. ap (λ (m : Bool). isSignal s && (m || any (threadMark q s) (st .threads))) (any-changed (processMark q s) _ _ (st .processes) (λ x _. refl)) ∙ a .marks q s;
+        marks = λ q s.
+            ap (λ (m : Bool). isSignal s && (m || any (threadMark q s) (st .threads)))
+            (any-changed (processMark q s) _ _ (st .processes) (λ x _. ap (λ (i : ℕ). sameQueue q (processQueue i) && has (x .marks) s) (h (x .holds))))
+            ∙ a .marks q s;
       }
 
   agrees-setMask : (n : ℕ) (m : SigSet) → Agrees (apply (setMask n m) st) (note (setMask n m) k)
@@ -146,8 +130,8 @@ module _ (st : Store) (k : Ledger) (a : Agrees st k) where
         records = λ q s.
             ap (keep (inQueue q s)) (both-buffers (keep (λ (r : Siginfo). not (eqb (r .process) n))) (keep-within _) (eqb (q .thread) 0) (st .processBuffer) (st .threadBuffer))
             ∙ keep-left (ofProcess n) (λ (r : Siginfo). not (eqb (r .process) n)) (λ r. refl) q s (recordsFor q st)
-            ∙ emptied-sends (eqb (q .process) n) (k .lines q s) _ (a .records q s);
-        marks = λ q s. remove-process-marks st q s n z ∙ emptied-mark (eqb (q .process) n) (k .lines q s) (markIn st q s) (a .marks q s);
+            ∙ made-part (eqb (q .process) n) (k .lines q s) sendsOf emptyLine _ (a .records q s);
+        marks = λ q s. remove-process-marks st q s n z ∙ unmarked (eqb (q .process) n) (k .lines q s) emptyLine refl (markIn st q s) (a .marks q s);
       }
 
   agrees-removeThread : (n : ℕ) → eqb n 0 ≡ false → Agrees (apply (removeThread n) st) (note (removeThread n) k)
@@ -159,8 +143,8 @@ module _ (st : Store) (k : Ledger) (a : Agrees st k) where
         records = λ q s.
             ap (keep (inQueue q s)) (both-buffers (keep (λ (r : Siginfo). not (eqb (r .thread) n))) (keep-within _) (eqb (q .thread) 0) (st .processBuffer) (st .threadBuffer))
             ∙ keep-left (λ (j : Queue) _. eqb (j .thread) n) (λ (r : Siginfo). not (eqb (r .thread) n)) (λ r. refl) q s (recordsFor q st)
-            ∙ emptied-sends (eqb (q .thread) n) (k .lines q s) _ (a .records q s);
-        marks = λ q s. remove-thread-marks st q s n z ∙ emptied-mark (eqb (q .thread) n) (k .lines q s) (markIn st q s) (a .marks q s);
+            ∙ made-part (eqb (q .thread) n) (k .lines q s) sendsOf emptyLine _ (a .records q s);
+        marks = λ q s. remove-thread-marks st q s n z ∙ unmarked (eqb (q .thread) n) (k .lines q s) emptyLine refl (markIn st q s) (a .marks q s);
       }
 
   agrees-discard : (n : ℕ) (x : SigSet) → Agrees (apply (discard n x) st) (note (discard n x) k)
@@ -172,8 +156,8 @@ module _ (st : Store) (k : Ledger) (a : Agrees st k) where
         records = λ q s.
             ap (keep (inQueue q s)) (discard-records n x st q)
             ∙ keep-left (λ (j : Queue) (i : ℕ). eqb (j .process) n && has x i) (spared n x) (λ r. refl) q s (recordsFor q st)
-            ∙ emptied-sends (eqb (q .process) n && has x s) (k .lines q s) _ (a .records q s);
-        marks = λ q s. discard-marks n x st q s ∙ emptied-mark (eqb (q .process) n && has x s) (k .lines q s) (markIn st q s) (a .marks q s);
+            ∙ made-part (eqb (q .process) n && has x s) (k .lines q s) sendsOf emptyLine _ (a .records q s);
+        marks = λ q s. discard-marks n x st q s ∙ unmarked (eqb (q .process) n && has x s) (k .lines q s) emptyLine refl (markIn st q s) (a .marks q s);
       }
 
   agrees-setMark : (j : Queue) (n : ℕ) → admits (view st) j n ≡ true → Agrees (apply (setMark j n) st) (note (setMark j n) k)
@@ -184,8 +168,8 @@ module _ (st : Store) (k : Ledger) (a : Agrees st k) where
       record {
         processes = unfold view in seen-setMark-processes st j n ∙ a .processes;
         threads = unfold view in seen-setMark-threads st j n ∙ a .threads;
-        records = λ q s. unfold apply recordsFor in a .records q s ∙ sym (same-sends (isAt j n q s) (k .lines q s) (withMark true) refl);
-        marks = λ q s. set-marks st q s j n (and-fst (liveQueue (view st) j) _ f) i ∙ set-mark (isAt j n q s) (k .lines q s) (markIn st q s) (a .marks q s);
+        records = λ q s. unfold apply recordsFor in a .records q s ∙ sym (left-part (isAt j n q s) (k .lines q s) sendsOf (withMark true) refl);
+        marks = λ q s. set-marks st q s j n (and-fst (liveQueue (view st) j) _ f) i ∙ marked (isAt j n q s) (k .lines q s) (markIn st q s) (a .marks q s);
       }
 
   agrees-clearMark : (j : Queue) (n : ℕ) → Agrees (apply (clearMark j n) st) (note (clearMark j n) k)
@@ -194,8 +178,8 @@ module _ (st : Store) (k : Ledger) (a : Agrees st k) where
       record {
         processes = unfold view in seen-clearMark-processes st j n ∙ a .processes;
         threads = unfold view in seen-clearMark-threads st j n ∙ a .threads;
-        records = λ q s. unfold apply recordsFor in a .records q s ∙ sym (same-sends (isAt j n q s) (k .lines q s) (withMark false) refl);
-        marks = λ q s. clear-marks st q s j n ∙ clear-mark (isAt j n q s) (k .lines q s) (markIn st q s) (a .marks q s);
+        records = λ q s. unfold apply recordsFor in a .records q s ∙ sym (left-part (isAt j n q s) (k .lines q s) sendsOf (withMark false) refl);
+        marks = λ q s. clear-marks st q s j n ∙ unmarked (isAt j n q s) (k .lines q s) (withMark false) refl (markIn st q s) (a .marks q s);
       }
 
   agrees-append : (r : Siginfo) → inUse r ≡ true → Agrees (apply (append r) st) (note (append r) k)
@@ -207,8 +191,8 @@ module _ (st : Store) (k : Ledger) (a : Agrees st k) where
         records = λ q s.
             append-records r u st q s
             ∙ ap (λ (rs : List Siginfo). cond (inQueue q s r) (rs ++ (r ∷ [])) rs) (a .records q s)
-            ∙ sym (cond-map (λ (y : Line). y .sends) (inQueue q s r) (keepSend r (k .lines q s)) (k .lines q s));
-        marks = λ q s. unfold apply markIn in a .marks q s ∙ sym (same-mark (inQueue q s r) (k .lines q s) (keepSend r) refl);
+            ∙ sym (cond-map sendsOf (inQueue q s r) (keepSend r (k .lines q s)) (k .lines q s));
+        marks = λ q s. unfold apply markIn in a .marks q s ∙ sym (left-part (inQueue q s r) (k .lines q s) markOf (keepSend r) refl);
       }
 
   agrees-dropOldest : (j : Queue) (n : ℕ) → Agrees (apply (dropOldest j n) st) (note (dropOldest j n) k)
@@ -220,8 +204,8 @@ module _ (st : Store) (k : Ledger) (a : Agrees st k) where
         records = λ q s.
             drop-records j n st q s
             ∙ ap (λ (rs : List Siginfo). cond (isAt j n q s) (tail rs) rs) (a .records q s)
-            ∙ sym (cond-map (λ (y : Line). y .sends) (isAt j n q s) (takeSend (k .lines q s)) (k .lines q s));
-        marks = λ q s. unfold apply markIn in a .marks q s ∙ sym (same-mark (isAt j n q s) (k .lines q s) takeSend refl);
+            ∙ sym (cond-map sendsOf (isAt j n q s) (takeSend (k .lines q s)) (k .lines q s));
+        marks = λ q s. unfold apply markIn in a .marks q s ∙ sym (left-part (isAt j n q s) (k .lines q s) markOf takeSend refl);
       }
 
 -- ---- cleared tables
@@ -260,8 +244,8 @@ agrees-change (newProcess p) st k e f a = clash f refl
 agrees-change (newThread t) st k e f a = agrees-newThread st k a (free-threads st (clauses st e .freePlaces)) t
 agrees-change (removeProcess n) st k e f a = agrees-removeProcess st k a n (process-named st n f)
 agrees-change (removeThread n) st k e f a = agrees-removeThread st k a n (thread-named st n (and-fst (liveThread (view st) n) _ f))
-agrees-change (setStopped n b) st k e f a = agrees-setStopped st k a n b
-agrees-change (setAction n s c) st k e f a = agrees-setAction st k a n s c
+agrees-change (setStopped n b) st k e f a = unfold apply note in agrees-amended st k a n (withStopped b) (λ p. refl)
+agrees-change (setAction n s c) st k e f a = unfold apply note in agrees-amended st k a n (withAction s c) (λ p. refl)
 agrees-change (setMask n m) st k e f a = agrees-setMask st k a n m
 agrees-change (setMark q s) st k e f a = agrees-setMark st k a q s f
 agrees-change (clearMark q s) st k e f a = agrees-clearMark st k a q s

@@ -10,8 +10,8 @@ use lib.ListN.{length, drop}
 use Rattle.limits.specs.Limits.{recordLimit, EAGAIN, EFAULT}
 use Rattle.lists.specs.Lists.{all, keep}
 use Rattle.types.specs.declared.Siginfo.{Siginfo}
-use Rattle.rules.specs.Types.{Queue, Call, kill, queue, take, Answer, nextRecord}
-use Rattle.rules.specs.View.{inQueue, targetQueue, liveThread, theThread, threadAction}
+use Rattle.rules.specs.Types.{Thread, Queue, Call, kill, queue, take, Answer, nextRecord}
+use Rattle.rules.specs.View.{View, inQueue, targetQueue, liveThread, theThread, threadAction}
 use Rattle.rules.specs.Store.{held, used, recordsFor, markIn}
 use Rattle.rules.specs.Sending.{fate, needsRecord}
 use Rattle.rules.specs.Taking.{next, delivered}
@@ -31,6 +31,13 @@ module _ (l : Lent) (k : Ledger) where
   abbrev pub queued : Queue → ℕ → List Siginfo
   queued q s = keep (inQueue q s) (recordsFor q (decoded l))
 
+  -- what the rules read in the ledger
+  abbrev pub seen : View
+  seen = ledgerView k
+
+  abbrev pub thread : ℕ → Thread
+  thread = theThread seen
+
   -- the answer of one call more, and the ledger after it
   abbrev pub answered : Call → Answer
   answered c = stepOn c l .1
@@ -41,10 +48,10 @@ module _ (l : Lent) (k : Ledger) where
   -- thread t takes the send r of the signal s in the queue q
   pub record Took (t : ℕ) (q : Queue) (s : ℕ) (r : Siginfo) : Type 0 where
     -- "to one thread of that process that did not block it, while the process was not stopped"
-    pub allowed : MayTake (ledgerView k) (theThread (ledgerView k) t) q s
+    pub allowed : MayTake seen (thread t) q s
     -- "A take removes the oldest send .. and answers by it."
     pub oldest : k .lines q s .sends ≡ r ∷ tail (k .lines q s .sends)
-    pub answers : answered (take t) ≡ delivered (theThread (ledgerView k) t) (threadAction (ledgerView k) (theThread (ledgerView k) t) s) r
+    pub answers : answered (take t) ≡ delivered (thread t) (threadAction seen (thread t) s) r
     -- "Each taken record went once": it is gone from its list, and the others with it where what the take sets off empties that
     pub gone : (after (take t) .lines q s .sends ≡ tail (k .lines q s .sends)) ⊎ (after (take t) .lines q s .sends ≡ [])
 
@@ -57,17 +64,17 @@ module _ (l : Lent) (k : Ledger) where
     pub marks : (q : Queue) (s : ℕ) → markIn (decoded l) q s ≡ k .lines q s .mark
     pub processes : map held (decoded l .processes) ≡ k .processes
     pub threads : map held (decoded l .threads) ≡ k .threads
-    -- 01: "and the calls' answers and refusals against what is read there"; a look's is the bytes
+    -- 01: "and the calls' answers and refusals"; of a look, the bytes too
     pub answers : (c : Call) → answered c ≡ ledgerAnswer k c
     pub looks : (t : ℕ) → lookBytes t l ≡ lookedBytes k t
     -- errno 14 is never given: no call of such a list finds the tables other than sound
     pub noFault : (c : Call) → isRefusedWith EFAULT (answered c) ≡ false
     -- "Each taken record went once, to one thread of that process that did not block it, while the process was not stopped."
-    pub takes : (t : ℕ) → liveThread (ledgerView k) t ≡ true → (q : Queue) (s : ℕ) (r : Siginfo)
-        → next (ledgerView k) (theThread (ledgerView k) t) ≡ nextRecord q s r → Took t q s r
+    pub takes : (t : ℕ) → liveThread seen t ≡ true → (q : Queue) (s : ℕ) (r : Siginfo)
+        → next seen (thread t) ≡ nextRecord q s r → Took t q s r
     -- "Asking a live thread for a signal yields one exactly when its process is not stopped and a signal that it does not block is pending for it or for
     -- its process."
-    pub asking : (t : ℕ) → liveThread (ledgerView k) t ≡ true → yieldsOne (answered (take t)) ≡ hasOffer (ledgerView k) (theThread (ledgerView k) t)
+    pub asking : (t : ℕ) → liveThread seen t ≡ true → yieldsOne (answered (take t)) ≡ hasOffer seen (thread t)
     -- "Of records, kept equals taken plus discarded plus pending": of a signal in a queue, and of all
     pub balance : (q : Queue) (s : ℕ)
         → k .lines q s .counts .kept ≡ k .lines q s .counts .taken + k .lines q s .counts .discarded + length (queued q s)
@@ -80,11 +87,11 @@ module _ (l : Lent) (k : Ledger) where
     pub takenCounted : (c : Call) (q : Queue) (s : ℕ)
         → after c .lines q s .counts .taken ≡ k .lines q s .counts .taken + cond (yieldsOne (answered c) && takesAt k c q s) 1 0
     pub takenTotal : (c : Call) → after c .total .taken ≡ k .total .taken + cond (yieldsOne (answered c) && takesOne k c) 1 0
-    -- "and room given back is used again": a send is refused for room exactly when the others' rows let it pass, it needs a record, and the sends pending
-    -- for the process are 32 now; they are never more
+    -- "and room given back is used again": a queued send is refused for room exactly when a plain one would pass, it needs a record, and the sends pending
+    -- for the process are 32 then; they are never more
     pub room : (by to t s value : ℕ) → isRefusedWith EAGAIN (answered (queue by to t s value))
-        ≡ (eqb (refusal (rows (ledgerView k) (kill by to t s))) 0
-        && (needsRecord (fate (ledgerView k) true (targetQueue to t) s) && eqb (pendingWhere k (ofProcess to)) recordLimit))
+        ≡ (eqb (refusal (rows seen (kill by to t s))) 0
+        && (needsRecord (fate seen true (targetQueue to t) s) && eqb (pendingWhere k (ofProcess to)) recordLimit))
     pub limit : (n : ℕ) → pendingWhere k (ofProcess n) ≤ recordLimit
 
 -- "Start from a cleared store and make a list of calls on the tables .., refused ones included." The calls are the dispatcher's; of each `calls::step`

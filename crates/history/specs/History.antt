@@ -14,7 +14,7 @@ use Rattle.rules.specs.Calls.{isRefused}
 use Rattle.answers.specs.Step.{Lent, lent, stepOn}
 use Rattle.history.specs.Ledger.{Ledger, Entry, isAt, ledgerView, ledgerRefusal, emptyLedger, enterAll}
 
--- all zero
+-- all zero: what clearing leaves of any tables of the right lengths (law `clear-clears` in proofs/Encoded)
 unfoldable pub clearedTables : Lent
 clearedTables = lent (replicate processTable 0) (replicate threadTable 0) (replicate bufferBytes 0) (replicate bufferBytes 0)
 

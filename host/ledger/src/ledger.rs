@@ -1,0 +1,298 @@
+//! The ledger: it starts empty and is told of each call its arguments and whether it was refused, and nothing of the tables.
+
+use crate::call::{AddProcess, Call, Send};
+use crate::limits::*;
+use crate::reading::Fate;
+use crate::side::{bit, Action, Process, Queue, Record, Side, Thread};
+use std::collections::{BTreeMap, VecDeque};
+
+/// How many sends were kept, taken and discarded. No event sets them back.
+#[derive(Clone, Copy, Debug, Default, PartialEq, Eq)]
+pub struct Counts {
+    pub kept: usize,
+    pub taken: usize,
+    pub discarded: usize,
+}
+
+/// What stands for one queue and signal.
+#[derive(Debug, Default)]
+pub(crate) struct Line {
+    /// The oldest first.
+    pub(crate) sends: VecDeque<Record>,
+    pub(crate) mark: bool,
+    pub(crate) counts: Counts,
+}
+
+#[derive(Debug, Default)]
+pub struct Ledger {
+    /// In places, like the threads: what is added goes into the lowest free one.
+    pub(crate) processes: Vec<Option<Process>>,
+    pub(crate) threads: Vec<Option<Thread>>,
+    pub(crate) lines: BTreeMap<(Queue, u32), Line>,
+}
+
+/// What a mask may hold of a set.
+fn maskable(set: u64) -> u64 {
+    set & !(bit(SIGKILL) | bit(SIGSTOP))
+}
+
+fn add<T>(places: &mut Vec<Option<T>>, new: T) {
+    match places.iter().position(Option::is_none) {
+        Some(free) => places[free] = Some(new),
+        None => places.push(Some(new)),
+    }
+}
+
+fn remove<T>(places: &mut [Option<T>], gone: impl Fn(&T) -> bool) {
+    for place in places {
+        if place.as_ref().is_some_and(&gone) {
+            *place = None;
+        }
+    }
+}
+
+impl Ledger {
+    pub fn enter(&mut self, call: &Call, refused: bool) {
+        if refused {
+            return;
+        }
+        match *call {
+            Call::Clear => self.clear(),
+            Call::AddProcess(new) => self.add_process(new),
+            Call::AddThread { creator, id } => self.add_thread(creator, id),
+            Call::EndProcess { id } => self.end_process(id),
+            Call::EndThread { id } => self.end_thread(id),
+            Call::Send(send) => self.send(send),
+            Call::Action {
+                process,
+                signal,
+                new: Some(new),
+            } => self.store(process, signal, new),
+            Call::Mask {
+                thread,
+                way,
+                set: Some(set),
+            } => self.change_mask(thread, way, set),
+            Call::Take { thread } => self.take(thread),
+            Call::Return { thread, mask } => self.change_mask(thread, SIG_SETMASK, mask),
+            // those that only ask
+            Call::Action { .. } | Call::Mask { .. } => {}
+            Call::Pending { .. } | Call::Look { .. } | Call::Who { .. } => {}
+        }
+    }
+
+    /// The counts of each queue and signal for which a send was ever kept.
+    pub fn counts(&self) -> BTreeMap<(Queue, u32), Counts> {
+        self.lines
+            .iter()
+            .filter(|(_, line)| line.counts.kept > 0)
+            .map(|(&key, line)| (key, line.counts))
+            .collect()
+    }
+
+    /// What it says is live and pending.
+    pub fn side(&self) -> Side {
+        let mut side = Side::default();
+        for process in self.processes.iter().flatten() {
+            side.processes.insert(process.id, process.clone());
+        }
+        for &thread in self.threads.iter().flatten() {
+            side.threads.insert(thread.id, thread);
+        }
+        for (&(queue, signal), line) in &self.lines {
+            if line.mark {
+                side.marks.entry(queue).or_default().insert(signal);
+            }
+            if !line.sends.is_empty() {
+                let sends = line.sends.iter().copied().collect();
+                side.records.insert((queue, signal), sends);
+            }
+        }
+        side
+    }
+
+    /// An emptying event: the sends of these queues and signals are discarded, and their marks go.
+    fn discard(&mut self, doomed: impl Fn(Queue, u32) -> bool) {
+        for (&(queue, signal), line) in &mut self.lines {
+            if doomed(queue, signal) {
+                line.counts.discarded += line.sends.len();
+                line.sends.clear();
+                line.mark = false;
+            }
+        }
+    }
+
+    fn discard_signals(&mut self, process: u32, signals: &[u32]) {
+        self.discard(|queue, signal| queue.process == process && signals.contains(&signal));
+    }
+
+    fn line(&mut self, queue: Queue, signal: u32) -> &mut Line {
+        self.lines.entry((queue, signal)).or_default()
+    }
+
+    fn process_mut(&mut self, id: u32) -> Option<&mut Process> {
+        self.processes.iter_mut().flatten().find(|p| p.id == id)
+    }
+
+    fn set_stopped(&mut self, process: u32, stopped: bool) {
+        if let Some(process) = self.process_mut(process) {
+            process.stopped = stopped;
+        }
+    }
+
+    fn set_mask(&mut self, thread: u32, mask: u64) {
+        let found = self.threads.iter_mut().flatten().find(|t| t.id == thread);
+        if let Some(found) = found {
+            found.mask = maskable(mask);
+        }
+    }
+
+    fn clear(&mut self) {
+        self.discard(|_, _| true);
+        self.processes.clear();
+        self.threads.clear();
+    }
+
+    fn add_process(&mut self, new: AddProcess) {
+        let process = Process {
+            id: new.id,
+            real: new.real,
+            effective: new.effective,
+            saved: new.saved,
+            session: new.session,
+            stopped: false,
+            actions: BTreeMap::new(),
+        };
+        let thread = Thread {
+            id: new.thread,
+            process: new.id,
+            mask: maskable(new.mask),
+        };
+        add(&mut self.processes, process);
+        add(&mut self.threads, thread);
+    }
+
+    fn add_thread(&mut self, creator: u32, id: u32) {
+        if let Some(&creator) = self.thread(creator) {
+            add(&mut self.threads, Thread { id, ..creator });
+        }
+    }
+
+    fn end_process(&mut self, id: u32) {
+        self.discard(|queue, _| queue.process == id);
+        remove(&mut self.processes, |process| process.id == id);
+        remove(&mut self.threads, |thread| thread.process == id);
+    }
+
+    fn end_thread(&mut self, id: u32) {
+        let Some(&Thread { process, .. }) = self.thread(id) else {
+            return;
+        };
+        if self.threads_of(process).count() == 1 {
+            self.end_process(process);
+        } else {
+            self.discard(|queue, _| queue.thread == id);
+            remove(&mut self.threads, |thread| thread.id == id);
+        }
+    }
+
+    /// Document 01's five steps; the fate is that of the send before they change anything.
+    fn send(&mut self, send: Send) {
+        let fate = self.fate(send);
+        self.act(send.to, send.signal);
+        match fate {
+            Fate::Marked => self.line(send.queue(), send.signal).mark = true,
+            Fate::Kept => {
+                let record = self.record(send);
+                let line = self.line(send.queue(), send.signal);
+                line.sends.push_back(record);
+                line.counts.kept += 1;
+            }
+            Fate::Tested | Fate::Acted | Fate::Dropped | Fate::Absorbed => {}
+        }
+    }
+
+    /// Steps 1 and 2.
+    fn act(&mut self, process: u32, signal: u32) {
+        match signal {
+            SIGKILL => self.end_process(process),
+            SIGSTOP => {
+                self.discard_signals(process, &[SIGCONT]);
+                self.set_stopped(process, true);
+            }
+            SIGTSTP | SIGTTIN | SIGTTOU => self.discard_signals(process, &[SIGCONT]),
+            SIGCONT => {
+                self.discard_signals(process, &[SIGTSTP, SIGTTIN, SIGTTOU]);
+                self.set_stopped(process, false);
+            }
+            _ => {}
+        }
+    }
+
+    fn store(&mut self, process: u32, signal: u32, new: Action) {
+        let stored = Action {
+            handler: new.handler,
+            flags: new.flags & KNOWN_FLAGS,
+            mask: maskable(new.mask),
+        };
+        if let Some(process) = self.process_mut(process) {
+            process.actions.remove(&signal);
+            if stored != Action::default() {
+                process.actions.insert(signal, stored);
+            }
+        }
+        if self.is_ignored(process, signal) {
+            self.discard_signals(process, &[signal]);
+        }
+    }
+
+    fn change_mask(&mut self, thread: u32, way: u32, set: u64) {
+        let Some(&Thread { mask: old, .. }) = self.thread(thread) else {
+            return;
+        };
+        match way {
+            SIG_BLOCK => self.set_mask(thread, old | set),
+            SIG_UNBLOCK => self.set_mask(thread, old & !set),
+            _ => self.set_mask(thread, set),
+        }
+    }
+
+    /// The oldest send goes or, with none, the mark; then comes what it sets off.
+    fn take(&mut self, thread: u32) {
+        let Some((queue, signal)) = self.next(thread) else {
+            return;
+        };
+        let line = self.line(queue, signal);
+        if line.sends.pop_front().is_some() {
+            line.counts.taken += 1;
+        } else {
+            line.mark = false;
+        }
+        let action = self.action(queue.process, signal);
+        if action.handler != SIG_DFL {
+            return self.handle(thread, queue.process, signal, action);
+        }
+        match signal {
+            SIGCONT => {}
+            SIGTSTP | SIGTTIN | SIGTTOU => self.set_stopped(queue.process, true),
+            _ => self.end_process(queue.process),
+        }
+    }
+
+    fn handle(&mut self, thread: u32, process: u32, signal: u32, action: Action) {
+        let deferred = if action.flags & SA_NODEFER == 0 {
+            bit(signal)
+        } else {
+            0
+        };
+        self.change_mask(thread, SIG_BLOCK, action.mask | deferred);
+        if action.flags & SA_RESETHAND != 0 && !matches!(signal, SIGILL | SIGTRAP) {
+            let reset = Action {
+                handler: SIG_DFL,
+                flags: action.flags & !SA_SIGINFO,
+                mask: action.mask,
+            };
+            self.store(process, signal, reset);
+        }
+    }
+}
