@@ -28,7 +28,7 @@ use Rattle.rules.proofs.Seen.{seen-setMark-processes, seen-setMark-threads, see
 use Rattle.rules.proofs.Slots.{zero-free}
 use Rattle.rules.proofs.Vacated.{held-vacated, free-process-unmarked, free-thread-unmarked}
 use Rattle.history.specs.Ledger as ledger
-use Rattle.history.specs.Ledger.{Line, Ledger, emptyLedger, emptyLine, withMark, keepSend, takeSend, isAt, ofProcess, note}
+use Rattle.history.specs.Ledger.{ofThread, ofSignals, Line, Ledger, emptyLedger, emptyLine, withMark, keepSend, takeSend, isAt, ofProcess, note}
 use Rattle.history.proofs.Relation.{Agrees}
 use Rattle.history.proofs.Records.{keep-left, both-buffers, append-records, drop-records}
 use Rattle.history.proofs.Marks.{remove-process-marks, remove-thread-marks, new-process-marks, new-thread-marks, set-marks, clear-marks}
@@ -142,7 +142,7 @@ module _ (st : Store) (k : Ledger) (a : Agrees st k) where
         threads = held-vacated freeThread (isThread n) (st .threads) ∙ ap (change (isThread n) (λ _. noThread)) (a .threads);
         records = λ q s.
             ap (keep (inQueue q s)) (both-buffers (keep (λ (r : Siginfo). not (eqb (r .thread) n))) (keep-within _) (eqb (q .thread) 0) (st .processBuffer) (st .threadBuffer))
-            ∙ keep-left (λ (j : Queue) _. eqb (j .thread) n) (λ (r : Siginfo). not (eqb (r .thread) n)) (λ r. refl) q s (recordsFor q st)
+            ∙ keep-left (ofThread n) (λ (r : Siginfo). not (eqb (r .thread) n)) (λ r. refl) q s (recordsFor q st)
             ∙ made-part (eqb (q .thread) n) (k .lines q s) sendsOf emptyLine _ (a .records q s);
         marks = λ q s. remove-thread-marks st q s n z ∙ unmarked (eqb (q .thread) n) (k .lines q s) emptyLine refl (markIn st q s) (a .marks q s);
       }
@@ -155,7 +155,7 @@ module _ (st : Store) (k : Ledger) (a : Agrees st k) where
         threads = unfold view in seen-discard-threads st n x ∙ a .threads;
         records = λ q s.
             ap (keep (inQueue q s)) (discard-records n x st q)
-            ∙ keep-left (λ (j : Queue) (i : ℕ). eqb (j .process) n && has x i) (spared n x) (λ r. refl) q s (recordsFor q st)
+            ∙ keep-left (ofSignals n x) (spared n x) (λ r. refl) q s (recordsFor q st)
             ∙ made-part (eqb (q .process) n && has x s) (k .lines q s) sendsOf emptyLine _ (a .records q s);
         marks = λ q s. discard-marks n x st q s ∙ unmarked (eqb (q .process) n && has x s) (k .lines q s) emptyLine refl (markIn st q s) (a .marks q s);
       }

@@ -5,11 +5,9 @@ use mathlib.Core.Logic.{_⊎_, inl, inr, ⊎-map}
 use mathlib.Core.Bool.{Bool, true, false, _&&_, cond}
 use mathlib.Core.List.{List, [], _∷_, _++_, tail}
 use native.Mathlib.Omega.{arith}
-use lib.Dec.{eqb}
 use borrow.Author.Tests.{eq-eqb}
 use Rattle.lists.specs.Lists.{All}
 use Rattle.lists.proofs.Bools.{split, and-both, cond-true}
-use Rattle.sigset.specs.Set.{has}
 use Rattle.types.specs.declared.Siginfo.{Siginfo}
 use Rattle.rules.specs.Types.{Queue, Next, nextRecord, Call, queue, take}
 use Rattle.rules.specs.View.{View, Change, forget, newProcess, newThread, removeProcess, removeThread, setStopped, setAction, setMask, setMark, clearMark, append, dropOldest, discard, sameQueue, targetQueue, inQueue, theThread, threadAction}
@@ -20,7 +18,7 @@ use Rattle.rules.specs.Calls.{send, changes}
 use Rattle.rules.proofs.Made.{Quiet, Keeps, changes-made, job-made, deliver-made}
 use Rattle.rules.proofs.Marks.{same-queue}
 use Rattle.queue.proofs.Signals.{eqb-comm}
-use Rattle.history.specs.Ledger.{Counts, Line, Ledger, everywhere, ofProcess, isAt, keepSend, oneOf, takeSend, emptyLine, withMark, onLines, emptying, note, noteAll}
+use Rattle.history.specs.Ledger.{ofThread, ofSignals, Counts, Line, Ledger, everywhere, ofProcess, isAt, keepSend, oneOf, takeSend, emptyLine, withMark, onLines, emptying, note, noteAll}
 use Rattle.history.proofs.Records.{at-queue, at-signal}
 
 -- ---- lines and ledgers in which sends are discarded at the most
@@ -104,13 +102,13 @@ fading =
       comes = λ p k. places-fade k k _ (fades-refl k) refl refl;
       joins = λ t k. places-fade k k _ (fades-refl k) refl refl;
       ended = λ n k. places-fade k (emptying (ofProcess n) k) _ (emptying-fades (ofProcess n) k) refl refl;
-      left = λ n k. places-fade k (emptying (λ q s. eqb (q .thread) n) k) _ (emptying-fades (λ q s. eqb (q .thread) n) k) refl refl;
+      left = λ n k. places-fade k (emptying (ofThread n) k) _ (emptying-fades (ofThread n) k) refl refl;
       stopped = λ n b k. places-fade k k _ (fades-refl k) refl refl;
       acts = λ n s a k. places-fade k k _ (fades-refl k) refl refl;
       masks = λ n m k. places-fade k k _ (fades-refl k) refl refl;
       marks = λ q s k. marking-fades true q s k;
       unmarks = λ q s k. marking-fades false q s k;
-      discards = λ p x k. emptying-fades (λ q s. eqb (q .process) p && has x s) k;
+      discards = λ p x k. emptying-fades (ofSignals p x) k;
     }
 
 fades-all : (cs : List Change) (k : Ledger) → All Fading cs → Fades k (noteAll cs k)

@@ -1,16 +1,14 @@
 -- A line of the ledger: its counts balance, and its sends are those kept since it was emptied less those taken since. Assumes nothing.
 use Prim.Native.Nat.{ℕ, zero, suc, _+_, _≤_}
 use mathlib.Core.Path.{_≡_, refl, sym, ap, _∙_}
-use mathlib.Core.Bool.{Bool, true, false, _&&_, cond}
+use mathlib.Core.Bool.{Bool, true, false, cond}
 use mathlib.Core.List.{List, [], _∷_, _++_, tail}
 use native.Mathlib.Omega.{arith}
-use lib.Dec.{eqb}
 use lib.ListN.{length, length-append, length-drop, drop}
-use Rattle.sigset.specs.Set.{has}
 use Rattle.types.specs.declared.Siginfo.{Siginfo}
 use Rattle.rules.specs.Types.{Queue}
 use Rattle.rules.specs.View.{Change, forget, newProcess, newThread, removeProcess, removeThread, setStopped, setAction, setMask, setMark, clearMark, append, dropOldest, discard, inQueue}
-use Rattle.history.specs.Ledger.{Line, Ledger, emptyLedger, ofProcess, everywhere, keepSend, oneOf, takeSend, emptyLine, withMark, isAt, onLines, emptying, note}
+use Rattle.history.specs.Ledger.{ofThread, ofSignals, Line, Ledger, emptyLedger, ofProcess, everywhere, keepSend, oneOf, takeSend, emptyLine, withMark, isAt, onLines, emptying, note}
 
 pub record Balanced (x : Line) : Type 0 where
   pub counts : x .counts .kept ≡ x .counts .taken + x .counts .discarded + length (x .sends)
@@ -87,7 +85,7 @@ balanced-change forget k b = emptying-balanced everywhere k b
 balanced-change (newProcess p) k b = b
 balanced-change (newThread t) k b = b
 balanced-change (removeProcess n) k b = emptying-balanced (ofProcess n) k b
-balanced-change (removeThread n) k b = emptying-balanced (λ q s. eqb (q .thread) n) k b
+balanced-change (removeThread n) k b = emptying-balanced (ofThread n) k b
 balanced-change (setStopped n c) k b = b
 balanced-change (setAction n i a) k b = b
 balanced-change (setMask n m) k b = b
@@ -95,4 +93,4 @@ balanced-change (setMark j i) k b = lines-balanced (isAt j i) (withMark true) (m
 balanced-change (clearMark j i) k b = lines-balanced (isAt j i) (withMark false) (mark-balanced false) k b
 balanced-change (append r) k b = lines-balanced (λ q s. inQueue q s r) (keepSend r) (keep-balanced r) k b
 balanced-change (dropOldest j i) k b = lines-balanced (isAt j i) takeSend take-balanced k b
-balanced-change (discard n x) k b = emptying-balanced (λ q s. eqb (q .process) n && has x s) k b
+balanced-change (discard n x) k b = emptying-balanced (ofSignals n x) k b

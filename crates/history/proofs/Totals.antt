@@ -1,7 +1,7 @@
 -- The ledger's totals: what was kept is what was taken, what was discarded, and what the buffers hold; each change keeps it so. Assumes nothing.
 use Prim.Native.Nat.{ℕ, _+_, _≤_}
 use mathlib.Core.Path.{_≡_, refl, sym, ap, ap₂, _∙_}
-use mathlib.Core.Bool.{Bool, true, not, _&&_, cond}
+use mathlib.Core.Bool.{Bool, true, not, cond}
 use mathlib.Core.List.{List, [], _∷_, _++_}
 use native.Mathlib.Omega.{arith}
 use lib.Dec.{eqb}
@@ -11,7 +11,6 @@ use Rattle.lists.specs.Lists.{all, any, count, keep, dropFirst}
 use Rattle.lists.proofs.Bools.{split, and-fst, and-snd}
 use Rattle.lists.proofs.Lists.{all-end, any-count, count-keep, count-not, isSome-first, leading-replicate, length-dropFirst}
 use Rattle.lists.proofs.Sublists.{keep-within, dropFirst-within, all-within}
-use Rattle.sigset.specs.Set.{has}
 use Rattle.types.specs.declared.Siginfo.{Siginfo}
 use Rattle.types.specs.Values.{noSiginfo}
 use Rattle.rules.specs.Types.{Process, Thread, Queue}
@@ -22,7 +21,7 @@ use Rattle.rules.specs.Fitting.{admits, fits}
 use Rattle.rules.proofs.Grows.{admitted}
 use Rattle.rules.proofs.Marks.{process-named}
 use Rattle.rules.proofs.Slots.{zero-free, used-inUse, used-after, used-within}
-use Rattle.history.specs.Ledger.{Ledger, emptyLedger, ofProcess, oneOf, emptying, note}
+use Rattle.history.specs.Ledger.{ofThread, ofSignals, Ledger, emptyLedger, ofProcess, oneOf, emptying, note}
 use Rattle.history.proofs.Relation.{Agrees}
 use Rattle.history.proofs.Counted.{counted, all-pending}
 
@@ -124,7 +123,7 @@ total-change forget st k e f a h = omega (arith, none-cleared, all-pending st k 
 total-change (newProcess p) st k e f a h = total-newProcess p st k h
 total-change (newThread t) st k e f a h = total-newThread t st k h
 total-change (removeProcess n) st k e f a h = total-emptied (ofProcess n) st k e a h
-total-change (removeThread n) st k e f a h = total-emptied (λ q s. eqb (q .thread) n) st k e a h
+total-change (removeThread n) st k e f a h = total-emptied (ofThread n) st k e a h
 total-change (setStopped n b) st k e f a h = h
 total-change (setAction n s x) st k e f a h = h
 total-change (setMask n m) st k e f a h = h
@@ -132,4 +131,4 @@ total-change (setMark q s) st k e f a h = h
 total-change (clearMark q s) st k e f a h = h
 total-change (append r) st k e f a h = total-append r st k f h
 total-change (dropOldest q s) st k e f a h = total-dropOldest q s st k f a h
-total-change (discard n set) st k e f a h = total-emptied (λ q s. eqb (q .process) n && has set s) st k e a h
+total-change (discard n set) st k e f a h = total-emptied (ofSignals n set) st k e a h

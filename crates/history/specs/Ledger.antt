@@ -6,6 +6,7 @@ use lib.Dec.{eqb}
 use lib.ListN.{length, replicate}
 use Rattle.limits.specs.Limits.{processPlaces, threadPlaces, signals}
 use Rattle.lists.specs.Lists.{change, keep, range, replaceFirst, sum}
+use Rattle.sigset.specs.declared.SigSet.{SigSet}
 use Rattle.sigset.specs.Set.{has}
 use Rattle.types.specs.declared.Siginfo.{Siginfo}
 use Rattle.rules.specs.Types.{Process, Thread, Queue, Call, Answer, noProcess, noThread, refused}
@@ -62,11 +63,18 @@ queues l =
 unfoldable pub pendingWhere : Ledger → (Queue → ℕ → Bool) → ℕ
 pendingWhere l p = sum (λ q. sum (λ s. cond (p q s) (length (l .lines q s .sends)) 0) (range 1 signals)) (queues l)
 
+-- all queues and signals; those of a process, of a thread, of a process's signals in a set
+abbrev pub everywhere : Queue → ℕ → Bool
+everywhere q s = true
+
 abbrev pub ofProcess : ℕ → Queue → ℕ → Bool
 ofProcess n q s = eqb (q .process) n
 
-abbrev pub everywhere : Queue → ℕ → Bool
-everywhere q s = true
+abbrev pub ofThread : ℕ → Queue → ℕ → Bool
+ofThread n q s = eqb (q .thread) n
+
+abbrev pub ofSignals : ℕ → SigSet → Queue → ℕ → Bool
+ofSignals n set q s = eqb (q .process) n && has set s
 
 -- what the rules read: they read the tables by the same view
 unfoldable pub ledgerView : Ledger → View
@@ -149,8 +157,8 @@ withTotal n l = record { processes = l .processes; threads = l .threads; lines =
 abbrev pub isAt : Queue → ℕ → Queue → ℕ → Bool
 isAt q s q′ s′ = sameQueue q′ q && eqb s′ s
 
--- The emptying events are "clearing (of all but counts), steps 1 and 2, storing or resetting to an ignoring action, the end of the thread or process":
--- the lines that pass the test are emptied.
+-- The emptying events: clearing, of `everywhere`; the end of a process or of a thread, KILL's too, of `ofProcess` or `ofThread`; steps 1 and 2, and storing
+-- or resetting to an ignoring action, of `ofSignals`. The lines that pass the test are emptied.
 abbrev pub emptying : (Queue → ℕ → Bool) → Ledger → Ledger
 emptying p l =
     withTotal (record { kept = l .total .kept; taken = l .total .taken; discarded = l .total .discarded + pendingWhere l p })
@@ -163,7 +171,7 @@ note (newProcess p) l = onProcesses (replaceFirst isFreeProcess p) l
 note (newThread t) l = onThreads (replaceFirst isFreeThread t) l
 note (removeProcess n) l =
     onProcesses (change (isProcess n) (λ _. noProcess)) (onThreads (change (belongsTo n) (λ _. noThread)) (emptying (ofProcess n) l))
-note (removeThread n) l = onThreads (change (isThread n) (λ _. noThread)) (emptying (λ q s. eqb (q .thread) n) l)
+note (removeThread n) l = onThreads (change (isThread n) (λ _. noThread)) (emptying (ofThread n) l)
 note (setStopped n b) l = onProcesses (change (isProcess n) (withStopped b)) l
 note (setAction n s a) l = onProcesses (change (isProcess n) (withAction s a)) l
 note (setMask n m) l = onThreads (change (isThread n) (withMask m)) l
@@ -175,7 +183,7 @@ note (append r) l =
 note (dropOldest q s) l =
     withTotal (record { kept = l .total .kept; taken = l .total .taken + oneOf (l .lines q s .sends); discarded = l .total .discarded })
     (onLines (isAt q s) takeSend l)
-note (discard n set) l = emptying (λ q s. eqb (q .process) n && has set s) l
+note (discard n set) l = emptying (ofSignals n set) l
 
 unfoldable pub noteAll : List Change → Ledger → Ledger
 noteAll [] l = l

@@ -1,3 +1,4 @@
 pub mod Ledger
 pub mod History
 pub mod Claim
+pub mod Example

@@ -94,22 +94,10 @@ module _ {A : Type 0} where
   cond-same true x = refl
   cond-same false x = refl
 
-  pub cond-not : (b : Bool) (x y : A) → cond (not b) x y ≡ cond b y x
-  cond-not true x y = refl
-  cond-not false x y = refl
-
   -- a choice that changes nothing where it is made
   pub cond-kept : (b : Bool) {x y : A} → (b ≡ true → x ≡ y) → cond b x y ≡ y
   cond-kept true h = h refl
   cond-kept false h = refl
-
-  pub cond-and : (a b : Bool) (x y : A) → cond (a && b) x y ≡ cond a (cond b x y) y
-  cond-and true b x y = refl
-  cond-and false b x y = refl
-
-  pub cond-or : (a b : Bool) (x y : A) → cond (a || b) x y ≡ cond a x (cond b x y)
-  cond-or true b x y = refl
-  cond-or false b x y = refl
 
 pub cond-map : {A B : Type 0} (f : A → B) (b : Bool) (x y : A) → f (cond b x y) ≡ cond b (f x) (f y)
 cond-map f true x y = refl

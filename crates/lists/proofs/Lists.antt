@@ -1,12 +1,12 @@
 -- Laws of the lists of specs/Lists. Assumes nothing.
 use mathlib.Core.Path.{_≡_, refl, sym, ap, ap₂, subst, _∙_, fun-ext}
-use mathlib.Core.Bool.{Bool, true, false, not, _&&_, _||_, cond, or-true, or-false, and-false, and-assoc, or-assoc, and-or-distrib-right}
+use mathlib.Core.Bool.{Bool, true, false, not, _&&_, _||_, cond, or-true, and-false, and-assoc, or-assoc, and-or-distrib-right}
 use mathlib.Core.List.{List, [], _∷_, _++_, map, head?, tail, append-nil}
 use mathlib.Core.Option.{Option, some, none, Option·getD}
 use Prim.Native.Nat.{ℕ, zero, suc, _+_, _-_, _≤_, _<_}
 use native.Mathlib.Nat.{not-suc-le-zero, le-of-suc-le-suc}
 use native.Mathlib.Omega.{arith}
-use lib.ListN.{length, getD, take, drop, set, replicate, length-append, length-replicate, length-map, List·getD-append}
+use lib.ListN.{length, getD, take, drop, set, replicate, length-append, length-replicate, length-map}
 use lib.Seq.{append-snoc, set-append-seam, take-append-le, getD-take, drop-append-seam}
 use borrow.Author.Tests.{not-true}
 use Rattle.lists.specs.Lists.{all, any, count, find, first, keep, leading, dropFirst, change, replaceFirst, isSome, pairs, pairsWhere, padded, All, consIf}
@@ -78,30 +78,6 @@ module _ {A : Type 0} (p : A → Bool) (x : A) (xs : List A) where
   pub leading-no : p x ≡ false → leading p (x ∷ xs) ≡ []
   unfolding leading
   leading-no e = rw e
-
-  pub dropFirst-yes : p x ≡ true → dropFirst p (x ∷ xs) ≡ xs
-  unfolding dropFirst
-  dropFirst-yes e = rw e
-
-  pub dropFirst-no : p x ≡ false → dropFirst p (x ∷ xs) ≡ x ∷ dropFirst p xs
-  unfolding dropFirst
-  dropFirst-no e = rw e
-
-  pub change-yes : (g : A → A) → p x ≡ true → change p g (x ∷ xs) ≡ g x ∷ change p g xs
-  unfolding change
-  change-yes g e = rw e
-
-  pub change-no : (g : A → A) → p x ≡ false → change p g (x ∷ xs) ≡ x ∷ change p g xs
-  unfolding change
-  change-no g e = rw e
-
-  pub replaceFirst-yes : (a : A) → p x ≡ true → replaceFirst p a (x ∷ xs) ≡ a ∷ xs
-  unfolding replaceFirst
-  replaceFirst-yes a e = rw e
-
-  pub replaceFirst-no : (a : A) → p x ≡ false → replaceFirst p a (x ∷ xs) ≡ x ∷ replaceFirst p a xs
-  unfolding replaceFirst
-  replaceFirst-no a e = rw e
 
 -- ---- what holds of every member
 
@@ -431,14 +407,8 @@ module _ {A : Type 0} where
   pub first-none : (p : A → Bool) (l : List A) → any p l ≡ false → first p l ≡ none
   first-none p l e = isSome-no (first p l) (isSome-first p l ∙ e)
 
-  pub none-first : (p : A → Bool) (l : List A) → first p l ≡ none → any p l ≡ false
-  none-first p l e = sym (isSome-first p l) ∙ ap isSome e
-
   pub some-first : (p : A → Bool) (l : List A) (a : A) → first p l ≡ some a → any p l ≡ true
   some-first p l a e = sym (isSome-first p l) ∙ ap isSome e
-
-  pub first-same : (p q : A → Bool) (l : List A) → ((x : A) → p x ≡ q x) → first p l ≡ first q l
-  first-same p q l h = ap (λ (f : A → Bool). first f l) (fun-ext h)
 
   -- a test that x passes is passed in the list
   abbrev pub Stands : List A → A → Type 0
@@ -461,13 +431,6 @@ module _ {A : Type 0} where
       let r : Found p xs = found p xs (sym (any-no p x xs f) ∙ e) in
       record { it = r .it; is-first = first-no p x xs f ∙ r .is-first; passes = r .passes; stands = λ q h. or-right (q x) (r .stands q h) })
 
-  -- the same of one that is known to be the first
-  pub first-found : (p : A → Bool) (l : List A) (a : A) → first p l ≡ some a → (p a ≡ true) × Stands l a
-  first-found p l a e =
-      let r : Found p l = found p l (some-first p l a e) in
-      let z : r .it ≡ a = cc (r .is-first) in
-      (sym (ap p z) ∙ r .passes, λ q h. r .stands q (ap q z ∙ h))
-
 -- ---- members changed, replaced, left out
 
 module _ {A : Type 0} where
@@ -484,18 +447,9 @@ module _ {A : Type 0} where
         ∙ any-map p (λ x. cond (t x) (g x) x) l
         ∙ any-same (λ x. p (cond (t x) (g x) x)) (λ x. cond (t x) (p (g x)) (p x)) l (λ x. cond-map p (t x) (g x) x)
 
-    pub all-change : all p (change t g l) ≡ all (λ x. cond (t x) (p (g x)) (p x)) l
-    all-change =
-        ap (all p) (change-map t g l)
-        ∙ all-map p (λ x. cond (t x) (g x) x) l
-        ∙ all-same (λ x. p (cond (t x) (g x) x)) (λ x. cond (t x) (p (g x)) (p x)) l (λ x. cond-map p (t x) (g x) x)
-
     -- a test that the change keeps
     pub any-changed : ((x : A) → t x ≡ true → p (g x) ≡ p x) → any p (change t g l) ≡ any p l
     any-changed h = any-change ∙ any-same (λ x. cond (t x) (p (g x)) (p x)) p l (λ x. cond-kept (t x) (h x))
-
-    pub all-changed : ((x : A) → t x ≡ true → p (g x) ≡ p x) → all p (change t g l) ≡ all p l
-    all-changed h = all-change ∙ all-same (λ x. cond (t x) (p (g x)) (p x)) p l (λ x. cond-kept (t x) (h x))
 
   -- what is changed stays what it was
   pub change-kept : (t : A → Bool) (g : A → A) (l : List A) → All (λ x. t x ≡ true → g x ≡ x) l → change t g l ≡ l
@@ -530,12 +484,6 @@ module _ {A B : Type 0} (h : A → B) where
   map-change p g g′ e [] = refl
   map-change p g g′ e (x ∷ xs) =
       ap₂ (λ y l. y ∷ l) (cond-map h (p (h x)) (g x) x ∙ ap (λ y. cond (p (h x)) y (h x)) (e x)) (map-change p g g′ e xs)
-
-  -- a change that what is looked at does not show
-  pub map-changed : (t : A → Bool) (g : A → A) → ((x : A) → t x ≡ true → h (g x) ≡ h x) → (l : List A) → map h (change t g l) ≡ map h l
-  map-changed t g e l =
-      ap (map h) (change-map t g l)
-      ∙ map-same (λ x. cond (t x) (g x) x) (λ x. cond-map h (t x) (g x) x ∙ cond-kept (t x) (e x)) l
 
   pub map-replaceFirst : (p : B → Bool) (a : A) (l : List A) → map h (replaceFirst (λ x. p (h x)) a l) ≡ replaceFirst p (h a) (map h l)
   unfolding replaceFirst
@@ -595,9 +543,6 @@ module _ {A : Type 0} (p : A → Bool) where
   pub count-none : (l : List A) → count p l ≡ 0 → any p l ≡ false
   count-none l e = split (any p l) (λ f. let h : 1 ≤ count p l = any-count l f in absurd (omega arith)) (λ f. f)
 
-  pub count-any : (l : List A) → 1 ≤ count p l → any p l ≡ true
-  count-any l h = split (any p l) (λ f. f) (λ f. let z : count p l ≡ 0 = none-count l f in absurd (omega arith))
-
   pub count-replaceFirst : (t : A → Bool) (a : A) (l : List A) → p a ≡ false → All (λ x. t x ≡ true → p x ≡ false) l
       → count p (replaceFirst t a l) ≡ count p l
   unfolding count replaceFirst
@@ -633,9 +578,6 @@ module _ {A : Type 0} (p q : A → Bool) where
   pub count-same : (l : List A) → ((x : A) → p x ≡ q x) → count p l ≡ count q l
   count-same l h = ap (λ (f : A → Bool). count f l) (fun-ext h)
 
-  pub count-same-in : (l : List A) → All (λ x. p x ≡ q x) l → count p l ≡ count q l
-  count-same-in l h = count-keep p l ∙ ap length (keep-same-in p q l h) ∙ sym (count-keep q l)
-
   pub count-kept : (l : List A) → count p (keep q l) ≡ count (λ x. q x && p x) l
   count-kept l = count-keep p (keep q l) ∙ ap length (keep-keep p q l) ∙ sym (count-keep (λ x. q x && p x) l)
 
@@ -644,16 +586,6 @@ module _ {A : Type 0} (p q : A → Bool) where
       let e : count p (keep q l) ≡ count p l = count-keep p (keep q l) ∙ ap length (keep-all p q h l) ∙ sym (count-keep p l) in
       let f : count p (keep q l) ≤ length (keep q l) = count-le-length p (keep q l) in
       omega (arith, count-keep q l)
-
-module _ {A : Type 0} (p t : A → Bool) (g : A → A) (l : List A) where
-  pub count-change : count p (change t g l) ≡ count (λ x. cond (t x) (p (g x)) (p x)) l
-  count-change =
-      ap (count p) (change-map t g l)
-      ∙ count-map p (λ x. cond (t x) (g x) x) l
-      ∙ count-same (λ x. p (cond (t x) (g x) x)) (λ x. cond (t x) (p (g x)) (p x)) l (λ x. cond-map p (t x) (g x) x)
-
-  pub count-changed : ((x : A) → t x ≡ true → p (g x) ≡ p x) → count p (change t g l) ≡ count p l
-  count-changed h = count-change ∙ count-same (λ x. cond (t x) (p (g x)) (p x)) p l (λ x. cond-kept (t x) (h x))
 
 module _ {A : Type 0} (p : A → Bool) where
   pub length-change : (g : A → A) (l : List A) → length (change p g l) ≡ length l
@@ -765,29 +697,6 @@ module _ {A : Type 0} (d : A) (n : ℕ) (xs : List A) where
   pub drop-padded : drop (length xs) (padded d n xs) ≡ replicate (n - length xs) d
   unfolding padded
   drop-padded = drop-append-seam xs (replicate (n - length xs) d)
-
-  pub getD-padded : (i : ℕ) (e : A) → i < length xs → getD (padded d n xs) i e ≡ getD xs i e
-  unfolding padded
-  getD-padded i e h = List·getD-append xs (replicate (n - length xs) d) e i h
-
-  pub keep-padded : (p : A → Bool) → p d ≡ false → keep p (padded d n xs) ≡ keep p xs
-  unfolding padded
-  keep-padded p h =
-      keep-append p xs (replicate (n - length xs) d)
-      ∙ ap (λ l. keep p xs ++ l) (keep-empty p (replicate (n - length xs) d) (any-replicate p d h (n - length xs)))
-      ∙ append-nil (keep p xs)
-
-  pub any-padded : (p : A → Bool) → p d ≡ false → any p (padded d n xs) ≡ any p xs
-  unfolding padded
-  any-padded p h =
-      any-append p xs (replicate (n - length xs) d) ∙ ap (λ b. any p xs || b) (any-replicate p d h (n - length xs)) ∙ or-false (any p xs)
-
-  pub count-padded : (p : A → Bool) → p d ≡ false → count p (padded d n xs) ≡ count p xs
-  count-padded p h = count-keep p (padded d n xs) ∙ ap length (keep-padded p h) ∙ sym (count-keep p xs)
-
-  pub padded-cons : (x : A) → padded d (suc n) (x ∷ xs) ≡ x ∷ padded d n xs
-  unfolding padded
-  padded-cons x = let e : suc n - suc (length xs) ≡ n - length xs = omega arith in ap (λ k. x ∷ (xs ++ replicate k d)) e
 
   -- one more
   pub padded-snoc : (k : ℕ) (a : A) → k ≡ length xs → k < n → set (padded d n xs) k a ≡ padded d n (xs ++ (a ∷ []))

@@ -11,7 +11,7 @@ use lib.ListN.{length, getD, take, drop, set, replicate, length-replicate, drop-
 use lib.Seq.{take-suc, take-all, drop-cons, map-set-same, set-getD, getD-drop, drop-drop, drop-set-lt, take-suc-set, append-snoc, paste, paste-suc, length-take-le, drop-at}
 use Rattle.lists.specs.Lists.{all, any, count, find, first, keep, leading, dropFirst, change, replaceFirst, pairs, range, padded, All}
 use Rattle.lists.proofs.Bools.{split, clash, and-fst, and-snd, and-both, and-left, and-right, or-both}
-use Rattle.lists.proofs.Lists.{Pass, All-at, All-set, all-All, All-all, all-append, all-end, any-append, all-map, any-map, count-map, all-same, any-no, all-yes, all-no, any-All, find-yes, find-no, keep-yes, keep-no, count-yes, count-no, leading-yes, leading-no, change-same, any-count, count-none}
+use Rattle.lists.proofs.Lists.{Pass, All-at, All-set, all-All, All-all, all-append, all-end, any-append, all-map, all-same, any-no, all-yes, all-no, any-All, find-yes, find-no, keep-yes, keep-no, count-yes, count-no, leading-yes, leading-no, change-same, any-count, count-none}
 
 -- ---- a turn: what is left from i on
 
@@ -174,12 +174,6 @@ module _ {A : Type 0} (f : A → Bool) (xs : List A) (i : ℕ) (y : A) where
 module _ {A : Type 0} (f : A → Bool) (d : A) (xs : List A) (i : ℕ) (y : A) (e : f y ≡ f (getD xs i d)) where
   pub all-same-at : all f (set xs i y) ≡ all f xs
   all-same-at = sym (all-map (λ b. b) f (set xs i y)) ∙ ap (all (λ b. b)) (map-set-same f xs i y d e) ∙ all-map (λ b. b) f xs
-
-  pub any-same-at : any f (set xs i y) ≡ any f xs
-  any-same-at = sym (any-map (λ b. b) f (set xs i y)) ∙ ap (any (λ b. b)) (map-set-same f xs i y d e) ∙ any-map (λ b. b) f xs
-
-  pub count-same-at : count f (set xs i y) ≡ count f xs
-  count-same-at = sym (count-map (λ b. b) f (set xs i y)) ∙ ap (count (λ b. b)) (map-set-same f xs i y d e) ∙ count-map (λ b. b) f xs
 
 pub find-same : {A : Type 0} (f : A → Bool) (d : A) (xs : List A) (i : ℕ) (y : A) → f y ≡ f (getD xs i d) → find f (set xs i y) ≡ find f xs
 unfolding find

@@ -55,10 +55,7 @@ module _ {A : Type 0} where
       ∙ ap (λ x. vs ++ x) (nil-of (drop (0 + length vs) l) (rw length-drop (omega arith)))
       ∙ append-nil vs
 
-  -- three or four stores as code writes them
-  pub stores3 : (l : List A) (b : ℕ) (x y z : A) → set (set (set l b x) (b + 1) y) (b + 2) z ≡ sets l b (x ∷ y ∷ z ∷ [])
-  stores3 l b x y z = rw (add-one, add-two)
-
+  -- four stores as code writes them
   pub stores4 : (l : List A) (b : ℕ) (x y z u : A) → set (set (set (set l b x) (b + 1) y) (b + 2) z) (b + 3) u ≡ sets l b (x ∷ y ∷ z ∷ u ∷ [])
   stores4 l b x y z u = rw (add-one, add-two, add-three)
 

@@ -5,9 +5,9 @@ use mathlib.Core.Bool.{Bool, true, not, _||_}
 use mathlib.Core.List.{List, [], _∷_}
 use native.Mathlib.Omega.{arith}
 use lib.ListN.{length}
-use Rattle.lists.specs.Lists.{all, any, count, keep, dropFirst, pairs, pairsWhere, All}
-use Rattle.lists.proofs.Bools.{split, clash, and-fst, and-snd, and-both}
-use Rattle.lists.proofs.Lists.{Pass, Fail, all-All, All-all, any-All, All-any, pairsWhere-pairs}
+use Rattle.lists.specs.Lists.{all, count, keep, dropFirst, pairs, pairsWhere, All}
+use Rattle.lists.proofs.Bools.{split, and-fst, and-snd, and-both}
+use Rattle.lists.proofs.Lists.{Pass, all-All, All-all, pairsWhere-pairs}
 
 pub data Within {A : Type 0} : List A → List A → Type 0 where
   ended : Within [] []
@@ -37,9 +37,6 @@ module _ {A : Type 0} where
 
   pub all-within : (p : A → Bool) {xs ys : List A} → Within xs ys → all p ys ≡ true → all p xs ≡ true
   all-within p {xs} {ys} w e = All-all p xs (All-within (Pass p) w (all-All p ys e))
-
-  pub any-within : (p : A → Bool) {xs ys : List A} → Within xs ys → any p xs ≡ true → any p ys ≡ true
-  any-within p {xs} {ys} w e = split (any p ys) (λ f. f) (λ f. clash e (All-any p xs (All-within (Fail p) w (any-All p ys f))))
 
   pub pairs-within : (r : A → A → Bool) {xs ys : List A} → Within xs ys → pairs r ys ≡ true → pairs r xs ≡ true
   unfolding pairs

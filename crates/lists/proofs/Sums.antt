@@ -9,9 +9,9 @@ use native.Mathlib.Omega.{arith}
 use lib.ListN.{length, getD, set}
 use lib.Dec.{eqb}
 use borrow.Author.Tests.{eqb-true, eqb-false, ne-eqb}
-use Rattle.lists.specs.Lists.{count, first, keep, change, replaceFirst, dropFirst, isSome, sum, range, All}
-use Rattle.lists.proofs.Bools.{split, clash, and-right, cond-map}
-use Rattle.lists.proofs.Lists.{All-imp, change-map, count-and, count-same, first-yes, first-no}
+use Rattle.lists.specs.Lists.{count, first, keep, replaceFirst, dropFirst, isSome, sum, range, All}
+use Rattle.lists.proofs.Bools.{split, clash, and-right}
+use Rattle.lists.proofs.Lists.{All-imp, count-and, count-same, first-yes, first-no}
 
 module _ {A : Type 0} where
   pub sum-zero : (l : List A) → sum (λ _. 0) l ≡ 0
@@ -58,12 +58,6 @@ module _ {A : Type 0} where
     unfolding sum keep
     sum-keep p [] = refl
     sum-keep p (x ∷ xs) = split (p x) (λ e. rw e (ap (λ n. f x + n) (sum-keep p xs))) (λ e. rw e (omega (arith, sum-keep p xs)))
-
-    pub sum-change : (t : A → Bool) (g : A → A) (l : List A) → sum f (change t g l) ≡ sum (λ x. cond (t x) (f (g x)) (f x)) l
-    sum-change t g l =
-        ap (sum f) (change-map t g l)
-        ∙ sum-map (λ x. cond (t x) (g x) x) l
-        ∙ sum-ext (λ x. f (cond (t x) (g x) x)) (λ x. cond (t x) (f (g x)) (f x)) l (λ x. cond-map f (t x) (g x) x)
 
     -- each at most k
     pub sum-bound : (k : ℕ) (l : List A) → All (λ x. f x ≤ k) l → sum f l ≤ length l * k

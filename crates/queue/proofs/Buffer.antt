@@ -12,15 +12,15 @@ use borrow.Author.Tests.{eqb-true, eq-eqb, ne-eqb}
 use Rattle.limits.specs.Limits.{bufferRecords, bufferBytes, recordBytes}
 use Rattle.lists.specs.Lists.{all, find, dropFirst, padded}
 use Rattle.lists.specs.Rows.{row}
-use Rattle.lists.proofs.Bools.{and-fst, and-snd, and-both, and-left}
+use Rattle.lists.proofs.Bools.{and-fst, and-snd, and-left}
 use Rattle.lists.proofs.Loops.{cleared, dropFirst-find, same-from}
 use Rattle.types.specs.declared.Siginfo.{Siginfo}
 use Rattle.types.specs.Values.{noSiginfo}
 use Rattle.siginfo.specs.Bytes.{Bytes, Fits, siginfoOf, bytesOf, slots, slotBytes}
 use Rattle.siginfo.proofs.Slots.{length-slots, slot-at, slot-put, slotBytes-slots}
-use Rattle.rules.specs.Store.{inUse, used, onSlots}
+use Rattle.rules.specs.Store.{used}
 use Rattle.rules.specs.Sound.{isZero, restZero}
-use Rattle.rules.proofs.Slots.{length-used, used-inUse, used-at, laid-padded, used-padded, padded-laid}
+use Rattle.rules.proofs.Slots.{length-used, used-at, laid-padded}
 use Rattle.queue.specs.Queue.{slotsOf, recordsOf, isLaid, removeAt}
 
 -- ---- a buffer
@@ -32,10 +32,6 @@ length-slotsOf b = length-slots bufferRecords b
 pub length-recordsOf : (b : List ℕ) → length (recordsOf b) ≤ bufferRecords
 unfolding recordsOf
 length-recordsOf b = subst (λ n. length (used (slotsOf b)) ≤ n) (length-slotsOf b) (length-used (slotsOf b))
-
-pub inUse-recordsOf : (b : List ℕ) → all inUse (recordsOf b) ≡ true
-unfolding recordsOf
-inUse-recordsOf b = used-inUse (slotsOf b)
 
 -- bytes are determined by slots
 pub buffer-is : (b : List ℕ) → length b ≡ bufferBytes → Bytes b → b ≡ slotBytes (slotsOf b)
@@ -62,25 +58,6 @@ laid-test b e = rw (eq-eqb (length b) bufferBytes e)
 pub not-laid : (b : List ℕ) → (length b ≡ bufferBytes → ⊥) → isLaid b ≡ false
 unfolding isLaid
 not-laid b h = and-left (restZero (slotsOf b)) (ne-eqb (length b) bufferBytes h)
-
-module _ (b : List ℕ) (rs : List Siginfo) (u : all inUse rs ≡ true) (e : slotsOf b ≡ padded noSiginfo bufferRecords rs) where
-  pub slots-records : recordsOf b ≡ rs
-  unfolding recordsOf
-  slots-records = ap used e ∙ used-padded bufferRecords rs u
-
-  pub slots-laid : length b ≡ bufferBytes → isLaid b ≡ true
-  unfolding isLaid
-  slots-laid k = and-both (eq-eqb (length b) bufferBytes k) (ap restZero e ∙ padded-laid bufferRecords rs u)
-
--- after a change of the records
-module _ (g : List Siginfo → List Siginfo) (b b′ : List ℕ) (e : slotsOf b′ ≡ onSlots g (slotsOf b)) (u : all inUse (g (recordsOf b)) ≡ true) where
-  pub records-after : recordsOf b′ ≡ g (recordsOf b)
-  unfolding onSlots recordsOf
-  records-after = slots-records b′ (g (recordsOf b)) u e
-
-  pub laid-after : length b′ ≡ bufferBytes → isLaid b′ ≡ true
-  unfolding onSlots recordsOf
-  laid-after = slots-laid b′ (g (recordsOf b)) u e
 
 -- all slots cleared
 pub all-cleared : (b : List ℕ) → cleared noSiginfo (slotsOf b) 0 bufferRecords ≡ replicate bufferRecords noSiginfo

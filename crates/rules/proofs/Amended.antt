@@ -20,7 +20,7 @@ use Rattle.types.specs.declared.Action.{Action}
 use Rattle.types.specs.Values.{defaultAction}
 use Rattle.rules.specs.Types.{Process, Thread, Queue, noProcess, noThread}
 use Rattle.rules.specs.Signals.{isSignal}
-use Rattle.rules.specs.View.{View, setStopped, setAction, setMask, isProcess, isThread, sameQueue, processQueue, targetQueue, actionOf, liveProcess, liveThread, theProcess, theThread}
+use Rattle.rules.specs.View.{View, setStopped, setMask, isProcess, isThread, sameQueue, processQueue, targetQueue, actionOf, liveProcess, liveThread, theProcess, theThread}
 use Rattle.rules.specs.Store.{Place, Store, held, freeProcess, freeThread, recordsFor, processMark, threadMark, markIn, queuedIn, view, amend, onProcesses, onThreads, withStopped, withAction, withMask, apply}
 use Rattle.rules.specs.Sound.{processId, threadId}
 use Rattle.rules.proofs.Cleared.{no-id}
@@ -201,10 +201,6 @@ module _ (st : Store) where
   pub setStopped-amended : (n b : ℕ) → ProcessAmended (view st) (view (apply (setStopped n b) st)) n (withStopped b)
   unfolding apply
   setStopped-amended n b = process-amended st n (withStopped b) (λ p. refl)
-
-  pub setAction-amended : (n s : ℕ) (a : Action) → ProcessAmended (view st) (view (apply (setAction n s a) st)) n (withAction s a)
-  unfolding apply
-  setAction-amended n s a = process-amended st n (withAction s a) (λ p. refl)
 
   pub setMask-amended : (n : ℕ) (m : SigSet) → ThreadAmended (view st) (view (apply (setMask n m) st)) n (withMask m)
   unfolding apply

@@ -1,21 +1,20 @@
--- What is pending after a discard, a mark less or a record less: nothing that was not pending before. Assumes nothing.
+-- What is pending after a discard: nothing that was not pending before. Assumes nothing.
 use Prim.Native.Nat.{ℕ, _≤_}
 use mathlib.Core.Path.{_≡_, refl, sym, ap, ap₂, _∙_}
 use mathlib.Core.Bool.{Bool, true, false, not, _&&_, _||_, cond, and-assoc, and-comm, and-or-distrib-right}
-use mathlib.Core.List.{List}
 use lib.Dec.{eqb}
 use borrow.Author.Tests.{eqb-true, eq-eqb}
-use Rattle.lists.specs.Lists.{any, keep, dropFirst}
-use Rattle.lists.proofs.Bools.{split, and-fst, and-snd, and-both, and-left, and-right, and-imp, or-both, or-cases, or-left, or-right, cond-map}
+use Rattle.lists.specs.Lists.{any, keep}
+use Rattle.lists.proofs.Bools.{split, and-fst, and-snd, and-both, and-left, and-right, and-imp, or-both, cond-map}
 use Rattle.lists.proofs.Lists.{Fail, All-every, All-any, any-map, any-and, any-same, any-keep}
-use Rattle.lists.proofs.Sublists.{Within, within-refl, keep-within, dropFirst-within, any-within}
+use Rattle.lists.proofs.Sublists.{keep-within}
 use Rattle.sigset.specs.declared.SigSet.{SigSet}
 use Rattle.sigset.specs.Set.{Signal, has, ofSignal}
 use Rattle.sigset.proofs.Laws.{has-of}
 use Rattle.types.specs.declared.Siginfo.{Siginfo}
 use Rattle.rules.specs.Types.{Process, Thread, Queue}
 use Rattle.rules.specs.Signals.{isSignal}
-use Rattle.rules.specs.View.{View, clearMark, dropOldest, discard, belongsTo, sameQueue, processQueue, threadQueue, queueOf, inQueue, pendingIn}
+use Rattle.rules.specs.View.{View, discard, belongsTo, sameQueue, processQueue, threadQueue, queueOf, inQueue, pendingIn}
 use Rattle.rules.specs.Store.{Place, Store, used, recordsFor, processMark, threadMark, markIn, queuedIn, onMarks, onSlots, spared, view, apply}
 use Rattle.rules.specs.Sound.{sound}
 use Rattle.rules.specs.Fitting.{pendsAt, pendsSomewhere}
@@ -26,7 +25,7 @@ use Rattle.rules.proofs.Pends.{pending-is}
 use Rattle.rules.proofs.Seen.{cutting}
 use Rattle.rules.proofs.Shrinks.{cut-has}
 use Rattle.rules.proofs.Signals.{is-signal}
-use Rattle.rules.proofs.Slots.{used-within, records-within}
+use Rattle.rules.proofs.Slots.{used-within}
 
 -- ---- marks: some queues lose those of a set
 
@@ -63,18 +62,6 @@ module _ (c : Queue → Bool) (x : SigSet) where
       ap₂ (λ (y z : Bool). y || z) (cut-processes st q s (is-signal s e)) (cut-threads st q s (is-signal s e))
       ∙ sym (and-or-distrib-right a b (not (lost q s))))
       ∙ sym (and-assoc (isSignal s) (a || b) (not (lost q s)))
-
--- ---- pending
-
--- no record is new and no mark is: nothing that is pending is new
-module _ (st st′ : Store) (q : Queue) (s : ℕ) where
-  still-pends : (recorded st′ q s ≡ true → recorded st q s ≡ true) → (markIn st′ q s ≡ true → markIn st q s ≡ true)
-      → pendingIn (view st′) q s ≡ true → pendingIn (view st) q s ≡ true
-  still-pends r m e =
-      pending-is st q s
-      ∙ or-cases (recorded st′ q s) (markIn st′ q s) (sym (pending-is st′ q s) ∙ e)
-      (λ f. or-left (markIn st q s) (r f))
-      (λ f. or-right (recorded st q s) (m f))
 
 -- ---- a discard
 
@@ -152,38 +139,3 @@ discard-clears st _ p s i =
     let v : View = view (apply (discard p (ofSignal s)) st) in
     or-both (clears st p s i (processQueue p) (eq-eqb p p refl))
     (All-any (pendsAt v p s) (v .threads) (All-every (Fail (pendsAt v p s)) (clears-thread st p s i) (v .threads)))
-
--- ---- a mark less
-
-pub clearMark-pends : (st : Store) → sound st ≡ true → (k : Queue) (signal : ℕ) (q : Queue) (s : ℕ) → pendingIn (view (apply (clearMark k signal) st)) q s ≡ true
-    → pendingIn (view st) q s ≡ true
-unfolding apply recordsFor markIn
-clearMark-pends st _ k signal q s =
-    still-pends st (apply (clearMark k signal) st) q s
-    (λ e. e)
-    (λ e. and-fst (markIn st q s) _ (sym (cut-marks (λ q′. sameQueue q′ k) (ofSignal signal) st q s) ∙ e))
-
--- ---- a record less
-
-module _ (st : Store) (k : Queue) (signal : ℕ) where
-  abbrev gone : List Siginfo → List Siginfo
-  gone = dropFirst (inQueue k signal)
-
-  used-gone : (slots : List Siginfo) → Within (used (onSlots gone slots)) (used slots)
-  used-gone = records-within gone (dropFirst-within (inQueue k signal))
-
-  -- of the one buffer or of the other
-  used-one : (b c : Bool) → Within (used (cond c (cond b (onSlots gone (st .processBuffer)) (st .processBuffer)) (cond b (st .threadBuffer) (onSlots gone (st .threadBuffer)))))
-      (used (cond c (st .processBuffer) (st .threadBuffer)))
-  used-one true true = used-gone (st .processBuffer)
-  used-one true false = within-refl (used (st .threadBuffer))
-  used-one false true = within-refl (used (st .processBuffer))
-  used-one false false = used-gone (st .threadBuffer)
-
-pub dropOldest-pends : (st : Store) → sound st ≡ true → (k : Queue) (signal : ℕ) (q : Queue) (s : ℕ) → pendingIn (view (apply (dropOldest k signal) st)) q s ≡ true
-    → pendingIn (view st) q s ≡ true
-unfolding apply recordsFor markIn
-dropOldest-pends st _ k signal q s =
-    still-pends st (apply (dropOldest k signal) st) q s
-    (λ e. any-within (inQueue q s) (used-one st k signal (eqb (k .thread) 0) (eqb (q .thread) 0)) e)
-    (λ e. e)

@@ -82,9 +82,6 @@ module _ (st : Store) where
   thread-is n e =
       eqb-true (threadWith n .holds .id) n (and-snd (not (eqb n 0)) (eqb (threadWith n .holds .id) n) (where-passes freeThread (isThread n) (st .threads) e))
 
-  pub the-process-id : (n : ℕ) → liveProcess (view st) n ≡ true → theProcess (view st) n .id ≡ n
-  the-process-id n e = ap (λ (p : Process). p .id) (the-process n) ∙ process-is n e
-
   pub the-thread-id : (n : ℕ) → liveThread (view st) n ≡ true → theThread (view st) n .id ≡ n
   the-thread-id n e = ap (λ (t : Thread). t .id) (the-thread n) ∙ thread-is n e
 

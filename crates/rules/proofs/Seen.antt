@@ -13,7 +13,7 @@ use Rattle.sigset.specs.Set.{union, without, ofSignal}
 use Rattle.types.specs.declared.Siginfo.{Siginfo}
 use Rattle.rules.specs.Types.{Process, Thread, Queue, noProcess, noThread}
 use Rattle.rules.specs.Signals.{ignored}
-use Rattle.rules.specs.View.{View, setMark, clearMark, append, dropOldest, discard, isProcess, isThread, belongsTo, sameQueue, processQueue, threadQueue, actionOf, liveProcess, liveThread, theProcess, theThread, threadAction}
+use Rattle.rules.specs.View.{View, setMark, clearMark, dropOldest, discard, isProcess, isThread, belongsTo, sameQueue, processQueue, threadQueue, actionOf, liveProcess, liveThread, theProcess, theThread, threadAction}
 use Rattle.rules.specs.Store.{Place, Store, held, remark, onMarks, view, apply}
 use Rattle.rules.specs.Sound.{nameable, belongs, hasThread, namesLive, aimedAtThread, aimedAtProcess, marksHeard, recordHeard, threadHeard}
 use Rattle.rules.specs.Refusals.{noProcessLive, noThreadLive, badTarget}
@@ -136,15 +136,6 @@ module _ (st : Store) where
     pub seen-dropOldest-threads : view (apply (dropOldest q s) st) .threads ≡ view st .threads
     unfolding apply view
     seen-dropOldest-threads = refl
-
-  module _ (r : Siginfo) where
-    pub seen-append-processes : view (apply (append r) st) .processes ≡ view st .processes
-    unfolding apply view
-    seen-append-processes = refl
-
-    pub seen-append-threads : view (apply (append r) st) .threads ≡ view st .threads
-    unfolding apply view
-    seen-append-threads = refl
 
   module _ (p : ℕ) (signals : SigSet) where
     pub seen-discard-processes : view (apply (discard p signals) st) .processes ≡ view st .processes

@@ -157,15 +157,9 @@ pub words-back : (ws : List ℕ) → length ws ≡ processTable → processWords
 unfolding processWordsOf processesOf
 words-back ws long = flat-rows processFrom processTo processWords process-back processPlaces ws long
 
-pub words-are : (ws : List ℕ) (xs : List (Place Process)) → length ws ≡ processTable → processesOf ws ≡ xs → ws ≡ processWordsOf xs
-words-are ws xs long e = sym (words-back ws long) ∙ ap processWordsOf e
-
 pub thread-words-back : (ws : List ℕ) → length ws ≡ threadTable → threadWordsOf (threadsOf ws) ≡ ws
 unfolding threadWordsOf threadsOf
 thread-words-back ws long = flat-rows threadFrom threadTo threadWords thread-back threadPlaces ws long
-
-pub thread-words-are : (ws : List ℕ) (xs : List (Place Thread)) → length ws ≡ threadTable → threadsOf ws ≡ xs → ws ≡ threadWordsOf xs
-thread-words-are ws xs long e = sym (thread-words-back ws long) ∙ ap threadWordsOf e
 
 module _ (xs : List (Place Process)) (many : length xs ≡ processPlaces) (whole : All ActionsLong xs) where
   pub words-forth : processesOf (processWordsOf xs) ≡ xs
