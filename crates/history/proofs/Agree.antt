@@ -5,7 +5,7 @@ use mathlib.Core.Bool.{Bool, true, false, not, _&&_, _||_, cond, and-true, and-f
 use mathlib.Core.List.{List, [], _∷_, _++_, tail}
 use lib.Dec.{eqb}
 use lib.ListN.{replicate}
-use Rattle.limits.specs.Limits.{processPlaces, threadPlaces, bufferRecords, siQueue}
+use Rattle.limits.specs.Limits.{processPlaces, threadPlaces, bufferRecords}
 use Rattle.lists.specs.Lists.{all, any, change, keep, replaceFirst}
 use Rattle.lists.proofs.Bools.{clash, and-fst, and-snd, and-right, or-both, cond-map, cond-kept, cond-same}
 use Rattle.lists.proofs.Lists.{map-change, map-replaceFirst, any-changed, any-replicate, leading-replicate}
@@ -16,21 +16,20 @@ use Rattle.types.specs.declared.Siginfo.{Siginfo}
 use Rattle.types.specs.Values.{noSiginfo}
 use Rattle.rules.specs.Types.{Process, Thread, Queue, noProcess, noThread}
 use Rattle.rules.specs.Signals.{isSignal}
-use Rattle.rules.specs.View.{sameQueue, processQueue, Change, forget, newProcess, newThread, removeProcess, removeThread, setStopped, setAction, setMask, setMark, clearMark, append, dropOldest, discard, isProcess, isThread, belongsTo, queueOf, inQueue, liveThread}
+use Rattle.rules.specs.View.{sameQueue, processQueue, Change, forget, newProcess, newThread, removeProcess, removeThread, setStopped, setAction, setMask, setMark, clearMark, append, dropOldest, discard, isProcess, isThread, belongsTo, inQueue, liveThread}
 use Rattle.rules.specs.Store.{Store, held, view, inUse, used, recordsFor, markIn, spared, processMark, threadMark, amend, onProcesses, freeProcess, freeThread, isFreeProcess, isFreeThread, withStopped, withAction, withMask, cleared, apply}
 use Rattle.rules.specs.Sound.{ifFree, processId, threadId, zeroProcess, zeroThread, nameable, freeZero, sound}
 use Rattle.rules.specs.Fitting.{admits, liveQueue, fits}
 use Rattle.rules.proofs.Clauses.{clauses}
 use Rattle.rules.proofs.Fading.{discard-records, discard-marks}
 use Rattle.rules.proofs.Marks.{process-named, thread-named}
-use Rattle.rules.proofs.Queues.{queue-target, target-process}
 use Rattle.rules.proofs.Seen.{seen-setMark-processes, seen-setMark-threads, seen-clearMark-processes, seen-clearMark-threads, seen-discard-processes, seen-discard-threads}
 use Rattle.rules.proofs.Slots.{zero-free}
 use Rattle.rules.proofs.Vacated.{held-vacated, free-process-unmarked, free-thread-unmarked}
 use Rattle.history.specs.Ledger as ledger
 use Rattle.history.specs.Ledger.{ofThread, ofSignals, Line, Ledger, emptyLedger, emptyLine, withMark, keepSend, takeSend, isAt, ofProcess, note}
 use Rattle.history.proofs.Relation.{Agrees}
-use Rattle.history.proofs.Records.{keep-left, both-buffers, append-records, drop-records}
+use Rattle.history.proofs.Records.{fitting-used, keep-left, both-buffers, append-records, drop-records}
 use Rattle.history.proofs.Marks.{remove-process-marks, remove-thread-marks, new-process-marks, new-thread-marks, set-marks, clear-marks}
 
 -- ---- one line that may change
@@ -231,12 +230,6 @@ agrees-forget st k = record { processes = refl; threads = refl; records = no-rec
 
 -- ---- every change
 
--- a record that fits names a live process
-append-used : (st : Store) (r : Siginfo) → admits (view st) (queueOf r) (r .signal) ≡ true → inUse r ≡ true
-unfolding admits inUse
-append-used st r f =
-    ap not (process-named st (r .process) (target-process (view st) (r .process) (r .thread) (queue-target (view st) (r .process) (r .thread) (and-fst (liveQueue (view st) (queueOf r)) _ f))))
-
 pub agrees-change : (ch : Change) (st : Store) (k : Ledger) → sound st ≡ true → fits (view st) ch ≡ true → Agrees st k → Agrees (apply ch st) (note ch k)
 unfolding fits
 agrees-change forget st k e f a = agrees-forget st k
@@ -250,6 +243,6 @@ agrees-change (setMask n m) st k e f a = agrees-setMask st k a n m
 agrees-change (setMark q s) st k e f a = agrees-setMark st k a q s f
 agrees-change (clearMark q s) st k e f a = agrees-clearMark st k a q s
 agrees-change (append r) st k e f a =
-    agrees-append st k a r (append-used st r (and-fst (admits (view st) (queueOf r) (r .signal)) _ (and-snd (eqb (r .code) siQueue) _ f)))
+    agrees-append st k a r (fitting-used st r f)
 agrees-change (dropOldest q s) st k e f a = agrees-dropOldest st k a q s
 agrees-change (discard n x) st k e f a = agrees-discard st k a n x

@@ -5,6 +5,7 @@ use mathlib.Core.Bool.{Bool, true, false, not, _&&_, cond}
 use mathlib.Core.List.{List, [], _∷_, _++_, tail, append-nil}
 use lib.Dec.{eqb}
 use borrow.Author.Tests.{eqb-true}
+use Rattle.limits.specs.Limits.{siQueue}
 use Rattle.lists.specs.Lists.{all, keep, dropFirst}
 use Rattle.lists.proofs.Bools.{split, and-fst, and-snd}
 use Rattle.lists.proofs.Lists.{keep-yes, keep-no, keep-append, keep-all, keep-none, keep-dropFirst, keep-dropFirst-other, all-end}
@@ -12,8 +13,10 @@ use Rattle.lists.proofs.Sublists.{Within, dropFirst-within}
 use Rattle.types.specs.declared.Siginfo.{Siginfo}
 use Rattle.rules.specs.Types.{Queue}
 use Rattle.rules.specs.View.{append, dropOldest, sameQueue, queueOf, inQueue}
-use Rattle.rules.specs.Store.{Store, inUse, used, recordsFor, onSlots, apply}
-use Rattle.rules.proofs.Marks.{queue-same}
+use Rattle.rules.specs.Store.{Store, view, inUse, used, recordsFor, onSlots, apply}
+use Rattle.rules.specs.Fitting.{admits, fits}
+use Rattle.rules.proofs.Grows.{admitted}
+use Rattle.rules.proofs.Marks.{queue-same, process-named}
 use Rattle.rules.proofs.Slots.{used-inUse, used-after, used-within, inUse-within}
 use Rattle.queue.proofs.Signals.{eqb-comm}
 use Rattle.history.specs.Ledger.{isAt}
@@ -70,6 +73,13 @@ module _ (g : List Siginfo → List Siginfo) (u : (slots : List Siginfo) → all
   other-buffer f h true false = refl
   other-buffer f h false true = refl
   other-buffer f h false false = ap f (used-after g tb (u tb)) ∙ h (used tb)
+
+-- a record that fits names a live process
+pub fitting-used : (st : Store) (r : Siginfo) → fits (view st) (append r) ≡ true → inUse r ≡ true
+unfolding fits inUse
+fitting-used st r f =
+    let a : admits (view st) (queueOf r) (r .signal) ≡ true = and-fst (admits (view st) (queueOf r) (r .signal)) _ (and-snd (eqb (r .code) siQueue) _ f) in
+    ap not (process-named st (r .process) (admitted st (queueOf r) (r .signal) a .process))
 
 -- a record at the end
 module _ (r : Siginfo) (n : inUse r ≡ true) (st : Store) where

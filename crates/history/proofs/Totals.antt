@@ -6,9 +6,9 @@ use mathlib.Core.List.{List, [], _∷_, _++_}
 use native.Mathlib.Omega.{arith}
 use lib.Dec.{eqb}
 use lib.ListN.{length, length-append}
-use Rattle.limits.specs.Limits.{bufferRecords, siQueue}
+use Rattle.limits.specs.Limits.{bufferRecords}
 use Rattle.lists.specs.Lists.{all, any, count, keep, dropFirst}
-use Rattle.lists.proofs.Bools.{split, and-fst, and-snd}
+use Rattle.lists.proofs.Bools.{split}
 use Rattle.lists.proofs.Lists.{all-end, any-count, count-keep, count-not, isSome-first, leading-replicate, length-dropFirst}
 use Rattle.lists.proofs.Sublists.{keep-within, dropFirst-within, all-within}
 use Rattle.types.specs.declared.Siginfo.{Siginfo}
@@ -17,11 +17,10 @@ use Rattle.rules.specs.Types.{Process, Thread, Queue}
 use Rattle.rules.specs.View.{Change, forget, newProcess, newThread, removeProcess, removeThread, setStopped, setAction, setMask, setMark, clearMark, append, dropOldest, discard, queueOf, inQueue}
 use Rattle.rules.specs.Store.{Store, inUse, used, recordsFor, onSlots, onBuffer, onBuffers, cleared, view, apply}
 use Rattle.rules.specs.Sound.{sound}
-use Rattle.rules.specs.Fitting.{admits, fits}
-use Rattle.rules.proofs.Grows.{admitted}
-use Rattle.rules.proofs.Marks.{process-named}
+use Rattle.rules.specs.Fitting.{fits}
 use Rattle.rules.proofs.Slots.{zero-free, used-inUse, used-after, used-within}
 use Rattle.history.specs.Ledger.{ofThread, ofSignals, Ledger, emptyLedger, ofProcess, oneOf, emptying, note}
+use Rattle.history.proofs.Records.{fitting-used}
 use Rattle.history.proofs.Relation.{Agrees}
 use Rattle.history.proofs.Counted.{counted, all-pending}
 
@@ -92,14 +91,12 @@ total-emptied p st k e a h =
     omega (arith, kept-slots n (st .threadBuffer), kept-slots n (st .processBuffer), counted st k e a p)
 
 total-append : (r : Siginfo) (st : Store) (k : Ledger) → fits (view st) (append r) ≡ true → Total st k → Total (apply (append r) st) (note (append r) k)
-unfolding apply note fits inUse
+unfolding apply note
 total-append r st k f h =
-    let d : admits (view st) (queueOf r) (r .signal) ≡ true = and-fst (admits (view st) (queueOf r) (r .signal)) _ (and-snd (eqb (r .code) siQueue) _ f) in
-    let n : inUse r ≡ true = ap not (process-named st (r .process) (admitted st (queueOf r) (r .signal) d .process)) in
     let rs : List Siginfo = recordsFor (queueOf r) st in
     omega (
       arith,
-      one-changed st (queueOf r) (λ l. l ++ (r ∷ [])) (all-end inUse rs r (records-inUse (queueOf r) st) n),
+      one-changed st (queueOf r) (λ l. l ++ (r ∷ [])) (all-end inUse rs r (records-inUse (queueOf r) st) (fitting-used st r f)),
       length-append rs (r ∷ []),
     )
 

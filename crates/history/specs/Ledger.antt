@@ -157,8 +157,8 @@ withTotal n l = record { processes = l .processes; threads = l .threads; lines =
 abbrev pub isAt : Queue → ℕ → Queue → ℕ → Bool
 isAt q s q′ s′ = sameQueue q′ q && eqb s′ s
 
--- The emptying events: clearing, of `everywhere`; the end of a process or of a thread, KILL's too, of `ofProcess` or `ofThread`; steps 1 and 2, and storing
--- or resetting to an ignoring action, of `ofSignals`. The lines that pass the test are emptied.
+-- "Such events are clearing (of all but counts), steps 1 and 2, storing or resetting to an ignoring action, the end of the thread or process": clearing
+-- empties `everywhere`, the end of a process, by KILL too, `ofProcess`, that of a thread `ofThread`, and the others `ofSignals`.
 abbrev pub emptying : (Queue → ℕ → Bool) → Ledger → Ledger
 emptying p l =
     withTotal (record { kept = l .total .kept; taken = l .total .taken; discarded = l .total .discarded + pendingWhere l p })
