@@ -32,7 +32,7 @@ use sigset::SigSet;
 
 // ---- clearing
 
-fn lengths_are(ps: &[u64], ts: &[u64], tb: &[u8], pb: &[u8]) -> bool
+pub fn lengths_are(ps: &[u64], ts: &[u64], tb: &[u8], pb: &[u8]) -> bool
     ensures { λ r. ⌜ r ≡ lengthsAre (now (ps .entry)) (now (ts .entry)) (now (tb .entry)) (now (pb .entry)) ⌝ }
 {
     let buffers = (tb.len() == BUFFER_BYTES) & (pb.len() == BUFFER_BYTES);

@@ -215,3 +215,112 @@ recordBytes = 32
 
 abbrev pub bufferBytes : ℕ
 bufferBytes = bufferRecords * recordBytes
+
+-- ---- the C boundary: the calls in their documented order, from 1 on, so that a number left at 0 is no call
+
+abbrev pub callClear : ℕ
+callClear = 1
+
+abbrev pub callAddProcess : ℕ
+callAddProcess = 2
+
+abbrev pub callAddThread : ℕ
+callAddThread = 3
+
+abbrev pub callEndProcess : ℕ
+callEndProcess = 4
+
+abbrev pub callEndThread : ℕ
+callEndThread = 5
+
+abbrev pub callKill : ℕ
+callKill = 6
+
+abbrev pub callQueue : ℕ
+callQueue = 7
+
+abbrev pub callAction : ℕ
+callAction = 8
+
+abbrev pub callMask : ℕ
+callMask = 9
+
+abbrev pub callPending : ℕ
+callPending = 10
+
+abbrev pub callLook : ℕ
+callLook = 11
+
+abbrev pub callWho : ℕ
+callWho = 12
+
+abbrev pub callTake : ℕ
+callTake = 13
+
+abbrev pub callReturn : ℕ
+callReturn = 14
+
+-- ---- the answers there: the first word of each, and the words of the longest
+
+abbrev pub answerDone : ℕ
+answerDone = 1
+
+abbrev pub answerTested : ℕ
+answerTested = 2
+
+abbrev pub answerActed : ℕ
+answerActed = 3
+
+abbrev pub answerDropped : ℕ
+answerDropped = 4
+
+abbrev pub answerAbsorbed : ℕ
+answerAbsorbed = 5
+
+abbrev pub answerMarked : ℕ
+answerMarked = 6
+
+abbrev pub answerKept : ℕ
+answerKept = 7
+
+abbrev pub answerOldAction : ℕ
+answerOldAction = 8
+
+abbrev pub answerOldMask : ℕ
+answerOldMask = 9
+
+abbrev pub answerPendingSet : ℕ
+answerPendingSet = 10
+
+abbrev pub answerNextNothing : ℕ
+answerNextNothing = 11
+
+abbrev pub answerNextMark : ℕ
+answerNextMark = 12
+
+abbrev pub answerNextRecord : ℕ
+answerNextRecord = 13
+
+abbrev pub answerCanTake : ℕ
+answerCanTake = 14
+
+abbrev pub answerNoneCan : ℕ
+answerNoneCan = 15
+
+abbrev pub answerNothing : ℕ
+answerNothing = 16
+
+abbrev pub answerHandler : ℕ
+answerHandler = 17
+
+abbrev pub answerEnd : ℕ
+answerEnd = 18
+
+abbrev pub answerStop : ℕ
+answerStop = 19
+
+abbrev pub answerNoAction : ℕ
+answerNoAction = 20
+
+abbrev pub answerWords : ℕ
+answerWords = 12

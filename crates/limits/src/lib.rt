@@ -149,3 +149,77 @@ pub const RECORD_VALUE: usize = 24;
 pub const RECORD_BYTES: usize = 32;
 
 pub const BUFFER_BYTES: usize = BUFFER_RECORDS * RECORD_BYTES;
+
+// ---- the C boundary: the calls in their documented order, from 1 on, so that a number left at 0 is no call
+
+pub const CALL_CLEAR: u32 = 1;
+
+pub const CALL_ADD_PROCESS: u32 = 2;
+
+pub const CALL_ADD_THREAD: u32 = 3;
+
+pub const CALL_END_PROCESS: u32 = 4;
+
+pub const CALL_END_THREAD: u32 = 5;
+
+pub const CALL_KILL: u32 = 6;
+
+pub const CALL_QUEUE: u32 = 7;
+
+pub const CALL_ACTION: u32 = 8;
+
+pub const CALL_MASK: u32 = 9;
+
+pub const CALL_PENDING: u32 = 10;
+
+pub const CALL_LOOK: u32 = 11;
+
+pub const CALL_WHO: u32 = 12;
+
+pub const CALL_TAKE: u32 = 13;
+
+pub const CALL_RETURN: u32 = 14;
+
+// ---- the answers there: the first word of each, and the words of the longest
+
+pub const ANSWER_DONE: u64 = 1;
+
+pub const ANSWER_TESTED: u64 = 2;
+
+pub const ANSWER_ACTED: u64 = 3;
+
+pub const ANSWER_DROPPED: u64 = 4;
+
+pub const ANSWER_ABSORBED: u64 = 5;
+
+pub const ANSWER_MARKED: u64 = 6;
+
+pub const ANSWER_KEPT: u64 = 7;
+
+pub const ANSWER_OLD_ACTION: u64 = 8;
+
+pub const ANSWER_OLD_MASK: u64 = 9;
+
+pub const ANSWER_PENDING_SET: u64 = 10;
+
+pub const ANSWER_NEXT_NOTHING: u64 = 11;
+
+pub const ANSWER_NEXT_MARK: u64 = 12;
+
+pub const ANSWER_NEXT_RECORD: u64 = 13;
+
+pub const ANSWER_CAN_TAKE: u64 = 14;
+
+pub const ANSWER_NONE_CAN: u64 = 15;
+
+pub const ANSWER_NOTHING: u64 = 16;
+
+pub const ANSWER_HANDLER: u64 = 17;
+
+pub const ANSWER_END: u64 = 18;
+
+pub const ANSWER_STOP: u64 = 19;
+
+pub const ANSWER_NO_ACTION: u64 = 20;
+
+pub const ANSWER_WORDS: usize = 12;

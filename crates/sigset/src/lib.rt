@@ -5,6 +5,7 @@ use limits::SIGKILL;
 use limits::SIGNALS;
 use limits::SIGSTOP;
 
+#[repr(C)]
 pub struct SigSet(pub u64);
 
 impl SigSet {

@@ -111,7 +111,7 @@ fn process_place(ps: &[u64], id: u64) -> usize
     i
 }
 
-fn thread_place(ts: &[u64], id: u64) -> usize
+pub fn thread_place(ts: &[u64], id: u64) -> usize
     requires { ⌜ length (now ts) ≡ threadTable ⌝ }
     ensures { λ r. ⌜ r ≡ find (hasThreadId id) (heldThreads (now (ts .entry))) ⌝ }
 {

@@ -1,0 +1,302 @@
+// The C boundary over the word tables: a call by its number, with its arguments as numbers, and its answer as words.
+ghost use mathlib.Core.Path.{_≡_};
+ghost use mathlib.Core.Bool.{true, cond};
+ghost use mathlib.Core.List.{[], _∷_, _++_};
+ghost use Prim.Native.Nat.{_≤_};
+ghost use lib.ListN.{length, drop};
+ghost use Rattle.limits.specs.Limits.{EFAULT, EINVAL, answerWords};
+ghost use Rattle.rules.specs.Types as answer;
+ghost use Rattle.lists.specs.Lists.{padded};
+ghost use Rattle.sigset.specs.Set.{bits};
+ghost use Rattle.answers.specs.Answers.{answerOf, nextOf};
+ghost use Rattle.answers.specs.Step.{lent};
+ghost use Rattle.settings.specs.Given.{newAction, newSet};
+ghost use Rattle.calls.specs.Calls.{callOf};
+ghost use Rattle.boundary.specs.Boundary.{arguments, whereGiven, isCall, numbered, accepted, usable, nextWords, wordsOf, errnoOf, written, serveOn};
+use answers::Answer;
+use answers::Next;
+use calls::Call;
+use limits::ANSWER_ABSORBED;
+use limits::ANSWER_ACTED;
+use limits::ANSWER_CAN_TAKE;
+use limits::ANSWER_DONE;
+use limits::ANSWER_DROPPED;
+use limits::ANSWER_END;
+use limits::ANSWER_HANDLER;
+use limits::ANSWER_KEPT;
+use limits::ANSWER_MARKED;
+use limits::ANSWER_NEXT_MARK;
+use limits::ANSWER_NEXT_NOTHING;
+use limits::ANSWER_NEXT_RECORD;
+use limits::ANSWER_NO_ACTION;
+use limits::ANSWER_NONE_CAN;
+use limits::ANSWER_NOTHING;
+use limits::ANSWER_OLD_ACTION;
+use limits::ANSWER_OLD_MASK;
+use limits::ANSWER_PENDING_SET;
+use limits::ANSWER_STOP;
+use limits::ANSWER_TESTED;
+use limits::ANSWER_WORDS;
+use limits::CALL_ACTION;
+use limits::CALL_ADD_PROCESS;
+use limits::CALL_ADD_THREAD;
+use limits::CALL_CLEAR;
+use limits::CALL_END_PROCESS;
+use limits::CALL_END_THREAD;
+use limits::CALL_KILL;
+use limits::CALL_LOOK;
+use limits::CALL_MASK;
+use limits::CALL_PENDING;
+use limits::CALL_QUEUE;
+use limits::CALL_RETURN;
+use limits::CALL_TAKE;
+use limits::CALL_WHO;
+use limits::EFAULT;
+use limits::EINVAL;
+use settings::GivenAction;
+use settings::GivenSet;
+use sigset::SigSet;
+use types::Action;
+use types::Siginfo;
+
+// ---- the call
+
+// An action or a set is given where the number before it is not 0.
+fn given_action(given: u32, handler: u64, flags: u64, mask: u64) -> GivenAction
+    ensures { λ r. ⌜ newAction r ≡ whereGiven given (record { handler = handler; flags = flags; mask = bits mask }) ⌝ }
+{
+    if given == 0 {
+        return GivenAction::NoAction;
+    }
+    GivenAction::Action(Action {
+        handler,
+        flags,
+        mask: SigSet(mask),
+    })
+}
+
+fn given_set(given: u32, set: u64) -> GivenSet
+    ensures { λ r. ⌜ newSet r ≡ whereGiven given (bits set) ⌝ }
+{
+    if given == 0 {
+        return GivenSet::NoSet;
+    }
+    GivenSet::Set(SigSet(set))
+}
+
+// The call of a number, with its arguments in the documented order.
+fn call_of(
+    number: u32,
+    a: u32,
+    b: u32,
+    c: u32,
+    d: u32,
+    e: u32,
+    f: u32,
+    x: u64,
+    y: u64,
+    z: u64,
+) -> Call
+    requires { ⌜ isCall number ≡ true ⌝ }
+    ensures { λ r. ⌜ callOf r ≡ numbered number (arguments a b c d e f x y z) ⌝ }
+{
+    match number {
+        CALL_CLEAR => Call::Clear,
+        CALL_ADD_PROCESS => Call::AddProcess(a, b, c, d, e, f, SigSet(x)),
+        CALL_ADD_THREAD => Call::AddThread(a, b),
+        CALL_END_PROCESS => Call::EndProcess(a),
+        CALL_END_THREAD => Call::EndThread(a),
+        CALL_KILL => Call::Kill(a, b, c, d),
+        CALL_QUEUE => Call::Queue(a, b, c, d, x),
+        CALL_ACTION => Call::Action(a, b, given_action(c, x, y, z)),
+        CALL_MASK => Call::Mask(a, b, given_set(c, x)),
+        CALL_PENDING => Call::Pending(a),
+        CALL_LOOK => Call::Look(a),
+        CALL_WHO => Call::Who(a),
+        CALL_TAKE => Call::Take(a),
+        _ => Call::Return(a, SigSet(x)),
+    }
+}
+
+// ---- the answer
+
+// What is returned: the errno of a refusal, else 0.
+fn errno_of(answer: Answer) -> u32
+    ensures { λ r. ⌜ r ≡ errnoOf (answerOf answer) ⌝ }
+{
+    match answer {
+        Answer::Refused(n) => n,
+        _ => 0,
+    }
+}
+
+// A first word, and up to three more.
+fn short(number: u64, a: u64, b: u64, c: u64) -> [u64; ANSWER_WORDS]
+    ensures { λ r. ⌜ r ≡ padded 0 answerWords (number ∷ a ∷ b ∷ c ∷ []) ⌝ }
+{
+    [number, a, b, c, 0, 0, 0, 0, 0, 0, 0, 0]
+}
+
+// What a look found.
+fn next_words(next: Next) -> [u64; ANSWER_WORDS]
+    ensures { λ r. ⌜ r ≡ padded 0 answerWords (nextWords (nextOf next)) ⌝ }
+{
+    match next {
+        Next::Nothing => short(ANSWER_NEXT_NOTHING, 0, 0, 0),
+        Next::Mark(process, thread, signal) => {
+            short(
+                ANSWER_NEXT_MARK,
+                process as u64,
+                thread as u64,
+                signal as u64,
+            )
+        }
+        Next::Record(r) => [
+            ANSWER_NEXT_RECORD,
+            r.process as u64,
+            r.thread as u64,
+            r.signal as u64,
+            r.code as u64,
+            r.sender as u64,
+            r.uid as u64,
+            r.value,
+            0,
+            0,
+            0,
+            0,
+        ],
+    }
+}
+
+// A handler to run.
+fn handler_words(
+    handler: u64,
+    signal: u32,
+    r: Siginfo,
+    flags: u64,
+    saved: SigSet,
+) -> [u64; ANSWER_WORDS]
+    ensures { λ w. ⌜ w ≡ padded 0 answerWords (wordsOf (answer.handler handler signal r flags saved)) ⌝ }
+{
+    [
+        ANSWER_HANDLER,
+        handler,
+        signal as u64,
+        flags,
+        saved.0,
+        r.process as u64,
+        r.thread as u64,
+        r.signal as u64,
+        r.code as u64,
+        r.sender as u64,
+        r.uid as u64,
+        r.value,
+    ]
+}
+
+// The words of an answer, with zeros behind.
+fn words_of(answer: Answer) -> [u64; ANSWER_WORDS]
+    ensures { λ r. ⌜ r ≡ padded 0 answerWords (wordsOf (answerOf answer)) ⌝ }
+{
+    match answer {
+        Answer::Refused(_) => [0; ANSWER_WORDS],
+        Answer::Done => short(ANSWER_DONE, 0, 0, 0),
+        Answer::Tested => short(ANSWER_TESTED, 0, 0, 0),
+        Answer::Acted => short(ANSWER_ACTED, 0, 0, 0),
+        Answer::Dropped => short(ANSWER_DROPPED, 0, 0, 0),
+        Answer::Absorbed => short(ANSWER_ABSORBED, 0, 0, 0),
+        Answer::Marked => short(ANSWER_MARKED, 0, 0, 0),
+        Answer::Kept => short(ANSWER_KEPT, 0, 0, 0),
+        Answer::OldAction(a) => {
+            let mask = a.mask;
+            short(ANSWER_OLD_ACTION, a.handler, a.flags, mask.0)
+        }
+        Answer::OldMask(m) => short(ANSWER_OLD_MASK, m.0, 0, 0),
+        Answer::PendingSet(m) => short(ANSWER_PENDING_SET, m.0, 0, 0),
+        Answer::Looked(next) => next_words(next),
+        Answer::CanTake(thread) => short(ANSWER_CAN_TAKE, thread as u64, 0, 0),
+        Answer::NoneCan => short(ANSWER_NONE_CAN, 0, 0, 0),
+        Answer::Nothing => short(ANSWER_NOTHING, 0, 0, 0),
+        Answer::Handler(handler, signal, r, flags, saved) => {
+            handler_words(handler, signal, r, flags, saved)
+        }
+        Answer::End(signal) => short(ANSWER_END, signal as u64, 0, 0),
+        Answer::Stop(signal) => short(ANSWER_STOP, signal as u64, 0, 0),
+        Answer::NoAction(signal) => short(ANSWER_NO_ACTION, signal as u64, 0, 0),
+    }
+}
+
+fn write(out: &mut [u64], words: [u64; ANSWER_WORDS])
+    requires { ⌜ answerWords ≤ length (now out) ⌝ }
+    ensures { λ _. ⌜ now (out .exit) ≡ words ++ drop answerWords (now (out .entry)) ⌝ }
+{
+    let mut i = 0;
+    while i < ANSWER_WORDS {
+        out[i] = words[i];
+        i += 1;
+    }
+}
+
+// ---- one call
+
+// Is there such a call, and room for any answer?
+fn is_accepted(number: u32, room: usize) -> bool
+    ensures { λ r. ⌜ r ≡ accepted number room ⌝ }
+{
+    let is_call = !(number < CALL_CLEAR) & !(CALL_RETURN < number);
+    is_call & !(room < ANSWER_WORDS)
+}
+
+// Does errno 14 not apply? Clearing checks lengths only.
+fn is_usable(ps: &[u64], ts: &[u64], tb: &[u8], pb: &[u8], number: u32) -> bool
+    ensures { λ r. ⌜ r ≡ usable number (lent (now (ps .entry)) (now (ts .entry)) (now (tb .entry)) (now (pb .entry))) ⌝ }
+{
+    if number == CALL_CLEAR {
+        return adding::lengths_are(ps, ts, tb, pb);
+    }
+    sound::sound(ps, ts, tb, pb)
+}
+
+// The errno of what is not accepted: 14 comes first.
+fn refusal(ps: &[u64], ts: &[u64], tb: &[u8], pb: &[u8], number: u32) -> u32
+    ensures { λ r. ⌜ r ≡ cond (usable number (lent (now (ps .entry)) (now (ts .entry)) (now (tb .entry)) (now (pb .entry)))) EINVAL EFAULT ⌝ }
+{
+    if is_usable(ps, ts, tb, pb, number) {
+        return EINVAL;
+    }
+    EFAULT
+}
+
+// One call by its number. Returns 0, with the answer's words in `out`, or an errno; then nothing is written.
+pub fn serve(
+    ps: &mut [u64],
+    ts: &mut [u64],
+    tb: &mut [u8],
+    pb: &mut [u8],
+    out: &mut [u64],
+    number: u32,
+    a: u32,
+    b: u32,
+    c: u32,
+    d: u32,
+    e: u32,
+    f: u32,
+    x: u64,
+    y: u64,
+    z: u64,
+) -> u64
+    ensures errno { λ r. ⌜ r ≡ errnoOf (serveOn number (arguments a b c d e f x y z) (length (now (out .entry))) (lent (now (ps .entry)) (now (ts .entry)) (now (tb .entry)) (now (pb .entry))) .1) ⌝ }
+    ensures tables { λ r. ⌜ lent (now (ps .exit)) (now (ts .exit)) (now (tb .exit)) (now (pb .exit)) ≡ serveOn number (arguments a b c d e f x y z) (length (now (out .entry))) (lent (now (ps .entry)) (now (ts .entry)) (now (tb .entry)) (now (pb .entry))) .0 ⌝ }
+    ensures answer { λ r. ⌜ now (out .exit) ≡ written (serveOn number (arguments a b c d e f x y z) (length (now (out .entry))) (lent (now (ps .entry)) (now (ts .entry)) (now (tb .entry)) (now (pb .entry))) .1) (now (out .entry)) ⌝ }
+{
+    if !is_accepted(number, out.len()) {
+        return refusal(ps, ts, tb, pb, number) as u64;
+    }
+    let answer = calls::step(ps, ts, tb, pb, call_of(number, a, b, c, d, e, f, x, y, z));
+    let n = errno_of(answer);
+    if n != 0 {
+        return n as u64;
+    }
+    write(out, words_of(answer));
+    0
+}

@@ -1,0 +1,31 @@
+-- A row whose first i records were copied from another: the invariant of both copying loops. Assumes nothing.
+use mathlib.Core.Path.{_≡_, sym, _∙_, ap, subst}
+use Prim.Native.Nat.{ℕ, suc, _+_, _<_, _≤_}
+use native.Mathlib.Nat.{zero-add, le-of-eq}
+use native.Mathlib.Numerals.{add-one}
+use mathlib.Core.List.{List, _++_, append-nil}
+use lib.ListN.{length, getD, set, take, drop as from-on, drop-of-length-le}
+use lib.Seq.{paste, paste-suc, length-paste, take-all}
+use Rattle.threads.specs.Records.{noThread}
+use Rattle.threads.specs.declared.Thread.{Thread}
+
+-- d, with the first i records of ys pasted over it
+abbrev pub filled : List Thread → List Thread → ℕ → List Thread
+filled d ys i = paste d 0 ys i
+
+pub filled-suc : (d ys : List Thread) (i n : ℕ) → length d ≡ n → length ys ≡ n → i < n → set (filled d ys i) i (getD ys i noThread) ≡ filled d ys (i + 1)
+filled-suc d ys i n c e l =
+    subst (λ (k : ℕ). set (filled d ys i) k (getD ys i noThread) ≡ filled d ys (suc i)) (zero-add i)
+    (paste-suc d 0 ys i noThread (subst (λ (k : ℕ). k < length d) (sym (zero-add i)) (subst (λ (k : ℕ). i < k) (sym c) l)) (subst (λ (k : ℕ). i < k) (sym e) l))
+    ∙ ap (filled d ys) (sym (add-one i))
+
+pub filled-long : (d ys : List Thread) (i n : ℕ) → length d ≡ n → length ys ≡ n → i ≤ n → length (filled d ys i) ≡ n
+filled-long d ys i n c e l =
+    length-paste d 0 ys i (subst (λ (k : ℕ). k ≤ length d) (sym (zero-add i)) (subst (λ (k : ℕ). i ≤ k) (sym c) l)) (subst (λ (k : ℕ). i ≤ k) (sym e) l) ∙ c
+
+pub filled-all : (d ys : List Thread) (n : ℕ) → length d ≡ n → length ys ≡ n → filled d ys n ≡ ys
+filled-all d ys n c e =
+    ap (λ (k : ℕ). take n ys ++ from-on k d) (zero-add n)
+    ∙ ap (λ (zs : List Thread). take n ys ++ zs) (drop-of-length-le d (le-of-eq c))
+    ∙ append-nil _
+    ∙ take-all n ys (le-of-eq e)

@@ -1,0 +1,6 @@
+pub mod Size
+pub mod Search
+pub mod Filled
+pub mod Slot
+pub mod Lent
+pub mod Words
