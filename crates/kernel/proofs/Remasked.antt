@@ -36,7 +36,7 @@ use Rattle.effects.proofs.Places.{thread-changed}
 use Rattle.threads.specs.declared.Thread.{Thread}
 use Rattle.threads.specs.Records.{noThread, withMask, hasId, remasked, recordTo, wordsOf, recordsOf}
 use Rattle.threads.proofs.Words.{words-length, records-back}
-use Rattle.remask.specs.Remask.{maskIn}
+use Rattle.kernel.specs.Kernel.{maskIn}
 
 -- ---- a row of records, as the places that its words say
 
@@ -113,6 +113,10 @@ row-after ts e ws n m h =
     ∙ ap (λ i. recordsOf i (wordsOf us)) k
     ∙ ap (recordsOf (length ts)) (sym h)
 
+-- where the words are as they were
+pub row-same : (ts : List Thread) → length ts ≡ threadPlaces → (n : ℕ) → remasked n (maskIn (wordsOf ts) n) ts ≡ recordsOf (length ts) (wordsOf ts)
+row-same ts e n = row-after ts e (wordsOf ts) n (maskOf ts n) (ap wordsOf (sym (remasked-own n ts)))
+
 -- ---- the call
 
 -- the tables after a call that is accepted
@@ -132,9 +136,8 @@ module _ (ps tb pb : List ℕ) (ts : List Thread) (e : length ts ≡ threadPlace
   abbrev after : Option SigSet → List ℕ
   after set = stepOn (mask t way set) before .0 .threads
 
-  -- where the words are as they were
   same-after : (set : Option SigSet) → after set ≡ wordsOf ts → remasked t (maskIn (after set) t) ts ≡ recordsOf (length ts) (after set)
-  same-after set h = row-after ts e (after set) t (maskOf ts t) (h ∙ ap wordsOf (sym (remasked-own t ts)))
+  same-after set h = ap (λ ws. remasked t (maskIn ws t) ts) h ∙ row-same ts e t ∙ ap (recordsOf (length ts)) (sym h)
 
   -- without a set
   none-after : refusalOn (mask t way none) before ≡ 0 → after none ≡ wordsOf ts

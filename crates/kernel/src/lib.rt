@@ -241,14 +241,7 @@ fn part_of<'a>(
 }
 
 // The 32 bytes of the record that a thread takes next, in the buffer that holds it; an empty part for a mark, for nothing, and where the look is refused.
-#[no_mangle]
-pub extern "C" fn rrezhbuta_look<'a>(
-    ps: &[u64],
-    tb: &'a [u8],
-    pb: &'a [u8],
-    ts: &[Thread],
-    thread: u32,
-) -> &'a [u8]
+pub fn look<'a>(ps: &[u64], tb: &'a [u8], pb: &'a [u8], ts: &[Thread], thread: u32) -> &'a [u8]
     ensures { λ r. ⌜ now r ≡ lookAt (now (ps .entry)) (now (tb .entry)) (now (pb .entry)) (now (ts .entry)) thread ⌝ }
 {
     if ts.len() != THREAD_PLACES {

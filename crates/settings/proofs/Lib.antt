@@ -1,3 +1,3 @@
 mod Actions
-mod Masks
+pub mod Masks
 mod Pending

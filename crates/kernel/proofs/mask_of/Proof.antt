@@ -1,9 +1,9 @@
 -- `mask_of` meets its contract. Assumes nothing.
 use native.Mathlib.Omega.{arith}
 use borrow.Author.Needs.{needs}
-use Rattle.remask.proofs.Remasked.{mask-absent, mask-held, mask-inside}
-use Rattle.remask.proofs.mask_of.Statement.{statement}
-use Rattle.remask.proofs.mask_of.Tie as tie
+use Rattle.kernel.proofs.Remasked.{mask-absent, mask-held, mask-inside}
+use Rattle.kernel.proofs.mask_of.Statement.{statement}
+use Rattle.kernel.proofs.mask_of.Tie as tie
 
 thread-place-requires : tie.Need-thread-place-requires
 thread-place-requires c κs = search needs

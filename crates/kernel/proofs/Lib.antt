@@ -1,0 +1,7 @@
+pub mod Remasked
+pub mod Worked
+pub mod Lengths
+pub mod Routes
+pub mod Walk
+pub mod Lends
+pub mod Load

@@ -1,0 +1,28 @@
+-- `part_of` meets its contract. Assumes nothing.
+use mathlib.Core.Path.{ap, _∙_}
+use mathlib.Core.List.{List}
+use Prim.Native.Nat.{ℕ}
+use borrow.Author.Needs.{needs}
+use Rattle.answers.specs.Step.{lent}
+use Rattle.looking.specs.Looks.{lookBytes}
+use Rattle.kernel.specs.Kernel.{lookAt}
+use Rattle.kernel.proofs.part_of.Statement.{statement}
+use Rattle.kernel.proofs.part_of.Tie as tie
+
+words-of-requires : tie.Need-words-of-requires
+words-of-requires c κs = search needs
+
+slice-aggregate-look : tie.Need-slice-aggregate-look
+slice-aggregate-look c = search needs
+
+look-requires : tie.Need-look-requires
+look-requires c κs = search needs
+
+returns : tie.Need-returns
+unfolding lookAt
+returns c =
+    let a = c .before .before .before .before .before .before in
+    c .look .ensures ∙ ap (λ (ws : List ℕ). lookBytes (a .args .thread) (lent (a .args .ps .now) ws (a .args .tb .now) (a .args .pb .now))) (c .before .before .words-of .ensures)
+
+pub part-of-spec : {M : Type 1} → statement M
+part-of-spec = tie.close (tie.spec words-of-requires slice-aggregate-look look-requires returns)
