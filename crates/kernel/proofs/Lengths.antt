@@ -14,12 +14,12 @@ use Rattle.sound.specs.Lent.{storeOf, lengthsAre, soundTables}
 use Rattle.answers.specs.Step.{Lent, lent, decoded, settled, stepOn}
 use Rattle.rules.specs.Calls.{step, lookPart}
 use Rattle.rules.specs.Sound.{sound}
-use Rattle.looking.specs.Looks.{partBytes, lookBytes}
+use Rattle.looking.specs.Looks.{partBytes, lookBytes, slotNumber, lookSlot}
 use Rattle.boundary.specs.Boundary.{arguments, numbered, errnoOf, written, usable, accepted, serveOn}
 use Rattle.threads.specs.declared.Thread.{Thread}
 use Rattle.threads.specs.Records.{wordsOf, recordsOf}
 use Rattle.threads.proofs.Words.{words-length, records-back}
-use Rattle.kernel.specs.Kernel.{served, errnoAt, processesAt, threadBufferAt, processBufferAt, answerAt, threadsAt, lookAt}
+use Rattle.kernel.specs.Kernel.{served, errnoAt, processesAt, threadBufferAt, processBufferAt, answerAt, threadsAt, lookAt, slotAt}
 
 not-so : (b : Bool) → T (not b) → b ≡ false
 not-so true t = absurd t
@@ -51,6 +51,10 @@ module _ (ps tb pb : List ℕ) (ts : List Thread) (o : T (not (eqb (length ts) t
   unfolding lookAt lookBytes
   no-look-here thread r e = empty-list r e ∙ sym (cond-false (partBytes before (lookPart thread (decoded before))) [] short)
 
+  no-slot-here : (thread : ℕ) → 0 ≡ slotAt ps tb pb ts thread
+  unfolding slotAt lookSlot
+  no-slot-here thread = sym (cond-false (slotNumber (lookPart thread (decoded before))) 0 short)
+
   module _ (out : List ℕ) (number a b c d e f x y z : ℕ) where
     abbrev refusal : Lent × Answer
     refusal = (before, refused EFAULT)
@@ -80,3 +84,6 @@ wrong-length ps tb pb out ts number a b c d e f x y z o = wrong-length-here ps t
 
 pub no-look : (ps tb pb : List ℕ) (ts : List Thread) (thread : ℕ) (r : List ℕ) → T (not (eqb (length ts) threadPlaces)) → length r ≡ 0 → r ≡ lookAt ps tb pb ts thread
 no-look ps tb pb ts thread r o e = no-look-here ps tb pb ts o thread r e
+
+pub no-slot : (ps tb pb : List ℕ) (ts : List Thread) (thread : ℕ) → T (not (eqb (length ts) threadPlaces)) → 0 ≡ slotAt ps tb pb ts thread
+no-slot ps tb pb ts thread o = no-slot-here ps tb pb ts o thread

@@ -7,7 +7,7 @@ use Rattle.sigset.specs.declared.SigSet.{SigSet}
 use Rattle.rules.specs.Types.{Answer}
 use Rattle.tables.specs.Tables.{threadAt, heldThreads, hasThreadId}
 use Rattle.answers.specs.Step.{Lent, lent}
-use Rattle.looking.specs.Looks.{lookBytes}
+use Rattle.looking.specs.Looks.{lookBytes, lookSlot}
 use Rattle.boundary.specs.Boundary.{arguments, serveOn, errnoOf, written}
 use Rattle.threads.specs.declared.Thread.{Thread}
 use Rattle.threads.specs.Records.{wordsOf, recordsOf}
@@ -53,3 +53,7 @@ maskIn ws n = threadAt ws (find (hasThreadId n) (heldThreads ws)) .holds .mask
 -- the bytes that a look hands back
 unfoldable pub lookAt : (ps tb pb : List ℕ) (ts : List Thread) (thread : ℕ) → List ℕ
 lookAt ps tb pb ts thread = lookBytes thread (lentRecords ps tb pb ts)
+
+-- the number of its slot, for a host that cannot be handed a part
+unfoldable pub slotAt : (ps tb pb : List ℕ) (ts : List Thread) (thread : ℕ) → ℕ
+slotAt ps tb pb ts thread = lookSlot thread (lentRecords ps tb pb ts)

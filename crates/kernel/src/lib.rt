@@ -3,7 +3,7 @@ ghost use mathlib.Core.Path.{_≡_};
 ghost use lib.ListN.{length};
 ghost use Rattle.limits.specs.Limits.{threadTable, callMask};
 ghost use Rattle.threads.specs.Records.{remasked};
-ghost use Rattle.kernel.specs.Kernel.{errnoAt, processesAt, threadBufferAt, processBufferAt, answerAt, threadsAt, outAt, maskIn, lookAt};
+ghost use Rattle.kernel.specs.Kernel.{errnoAt, processesAt, threadBufferAt, processBufferAt, answerAt, threadsAt, outAt, maskIn, lookAt, slotAt};
 use limits::CALL_MASK;
 use limits::CALL_RETURN;
 use limits::EFAULT;
@@ -249,4 +249,30 @@ pub fn look<'a>(ps: &[u64], tb: &'a [u8], pb: &'a [u8], ts: &[Thread], thread: u
     }
     let a = threads::load(ts);
     part_of(ps, tb, pb, a, thread)
+}
+
+// The number of its slot, with the records by value.
+fn slot_of(ps: &[u64], tb: &[u8], pb: &[u8], ts: [Thread; THREAD_PLACES], thread: u32) -> u64
+    ensures { λ r. ⌜ r ≡ slotAt (now (ps .entry)) (now (tb .entry)) (now (pb .entry)) ts thread ⌝ }
+{
+    let ws = threads::words_of(ts);
+    looking::look_slot(ps, &ws, tb, pb, thread) as u64
+}
+
+// The same for a host that links it, which cannot be handed a part: 0 for the empty one, then the slots of the thread buffer from 1 on, then those of the process buffer.
+#[no_mangle]
+pub extern "C" fn rrezhbuta_look(
+    ps: &[u64],
+    tb: &[u8],
+    pb: &[u8],
+    ts: &[Thread],
+    thread: u32,
+) -> u64
+    ensures { λ r. ⌜ r ≡ slotAt (now (ps .entry)) (now (tb .entry)) (now (pb .entry)) (now (ts .entry)) thread ⌝ }
+{
+    if ts.len() != THREAD_PLACES {
+        return 0;
+    }
+    let a = threads::load(ts);
+    slot_of(ps, tb, pb, a, thread)
 }

@@ -1,2 +1,3 @@
 pub mod Looks
+pub mod Slots
 pub mod Takers

@@ -14,9 +14,10 @@ ghost use Rattle.tables.specs.Tables.{heldThreads};
 ghost use Rattle.sound.specs.Lent.{storeOf, soundTables};
 ghost use Rattle.answers.specs.Answers.{answerOf};
 ghost use Rattle.answers.specs.Step.{lent, stepOn};
-ghost use Rattle.looking.specs.Looks.{lookBytes};
+ghost use Rattle.looking.specs.Looks.{lookSlot, lookBytes};
 use answers::Answer;
 use answers::Next;
+use limits::BUFFER_RECORDS;
 use limits::RECORD_BYTES;
 use limits::THREAD_ID;
 use limits::THREAD_PLACES;
@@ -34,23 +35,37 @@ fn slot_of(b: &[u8], k: usize) -> &[u8]
     &b[from..to]
 }
 
+// The slot of the record that a thread takes next, by number: those of the thread buffer from 1 on, then those of the process buffer; 0 for a mark, for nothing, and where the look is refused.
+pub fn look_slot(ps: &[u64], ts: &[u64], tb: &[u8], pb: &[u8], thread: u32) -> usize
+    ensures { λ r. ⌜ r ≡ lookSlot thread (lent (now (ps .entry)) (now (ts .entry)) (now (tb .entry)) (now (pb .entry))) ⌝ }
+{
+    if view::thread_refusal(ps, ts, tb, pb, thread) != 0 {
+        return 0;
+    }
+    match next::next_of(ps, ts, tb, pb, thread) {
+        Next::Nothing => 0,
+        Next::Mark(_, _, _) => 0,
+        Next::Record(r) => {
+            if r.thread == 0 {
+                return BUFFER_RECORDS + queue::first_of(pb, r.process, r.thread, r.signal) + 1;
+            }
+            queue::first_of(tb, r.process, r.thread, r.signal) + 1
+        }
+    }
+}
+
 // The 32 bytes of the record that a thread takes next, in the buffer that holds it; an empty part for a mark, for nothing, and where the look is refused.
 pub fn look<'a>(ps: &[u64], ts: &[u64], tb: &'a [u8], pb: &'a [u8], thread: u32) -> &'a [u8]
     ensures { λ r. ⌜ now r ≡ lookBytes thread (lent (now (ps .entry)) (now (ts .entry)) (now (tb .entry)) (now (pb .entry))) ⌝ }
 {
-    if view::thread_refusal(ps, ts, tb, pb, thread) != 0 {
+    let n = look_slot(ps, ts, tb, pb, thread);
+    if n == 0 {
         return &tb[0..0];
     }
-    match next::next_of(ps, ts, tb, pb, thread) {
-        Next::Nothing => &tb[0..0],
-        Next::Mark(_, _, _) => &tb[0..0],
-        Next::Record(r) => {
-            if r.thread == 0 {
-                return slot_of(pb, queue::first_of(pb, r.process, r.thread, r.signal));
-            }
-            slot_of(tb, queue::first_of(tb, r.process, r.thread, r.signal))
-        }
+    if n <= BUFFER_RECORDS {
+        return slot_of(tb, n - 1);
     }
+    slot_of(pb, n - 1 - BUFFER_RECORDS)
 }
 
 // What the look found, or its errno.
