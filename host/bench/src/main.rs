@@ -1,0 +1,34 @@
+//! Prints what each kind of call and a mix of them takes on half full tables: `bench [ROUNDS]`.
+
+use rrezhbuta_bench::timing::{accepted, time};
+use rrezhbuta_bench::work::{batches, half_full, mix};
+use std::process::ExitCode;
+
+const ROUNDS: usize = 400;
+
+fn main() -> ExitCode {
+    let rounds = match std::env::args().nth(1).map(|n| n.parse()) {
+        None => ROUNDS,
+        Some(Ok(rounds)) if rounds > 0 => rounds,
+        Some(_) => {
+            eprintln!("usage: bench [ROUNDS]");
+            return ExitCode::from(2);
+        }
+    };
+    let start = half_full();
+    println!("half full tables, medians of {rounds} rounds, microseconds a call");
+    println!(
+        "{:<12}{:>6}{:>10}{:>9}{:>9}{:>7}",
+        "call", "calls", "accepted", "proved", "model", "ratio"
+    );
+    for batch in batches().into_iter().chain([mix(1)]) {
+        let (calls, accepted) = (batch.calls.len(), accepted(&start, &batch));
+        let times = time(&start, &batch, rounds);
+        let (name, ratio) = (batch.name, times.proved / times.model);
+        println!(
+            "{name:<12}{calls:>6}{accepted:>10}{:>9.2}{:>9.2}{ratio:>7.2}",
+            times.proved, times.model
+        );
+    }
+    ExitCode::SUCCESS
+}

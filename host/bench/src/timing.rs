@@ -1,0 +1,86 @@
+//! The two sides in turn, in one run, from the same tables.
+
+use crate::work::Batch;
+use rrezhbuta::Tables;
+use rrezhbuta_compare::image::encode;
+use rrezhbuta_compare::layer::{to_library, Layer, Library};
+use rrezhbuta_compare::step::Expectation;
+use rrezhbuta_model::{Call, Model};
+use std::hint::black_box;
+use std::time::{Duration, Instant};
+
+/// What a batch took, as medians of a call.
+#[derive(Clone, Copy, Debug, PartialEq)]
+pub struct Times {
+    /// The proved library's, in microseconds.
+    pub proved: f64,
+    /// The model's.
+    pub model: f64,
+}
+
+/// The tables of a model.
+fn tables_of(model: &Model) -> Tables<'static> {
+    let mut tables = Tables::new();
+    encode(model.rows(), &mut tables);
+    tables
+}
+
+/// Both sides answer the batch alike, and their tables are the same after each call; how many calls are accepted.
+pub fn accepted(start: &Model, batch: &Batch) -> usize {
+    let mut library = Library::default();
+    library.load(tables_of(start));
+    let mut side = Expectation::new(start.clone());
+    let told = batch.calls.iter().map(|call| {
+        let told = side.step(&mut library, call);
+        told.unwrap_or_else(|difference| panic!("{call:?}\n{difference}"))
+    });
+    told.filter(Result::is_ok).count()
+}
+
+/// Times the batch on both sides, which take turns at going first.
+pub fn time(start: &Model, batch: &Batch, rounds: usize) -> Times {
+    let tables = tables_of(start);
+    let (mut proved, mut model) = (vec![], vec![]);
+    for round in 0..rounds {
+        if round % 2 == 0 {
+            proved.push(time_library(&tables, batch));
+            model.push(time_model(start, batch));
+        } else {
+            model.push(time_model(start, batch));
+            proved.push(time_library(&tables, batch));
+        }
+    }
+    let calls = batch.calls.len();
+    Times {
+        proved: median(proved, calls),
+        model: median(model, calls),
+    }
+}
+
+fn time_library(start: &Tables<'_>, batch: &Batch) -> Duration {
+    let calls: Vec<_> = batch.calls.iter().map(to_library).collect();
+    let mut tables = start.snapshot();
+    let began = Instant::now();
+    for call in &calls {
+        // both answers and refusals count
+        let _ = black_box(tables.call(black_box(call)));
+    }
+    began.elapsed()
+}
+
+fn time_model(start: &Model, batch: &Batch) -> Duration {
+    let mut model = start.clone();
+    let began = Instant::now();
+    for call in &batch.calls {
+        // clearing checks lengths only
+        assert!(*call == Call::Clear || black_box(&model).judge().is_ok());
+        let _ = black_box(model.call(black_box(call)));
+    }
+    began.elapsed()
+}
+
+/// The median of a call, in microseconds.
+fn median(mut times: Vec<Duration>, calls: usize) -> f64 {
+    times.sort();
+    times[times.len() / 2].as_secs_f64() * 1e6 / calls as f64
+}

@@ -1,0 +1,258 @@
+//! The library against the model on a short run, and layers with a fault: found, and made as short as can be.
+
+use rrezhbuta::limits::PROCESS_STOPPED;
+use rrezhbuta::Tables;
+use rrezhbuta_compare::edit::{Edit, Which};
+use rrezhbuta_compare::generate::{Generator, Style};
+use rrezhbuta_compare::image::{decode, encode};
+use rrezhbuta_compare::layer::{Layer, Library};
+use rrezhbuta_compare::random::Random;
+use rrezhbuta_compare::run::{replay, run, shrunk, Options};
+use rrezhbuta_compare::shrink::shrink;
+use rrezhbuta_compare::step::{Place, Told};
+use rrezhbuta_model::errno::{EAGAIN, EFAULT};
+use rrezhbuta_model::{Answer, Buffer, Call, Model, NewProcess};
+
+const SHORT: Options = Options {
+    calls: 40_000,
+    damaged: 4_000,
+    seed: 7,
+};
+
+#[test]
+fn the_library_and_the_model_agree() {
+    let summary = run(&mut Library::default(), &SHORT, |_| ()).unwrap_or_else(|f| panic!("{f}"));
+    assert_eq!(summary.total(), 44_000);
+    // clearing is refused for a wrong length alone, which a short run may not try
+    let [clear, others @ ..] = summary.calls;
+    assert!(clear[0] > 0, "{summary}");
+    assert!(others.iter().flatten().all(|&n| n > 0), "{summary}");
+    assert!(summary.answers.iter().all(|&n| n > 0), "{summary}");
+    assert!(summary.errnos.iter().all(|&n| n > 0), "{summary}");
+    assert!(summary.accepted_share() >= 70.0, "{summary}");
+    assert_eq!(summary.most[..2], [16, 64], "{summary}");
+    assert!(summary.most[2..].iter().all(|&n| n > 450), "{summary}");
+    assert_eq!(summary.damaged(), 4_000);
+    assert!((400..3_600).contains(&summary.unharmed), "{summary}");
+    assert!(summary.broken.iter().all(|&n| n > 0), "{summary}");
+}
+
+/// A layer made of the model, which answers as the fault says where it says something.
+struct Faulty {
+    tables: Tables<'static>,
+    fault: fn(&Model, &Call) -> Option<Told>,
+    checks: bool,
+}
+
+fn faulty(fault: fn(&Model, &Call) -> Option<Told>) -> Faulty {
+    Faulty {
+        tables: Tables::new(),
+        fault,
+        checks: true,
+    }
+}
+
+impl Faulty {
+    fn model(&self) -> Option<Model> {
+        let mut rows = decode(&self.tables)?;
+        if !self.checks {
+            rows.processes.iter_mut().for_each(|p| p.stopped &= 1);
+        }
+        Model::from_rows(rows).ok()
+    }
+}
+
+impl Layer for Faulty {
+    fn tables(&self) -> &Tables<'static> {
+        &self.tables
+    }
+
+    fn load(&mut self, tables: Tables<'static>) {
+        self.tables = tables;
+    }
+
+    fn call(&mut self, call: &Call) -> Told {
+        let fits = decode(&self.tables).is_some();
+        let Some(mut model) = self.model() else {
+            if fits && *call == Call::Clear {
+                self.tables = Tables::new();
+                return Ok(Answer::Done);
+            }
+            return Err(EFAULT);
+        };
+        if let Some(told) = (self.fault)(&model, call) {
+            return told;
+        }
+        let told = model.call(call);
+        if told.is_ok() {
+            encode(model.rows(), &mut self.tables);
+        }
+        told
+    }
+
+    fn look(&self, thread: u32) -> &[u8] {
+        let slot = self.model().and_then(|model| model.look_slot(thread));
+        match slot {
+            None => &[],
+            Some(slot) if slot.buffer == Buffer::Thread => {
+                &self.tables.thread_buffer()[slot.index * 32..][..32]
+            }
+            Some(slot) => &self.tables.process_buffer()[slot.index * 32..][..32],
+        }
+    }
+}
+
+/// KILL is refused where a record is pending.
+fn kill_needs_room(model: &Model, call: &Call) -> Option<Told> {
+    let (Call::Kill { to, signal: 9, .. } | Call::Queue { to, signal: 9, .. }) = *call else {
+        return None;
+    };
+    let records = &model.rows().process_records;
+    let full = records.iter().any(|r| r.process == to);
+    full.then_some(Err(EAGAIN))
+}
+
+/// An end is answered well and nothing is written.
+fn end_thread_writes_nothing(model: &Model, call: &Call) -> Option<Told> {
+    let Call::EndThread { id } = *call else {
+        return None;
+    };
+    let live = model.rows().threads.iter().any(|t| t.id == id as u64);
+    live.then_some(Ok(Answer::Done))
+}
+
+/// Calls that the fault does not touch, from the generator.
+fn noise(count: usize, is_noise: impl Fn(&Call) -> bool) -> Vec<Call> {
+    let mut generator = Generator::new(Random::new(3), Style::Mixed);
+    let mut model = Model::new();
+    let mut calls = Vec::new();
+    while calls.len() < count {
+        let call = generator.call(&model);
+        if is_noise(&call) {
+            let _ = model.call(&call);
+            calls.push(call);
+        }
+    }
+    calls
+}
+
+/// The three calls that show the fault of `kill_needs_room`, on a process that no other call names.
+fn planted() -> [Call; 3] {
+    let own = 1_234_567;
+    let add = Call::AddProcess(NewProcess {
+        id: own,
+        real: 0,
+        effective: 0,
+        saved: 0,
+        session: 0,
+        thread: own,
+        mask: 0,
+    });
+    let queue = Call::Queue {
+        by: own,
+        to: own,
+        thread: 0,
+        signal: 40,
+        value: 1,
+    };
+    let kill = Call::Kill {
+        by: own,
+        to: own,
+        thread: 0,
+        signal: 9,
+    };
+    [add, queue, kill]
+}
+
+#[test]
+fn a_planted_fault_is_shrunk_to_its_calls() {
+    let harmless = |call: &Call| {
+        !matches!(
+            call,
+            Call::Clear | Call::Kill { signal: 9, .. } | Call::Queue { signal: 9, .. }
+        )
+    };
+    let mut calls = noise(900, harmless);
+    for (call, at) in planted().iter().zip([0, 350, 700]) {
+        calls.insert(at, *call);
+    }
+    let mut layer = faulty(kill_needs_room);
+    let failure = shrunk(&mut layer, &calls).expect("the fault shows");
+    assert_eq!(failure.calls, planted());
+    assert_eq!(failure.difference.expected, Ok(Answer::Acted));
+    assert_eq!(failure.difference.found, Err(EAGAIN));
+    let page = failure.to_string();
+    assert!(
+        page.contains("Ok(Acted)") && page.contains("Err(11)"),
+        "{page}"
+    );
+}
+
+#[test]
+fn a_fault_in_a_long_run_is_found_and_every_call_of_the_list_is_needed() {
+    let mut layer = faulty(end_thread_writes_nothing);
+    let failure = run(&mut layer, &SHORT, |_| ()).expect_err("the fault shows");
+    let calls = &failure.calls;
+    assert!(calls.len() <= 3, "{failure}");
+    assert!(matches!(calls.last(), Some(Call::EndThread { .. })));
+    assert!(!matches!(failure.difference.place, Place::Answer));
+    for left_out in 0..calls.len() {
+        let mut fewer = calls.clone();
+        fewer.remove(left_out);
+        assert_eq!(replay(&mut layer, &fewer), None);
+    }
+}
+
+#[test]
+fn a_clause_that_is_not_checked_is_found_in_damaged_tables() {
+    let mut layer = faulty(|_, _| None);
+    layer.checks = false;
+    let options = Options {
+        calls: 0,
+        damaged: 60_000,
+        seed: 5,
+    };
+    let failure = run(&mut layer, &options, |_| ()).expect_err("the fault shows");
+    assert_eq!(failure.difference.expected, Err(EFAULT));
+    assert!(failure.calls.len() <= 2, "{failure}");
+    let [Edit::Set(Which::Processes, at, value)] = failure.damage[..] else {
+        panic!("{failure}");
+    };
+    assert!(at % 199 == PROCESS_STOPPED && value > 1);
+}
+
+#[test]
+fn a_layer_without_a_fault_agrees() {
+    let options = Options {
+        calls: 3_000,
+        damaged: 300,
+        seed: 2,
+    };
+    let summary = run(&mut faulty(|_, _| None), &options, |_| ());
+    assert_eq!(summary.map(|s| s.total()), Ok(3_300));
+}
+
+#[test]
+fn shrinking_keeps_what_is_needed_in_its_order() {
+    let list: Vec<u32> = (0..1000).collect();
+    let needed = [3, 500, 501, 999];
+    let found = shrink(&list, |list| needed.iter().all(|n| list.contains(n)));
+    assert_eq!(found, needed);
+    assert_eq!(shrink(&list, |list| list.len() >= 10).len(), 10);
+    assert!(shrink(&list, |_| true).is_empty());
+}
+
+#[test]
+fn tables_come_back_from_the_rows_that_they_say() {
+    let mut generator = Generator::new(Random::new(11), Style::Crowded);
+    let mut model = Model::new();
+    for _ in 0..500 {
+        let call = generator.call(&model);
+        let _ = model.call(&call);
+    }
+    let mut tables = Tables::new();
+    encode(model.rows(), &mut tables);
+    assert_eq!(decode(&tables).as_ref(), Some(model.rows()));
+    let short = Tables::from_parts(vec![0; 3], vec![], vec![], vec![]);
+    assert_eq!(decode(&short), None);
+}

@@ -1,0 +1,7 @@
+//! The model against document 01.
+
+mod calls;
+mod common;
+mod numbers;
+mod refusals;
+mod sound;

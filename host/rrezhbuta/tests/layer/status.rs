@@ -1,0 +1,57 @@
+//! The tables for a reader.
+
+use crate::common::*;
+use rrezhbuta::{Action, SigSet, Tables, Way};
+
+#[test]
+fn a_cleared_store_has_nothing_to_say() {
+    assert_eq!(Tables::new().to_string(), "");
+}
+
+#[test]
+fn processes_threads_and_what_is_pending() {
+    let mut tables = two();
+    let ignore = Action {
+        handler: 1,
+        ..Action::default()
+    };
+    tables.add_thread(200, 201).unwrap();
+    tables.end_process(1).unwrap();
+    tables.set_action(100, 1, ignore).unwrap();
+    tables.set_action(100, 2, handler(0, 0)).unwrap();
+    tables.kill(100, 100, 0, 10).unwrap();
+    tables.queue(100, 100, 0, 40, 7).unwrap();
+    tables.queue(100, 100, 201, 64, 8).unwrap();
+    tables.kill(100, 100, 201, 2).unwrap();
+    tables.kill(100, 100, 0, 19).unwrap();
+    tables.set_mask(201, Way::Block, SigSet(1 << 63)).unwrap();
+    let expected = "\
+Pid:\t100
+Uid:\t1000\t1000\t1000
+Session:\t7
+State:\tstopped
+ShdPnd:\t0000008000000200
+SigIgn:\t0000000000000001
+SigCgt:\t0000000000000002
+Queued:\t40 value 7 from 100 uid 1000
+Tid:\t200
+SigPnd:\t0000000000000000
+SigBlk:\t0000000000000000
+Tid:\t201
+SigPnd:\t8000000000000002
+SigBlk:\t8000000000000000
+Queued:\t64 value 8 from 100 uid 1000
+";
+    assert_eq!(tables.to_string(), expected);
+}
+
+#[test]
+fn tables_of_any_length_can_be_shown() {
+    let mut tables = two();
+    tables.processes_mut().fill(u64::MAX);
+    tables.thread_buffer_mut().fill(0xFF);
+    tables.process_buffer_mut().fill(0xFF);
+    assert_eq!(tables.to_string().matches("Pid:").count(), 16);
+    let odd = Tables::from_parts(vec![1; 7], vec![], vec![1; 33], vec![]);
+    assert_eq!(odd.to_string(), "");
+}
