@@ -1,5 +1,5 @@
 -- What is lent to the walks of this crate: a slice as a `&mut`, and the five tables of a call.
---     elem, slice, table       MIR's types of a record, of a slice and of the records by value.        rows      what the records own by value
+--     elem, slice, table       MIR's types of a record, of a slice and of the records by value.        rows      what the records own by value.        word      a slice's machine value
 --     Lease        a `&κ mut [T]`: its lifetime and the share of it, where it lies, its ghost name, its list, and that it has room.        leaseOf      from a parameter
 --     ref, val, token, lent, gone      of one: its denotation, its machine value, its lifetime's token, what it owns, and what is left of it at exit, with the list zs
 --     unused       it is not used any more: its last list is the one it had
@@ -45,6 +45,9 @@ table = tyArray T′.mir threadPlaces
 
 abbrev pub rows : List Thread → Val → Fml
 rows ts w = Array T.the-row threadPlaces .own ts (w ∷ [])
+
+abbrev pub word : {X : Type 0} → RefT (List X) → Val
+word x = sliceVal (x .ptr) (length (x .now))
 
 -- ---- a slice
 pub record Lease (R : RattleType) : Type 0 where

@@ -26,7 +26,7 @@ pub struct Remask {
     pub answer: u64,
 }
 
-// ---- covered: the records as words and back, and the calls on words
+// ---- covered: the calls with the records by value
 
 // Every call, with the records by value.
 fn work(

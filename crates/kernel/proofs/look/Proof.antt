@@ -24,7 +24,7 @@ use denote.Plain.{uint-vals, uint-tells}
 use denote.Builtin.{u8, u64}
 use denote.Ref.{RefT, now}
 use denote.Array.{array-lawful}
-use denote.Slice.{sliceVal, ShrSlice, Room, slice-vals, shr-slice-tells, shr-slice-lawful}
+use denote.Slice.{ShrSlice, Room, slice-vals, shr-slice-tells, shr-slice-lawful}
 use denote.Steps.{nothing}
 use denote.Struct.Laws as LL
 use denote.Triple.Entry.{Args, Vals, onEntry}
@@ -41,9 +41,9 @@ use Rattle.threads.proofs.load as ld
 use Rattle.threads.proofs.load.Symbol as ld-def
 use Rattle.threads.proofs.load.Symbol.{name as #threads·load}
 use Rattle.threads.proofs.load.Met as ld-thm
-use Rattle.kernel.proofs.Lends.{elem, slice, table, rows}
+use Rattle.kernel.proofs.Lends.{elem, slice, table, rows, word}
 use Rattle.kernel.proofs.Lengths.{no-look}
-use Rattle.kernel.proofs.Load.{Load}
+use Rattle.kernel.proofs.Load.{Load, to-load, asks-load}
 use Rattle.kernel.proofs.Walk.{is-yes, Cell, spare, holds, slots, cells, frees-all, copied, Numbers, numbers, Truths, truths, Its, ends-by, meets-by, calls-by}
 use Rattle.kernel.proofs.no_part as np
 use Rattle.kernel.proofs.no_part.Symbol as np-def
@@ -58,10 +58,6 @@ use Rattle.kernel.proofs.look as self
 use Rattle.kernel.proofs.look.Statement as stated
 use Rattle.kernel.proofs.look.Code as code
 use Rattle.kernel.proofs.look.Code.Mir as mir
-
--- a slice's machine value
-abbrev word : {X : Type 0} → RefT (List X) → Val
-word x = sliceVal (x .ptr) (length (x .now))
 
 -- the contracts: this one's, and those that it cites beside `load`'s
 module _ {M : Type 1} (𝓤 : URA M) (H : Heap 𝓤) (A : Atoms 𝓤) (mem : Memory → SProp 𝓤) (run : Routine → Fun 𝓤) where
@@ -114,12 +110,6 @@ module _ {M : Type 1} (𝓤 : URA M) (H : Heap 𝓤) (A : Atoms 𝓤) (W : Given
   asks-none =
       qed W (‵ (flft κ₂ q₂) ∷ ‵ (OwnB tb (word tb)) ∷ []) ∵ nothing ! $ move ! (1 ∷ 0 ∷ []) $ join ! $ nothing ! $ move ! (2 ∷ 0 ∷ []) $ fjoin ! $ move ! (1 ∷ 0 ∷ []) $ join ! $ frame ! $ done !
 
-  abbrev to-load : Load 𝓤 H A mem run .Ghost
-  to-load = (((κ₃, tt), (q₃, tt), tt, (ts, tt), (word ts ∷ [], tt)), tt)
-
-  asks-load : length (ts .now) ≡ threadPlaces → ent 𝓤 (⋆ 𝓤 H A (‵ (flft κ₃ q₃) ∷ ‵ OwnT ∷ [])) (Load 𝓤 H A mem run .pre to-load)
-  asks-load all = qed W (‵ (flft κ₃ q₃) ∷ ‵ OwnT ∷ []) ∵ says ! all $ nothing ! $ move ! (1 ∷ 0 ∷ []) $ join ! $ frame ! $ nothing ! $ move ! (1 ∷ 0 ∷ []) $ fjoin ! $ done !
-
   abbrev to-part : Val → Part 𝓤 H A mem run .Ghost
   to-part w = (((κ₁, (κ₂, tt)), (q₁, (q₂, tt)), tt, (ps, (tb, (pb, (ts .now, (thread, tt))))), (word ps ∷ [], (word tb ∷ [], (word pb ∷ [], (w ∷ [], (vint w32 thread ∷ [], tt)))))), tt)
 
@@ -153,8 +143,8 @@ module _ {M : Type 1} (𝓤 : URA M) (H : Heap 𝓤) (A : Atoms 𝓤) (W : Given
       -- a full row
       looks : length (ts .now) ≡ threadPlaces → Sq W Ready (runs C Λ En mir.t-4 (atRet En Post))
       looks all =
-          move ! (2 ∷ 6 ∷ []) $ use2 W (raw (Load 𝓤 H A mem run .pre to-load)) (asks-load all) $
-          calls-by ! fm ld.ended (ld.clauses 𝓤 H A mem run) known-load to-load (λ r zs. r ≡ ts .now) (λ r zs. id⊢ 𝓤 _) (and-then ! (copied ! 14 refl) (no-more !)) (λ w r zs e is.
+          move ! (2 ∷ 6 ∷ []) $ use2 W (raw (Load 𝓤 H A mem run .pre (to-load 𝓤 H A mem run κ₃ q₃ ts))) (asks-load 𝓤 H A mem run κ₃ q₃ ts W all) $
+          calls-by ! fm ld.ended (ld.clauses 𝓤 H A mem run) known-load (to-load 𝓤 H A mem run κ₃ q₃ ts) (λ r zs. r ≡ ts .now) (λ r zs. id⊢ 𝓤 _) (and-then ! (copied ! 14 refl) (no-more !)) (λ w r zs e is.
           rewrite ! 0 (λ (ys : List Thread). ‵ (rows ys w)) e refl $
           land ! (from ! (stop !)) (init ! 12 refl (array-lawful 𝓤 H A W T.the-row (LL.lawful T.the-type T′.the-laws 𝓤 H A W) threadPlaces .typed r _ is .0)) $
           -- [the records; ts's token; true; ps's token; the buffers' token; ps; tb; pb; the locals]
