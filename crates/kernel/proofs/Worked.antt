@@ -54,10 +54,10 @@ module _ (ps tb pb out : List ℕ) (ts : List Thread) (number a b c d e f x y z 
     records-is = ap (λ (k : ℕ). recordsOf k ws′) (sym n) ∙ ap (recordsOf (length ts)) words-is
 
     pub worked : (rs : List Thread) → rs ≡ recordsOf threadPlaces ws′
-        → (record { ts = rs; answer = r } ≡ outAt ps tb pb out ts number a b c d e f x y z) × (ps′ ≡ processesAt ps tb pb out ts number a b c d e f x y z) × (tb′ ≡ threadBufferAt ps tb pb out ts number a b c d e f x y z) × (pb′ ≡ processBufferAt ps tb pb out ts number a b c d e f x y z) × (out′ ≡ answerAt ps tb pb out ts number a b c d e f x y z)
+        → (record { ts = rs; errno = r } ≡ outAt ps tb pb out ts number a b c d e f x y z) × (ps′ ≡ processesAt ps tb pb out ts number a b c d e f x y z) × (tb′ ≡ threadBufferAt ps tb pb out ts number a b c d e f x y z) × (pb′ ≡ processBufferAt ps tb pb out ts number a b c d e f x y z) × (out′ ≡ answerAt ps tb pb out ts number a b c d e f x y z)
     worked rs h =
         let row : rs ≡ threadsAt ps tb pb out ts number a b c d e f x y z = h ∙ records-is in
-        let first : record { ts = rs; answer = r } ≡ outAt ps tb pb out ts number a b c d e f x y z = ap (λ (us : List Thread). record { ts = us; answer = r }) row ∙ ap (λ (k : ℕ). record { ts = threadsAt ps tb pb out ts number a b c d e f x y z; answer = k }) errno-is in
+        let first : record { ts = rs; errno = r } ≡ outAt ps tb pb out ts number a b c d e f x y z = ap (λ (us : List Thread). record { ts = us; errno = r }) row ∙ ap (λ (k : ℕ). record { ts = threadsAt ps tb pb out ts number a b c d e f x y z; errno = k }) errno-is in
         (first, processes-is, thread-buffer-is, process-buffer-is, answer-is)
 
 -- ---- the mask call

@@ -44,7 +44,7 @@ module _ (ps tb pb out : List ℕ) (ts : List Thread) (number a b c d e f x y z 
   answerAt = written (served .1) out
 
   abbrev pub outAt : Out
-  outAt = record { ts = threadsAt; answer = errnoAt }
+  outAt = record { ts = threadsAt; errno = errnoAt }
 
 -- the mask of the first thread with that id, in words; empty where none has it
 unfoldable pub maskIn : List ℕ → ℕ → SigSet

@@ -13,17 +13,17 @@ use limits::THREAD_PLACES;
 use sigset::SigSet;
 use threads::Thread;
 
-// What a call makes of the thread table, and what is returned.
+// What a call makes of the thread table, and the errno or 0.
 pub struct Out {
     pub ts: [Thread; THREAD_PLACES],
-    pub answer: u64,
+    pub errno: u64,
 }
 
 // The same of a call that changes one mask at most: the thread, and its mask after the call.
 pub struct Remask {
     pub thread: u64,
     pub mask: SigSet,
-    pub answer: u64,
+    pub errno: u64,
 }
 
 // ---- covered: the calls with the records by value
@@ -53,10 +53,10 @@ fn work(
         × (now (out .exit) ≡ answerAt (now (ps .entry)) (now (tb .entry)) (now (pb .entry)) (now (out .entry)) ts number a b c d e f x y z) ⌝ }
 {
     let mut ws = threads::words_of(ts);
-    let answer = boundary::serve(ps, &mut ws, tb, pb, out, number, a, b, c, d, e, f, x, y, z);
+    let errno = boundary::serve(ps, &mut ws, tb, pb, out, number, a, b, c, d, e, f, x, y, z);
     Out {
         ts: threads::records_of(ws),
-        answer,
+        errno,
     }
 }
 
@@ -84,7 +84,7 @@ fn mask_work(
     given: u32,
     set: u64,
 ) -> Remask
-    ensures { λ r. ⌜ (r .answer ≡ errnoAt (now (ps .entry)) (now (tb .entry)) (now (pb .entry)) (now (out .entry)) ts callMask thread way given 0 0 0 set 0 0)
+    ensures { λ r. ⌜ (r .errno ≡ errnoAt (now (ps .entry)) (now (tb .entry)) (now (pb .entry)) (now (out .entry)) ts callMask thread way given 0 0 0 set 0 0)
         × (remasked (r .thread) (r .mask) ts ≡ threadsAt (now (ps .entry)) (now (tb .entry)) (now (pb .entry)) (now (out .entry)) ts callMask thread way given 0 0 0 set 0 0)
         × (now (ps .exit) ≡ processesAt (now (ps .entry)) (now (tb .entry)) (now (pb .entry)) (now (out .entry)) ts callMask thread way given 0 0 0 set 0 0)
         × (now (tb .exit) ≡ threadBufferAt (now (ps .entry)) (now (tb .entry)) (now (pb .entry)) (now (out .entry)) ts callMask thread way given 0 0 0 set 0 0)
@@ -92,7 +92,7 @@ fn mask_work(
         × (now (out .exit) ≡ answerAt (now (ps .entry)) (now (tb .entry)) (now (pb .entry)) (now (out .entry)) ts callMask thread way given 0 0 0 set 0 0) ⌝ }
 {
     let mut ws = threads::words_of(ts);
-    let answer = boundary::serve(
+    let errno = boundary::serve(
         ps,
         &mut ws,
         tb,
@@ -112,7 +112,7 @@ fn mask_work(
     Remask {
         thread: thread as u64,
         mask: mask_of(&ws, thread as u64),
-        answer,
+        errno,
     }
 }
 
@@ -149,7 +149,7 @@ fn serve(
     let a1 = threads::load(ts);
     let o = work(ps, tb, pb, out, a1, number, a, b, c, d, e, f, x, y, z);
     threads::store(ts, o.ts);
-    o.answer
+    o.errno
 }
 
 // The mask call: the thread is searched for in the lent row, and its mask changed there.
@@ -177,7 +177,7 @@ fn serve_mask(
     let a = threads::load(ts);
     let o = mask_work(ps, tb, pb, out, a, thread, way, given, set);
     threads::put_mask(ts, o.thread, o.mask);
-    o.answer
+    o.errno
 }
 
 // ---- what a host links

@@ -197,9 +197,9 @@ module _ {M : Type 1} (𝓤 : URA M) (H : Heap 𝓤) (A : Atoms 𝓤) (W : Given
           returns ! (look ! 69 refl) $ forget ! 69 refl $ forget ! 35 refl $ forget ! 9 refl $ forget ! 7 refl $ forget ! 5 refl $ frees-all ! 5 (Frame (spare table l₁₆) (spare O′.mir l₁₇)) refl $
           -- [(); ts's token; what is left of it; the others' tokens; what is left of them]
           move ! (1 ∷ []) $ use1 W (‵ (token (L .ts)) ⊛ ‵ ftrue) (id⊢ 𝓤 _) $ split ! $ move ! (3 ∷ []) $ fsplit ! $ keep ! (5 ∷ 2 ∷ 6 ∷ 0 ∷ []) $
-          by ! (exits (r .answer) ps tb pb out (zs .0) (Truths 11) (ap (λ (d : Out). d .answer) (e .0), e .1, e .2, e .3, e .4, e₁ ∙ ap (λ (d : Out). d .ts) (e .0)) fits))
+          by ! (exits (r .errno) ps tb pb out (zs .0) (Truths 11) (ap (λ (d : Out). d .errno) (e .0), e .1, e .2, e .3, e .4, e₁ ∙ ap (λ (d : Out). d .ts) (e .0)) fits))
         where
-          fits : r .answer < 2 ^ 64
+          fits : r .errno < 2 ^ 64
           fits = LL.owed O.the-type O′.the-laws r _ is .1 .0 .1
 
       -- once the records are loaded, at the machine value w

@@ -133,7 +133,7 @@ module _ {M : Type 1} (𝓤 : URA M) (H : Heap 𝓤) (A : Atoms 𝓤) (W : Given
 
   abbrev Worked : Remask → (ps tb pb out : List ℕ) → Type 0
   Worked r ps tb pb out =
-      (r .answer ≡ errnoAt (L .ps .list) (L .tb .list) (L .pb .list) (L .out .list) (L .ts .list) callMask thread way given 0 0 0 set 0 0)
+      (r .errno ≡ errnoAt (L .ps .list) (L .tb .list) (L .pb .list) (L .out .list) (L .ts .list) callMask thread way given 0 0 0 set 0 0)
       × (remasked (r .thread) (r .mask) (L .ts .list) ≡ threadsAt (L .ps .list) (L .tb .list) (L .pb .list) (L .out .list) (L .ts .list) callMask thread way given 0 0 0 set 0 0)
       × (ps ≡ processesAt (L .ps .list) (L .tb .list) (L .pb .list) (L .out .list) (L .ts .list) callMask thread way given 0 0 0 set 0 0)
       × (tb ≡ threadBufferAt (L .ps .list) (L .tb .list) (L .pb .list) (L .out .list) (L .ts .list) callMask thread way given 0 0 0 set 0 0)
@@ -189,9 +189,9 @@ module _ {M : Type 1} (𝓤 : URA M) (H : Heap 𝓤) (A : Atoms 𝓤) (W : Given
           returns ! (look ! 57 refl) $ forget ! 57 refl $ forget ! 35 refl $ forget ! 9 refl $ forget ! 7 refl $ forget ! 5 refl $ frees-all ! 5 (Frame (spare table l₁₀) (spare O′.mir l₁₁)) refl $
           -- [(); ts's token; what is left of it; the others' tokens; what is left of them]
           move ! (1 ∷ []) $ use1 W (‵ (token (L .ts)) ⊛ ‵ ftrue) (id⊢ 𝓤 _) $ split ! $ move ! (3 ∷ []) $ fsplit ! $ keep ! (5 ∷ 2 ∷ 6 ∷ 0 ∷ []) $
-          by ! (exits (r .answer) ps tb pb out (zs .0) (Truths 5) (e .0, e .2, e .3, e .4, e .5, e₁ ∙ e .1) fits))
+          by ! (exits (r .errno) ps tb pb out (zs .0) (Truths 5) (e .0, e .2, e .3, e .4, e .5, e₁ ∙ e .1) fits))
         where
-          fits : r .answer < 2 ^ 64
+          fits : r .errno < 2 ^ 64
           fits = LL.owed O.the-type O′.the-laws r _ is .1 .1 .0 .1
 
       -- once the records are loaded, at the machine value w
