@@ -120,7 +120,7 @@ module _ (c : Call) (l : Lent) where
     unfolding step finish stages runStages
     step-is = ap (λ (n : ℕ). finish n c (decoded l)) (accepted-rules e)
 
-    accepted-step : stepOn c l ≡ (encoded (applyAll (changes (view (decoded l)) c) (decoded l)), answer (view (decoded l)) c)
+    pub accepted-step : stepOn c l ≡ (encoded (applyAll (changes (view (decoded l)) c) (decoded l)), answer (view (decoded l)) c)
     unfolding stepOn settled
     accepted-step = rw (accepted-long e, step-is, accepted-answers (view (decoded l)) c)
 

@@ -2,12 +2,13 @@
 use Prim.Native.Nat.{ℕ}
 use mathlib.Core.Path.{_≡_, refl, sym, ap, _∙_}
 use mathlib.Core.Bool.{Bool, true, false, not, _&&_, cond}
-use mathlib.Core.List.{List, [], _∷_}
+use mathlib.Core.List.{List, []}
 use native.Mathlib.Omega.{arith}
 use lib.Dec.{T, eqb}
 use lib.ListN.{length}
 use borrow.Author.Tests.{ne-eqb, eqb-false}
 use Rattle.limits.specs.Limits.{EFAULT, EINVAL, threadPlaces, threadTable, processTable, bufferBytes, callClear}
+use Rattle.lists.proofs.Rows.{nil-of}
 use Rattle.lists.proofs.Bools.{split, and-left, and-right, cond-true, cond-false}
 use Rattle.rules.specs.Types.{Answer, refused}
 use Rattle.sound.specs.Lent.{storeOf, lengthsAre, soundTables}
@@ -24,10 +25,6 @@ use Rattle.kernel.specs.Kernel.{served, errnoAt, processesAt, threadBuff
 not-so : (b : Bool) → T (not b) → b ≡ false
 not-so true t = absurd t
 not-so false t = refl
-
-empty-list : (l : List ℕ) → length l ≡ 0 → l ≡ []
-empty-list [] e = refl
-empty-list (k ∷ l) e = absurd (omega (arith, e))
 
 module _ (ps tb pb : List ℕ) (ts : List Thread) (o : T (not (eqb (length ts) threadPlaces))) where
   abbrev before : Lent
@@ -49,7 +46,7 @@ module _ (ps tb pb : List ℕ) (ts : List Thread) (o : T (not (eqb (length ts) t
 
   no-look-here : (thread : ℕ) (r : List ℕ) → length r ≡ 0 → r ≡ lookAt ps tb pb ts thread
   unfolding lookAt lookBytes
-  no-look-here thread r e = empty-list r e ∙ sym (cond-false (partBytes before (lookPart thread (decoded before))) [] short)
+  no-look-here thread r e = nil-of r e ∙ sym (cond-false (partBytes before (lookPart thread (decoded before))) [] short)
 
   no-slot-here : (thread : ℕ) → 0 ≡ slotAt ps tb pb ts thread
   unfolding slotAt lookSlot

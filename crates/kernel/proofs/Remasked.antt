@@ -1,5 +1,5 @@
 -- A mask call leaves a row of records with at most one mask changed, and the mask that code reads of the words is that one. Assumes nothing.
-use Prim.Native.Nat.{ℕ, zero, suc, _*_, _<_}
+use Prim.Native.Nat.{ℕ, _*_, _<_}
 use mathlib.Core.Path.{_≡_, refl, sym, ap, _∙_}
 use mathlib.Core.Bool.{true, not}
 use mathlib.Core.List.{List, [], _∷_, _++_, map}
@@ -15,23 +15,22 @@ use Rattle.lists.specs.Rows.{flat}
 use Rattle.lists.proofs.Bools.{split}
 use Rattle.lists.proofs.Loops.{find-same}
 use Rattle.lists.proofs.Finds.{find-map, found-inside}
+use Rattle.lists.proofs.Index.{map-set}
 use Rattle.sigset.specs.declared.SigSet.{SigSet}
 use Rattle.sigset.specs.Set.{bits, empty}
-use Rattle.rules.specs.Types.{Thread as Held, noThread as noHeld, Call, mask}
+use Rattle.rules.specs.Types.{Thread as Held, noThread as noHeld, mask}
 use Rattle.rules.specs.View.{isThread, liveThread, theThread}
 use Rattle.rules.specs.Store.{Place, held, freeThread, amend, view, apply, applyAll, withMask as heldMask}
 use Rattle.rules.specs.Actions.{newMask, maskChanges}
 use Rattle.rules.specs.Refusals.{isClear, rows, noThreadLive}
 use Rattle.rules.specs.Calls.{changes}
 use Rattle.rules.proofs.Marks.{thread-named}
-use Rattle.rules.proofs.Steps.{accepted-step}
-use Rattle.rules.proofs.Refused.{refused-by-table}
 use Rattle.tables.specs.Tables.{threadTo, threadsOf, threadWordsOf, threadAt, heldThreads, hasThreadId}
 use Rattle.tables.proofs.Words.{length-threadsOf, length-heldThreads, thread-words-back, thread-words-forth}
 use Rattle.tables.proofs.Places.{find-live-thread}
 use Rattle.sound.specs.Lent.{storeOf, soundTables}
-use Rattle.answers.specs.Step.{Lent, lent, decoded, encoded, refusalOn, settled, stepOn}
-use Rattle.answers.proofs.Endings.{accepted-long, accepted-rules, accepted-tables-sound, accepted-rows, refused-tables}
+use Rattle.answers.specs.Step.{Lent, lent, decoded, encoded, refusalOn, stepOn}
+use Rattle.answers.proofs.Endings.{accepted-step, accepted-tables-sound, accepted-rows, refused-tables}
 use Rattle.effects.proofs.Places.{thread-changed}
 use Rattle.threads.specs.declared.Thread.{Thread}
 use Rattle.threads.specs.Records.{noThread, withMask, hasId, remasked, recordTo, wordsOf, recordsOf}
@@ -48,11 +47,6 @@ places-words : (ts : List Thread) → threadWordsOf (map placeOf ts) ≡ wordsOf
 unfolding threadWordsOf wordsOf flat threadTo recordTo
 places-words [] = refl
 places-words (t ∷ ts) = ap (λ l. recordTo t ++ l) (places-words ts)
-
-map-set : {A B : Type 0} (f : A → B) (l : List A) (i : ℕ) (a : A) → map f (set l i a) ≡ set (map f l) i (f a)
-map-set f [] i a = refl
-map-set f (x ∷ l) zero a = refl
-map-set f (x ∷ l) (suc i) a = ap (λ r. f x ∷ r) (map-set f l i a)
 
 module _ (ts : List Thread) (e : length ts ≡ threadPlaces) where
   words-places : threadsOf (wordsOf ts) ≡ map placeOf ts
@@ -119,13 +113,6 @@ row-same ts e n = row-after ts e (wordsOf ts) n (maskOf ts n) (ap wordsOf (sym (
 
 -- ---- the call
 
--- the tables after a call that is accepted
-accepted-tables : (c : Call) (l : Lent) → refusalOn c l ≡ 0 → stepOn c l .0 ≡ encoded (applyAll (changes (view (decoded l)) c) (decoded l))
-unfolding stepOn settled
-accepted-tables c l a =
-    let r = accepted-rules c l a in
-    rw (accepted-long c l a, refused-by-table c (decoded l), r, accepted-step c (decoded l) r)
-
 module _ (ps tb pb : List ℕ) (ts : List Thread) (e : length ts ≡ threadPlaces) (t way : ℕ) where
   abbrev before : Lent
   before = lent ps (wordsOf ts) tb pb
@@ -142,7 +129,7 @@ module _ (ps tb pb : List ℕ) (ts : List Thread) (e : length ts ≡ threadPlace
   -- without a set
   none-after : refusalOn (mask t way none) before ≡ 0 → after none ≡ wordsOf ts
   unfolding encoded storeOf changes maskChanges applyAll
-  none-after a = ap (λ (l : Lent). l .threads) (accepted-tables (mask t way none) before a) ∙ thread-words-back (wordsOf ts) long
+  none-after a = ap (λ x. x .0 .threads) (accepted-step (mask t way none) before a) ∙ thread-words-back (wordsOf ts) long
 
   -- with one: the rules' change of the live thread
   module _ (m : SigSet) (s : soundTables ps (wordsOf ts) tb pb ≡ true) (live : liveThread (view (decoded before)) t ≡ true) where
@@ -169,7 +156,7 @@ module _ (ps tb pb : List ℕ) (ts : List Thread) (e : length ts ≡ threadPlace
   unfolding encoded storeOf changes maskChanges applyAll apply isClear rows noThreadLive
   some-after m a =
       let c = mask t way (some m) in
-      ap (λ (l : Lent). l .threads) (accepted-tables c before a)
+      ap (λ x. x .0 .threads) (accepted-step c before a)
       ∙ amended (newMask (theThread (view (decoded before)) t .mask) way m) (accepted-tables-sound c before refl a)
       (not-false (liveThread (view (decoded before)) t) (accepted-rows c before a .1 .0))
 

@@ -19,6 +19,11 @@ module _ {A : Type 0} where
   getD-mapped f (x ∷ xs) zero d e h = refl
   getD-mapped f (x ∷ xs) (suc i) d e h = getD-mapped f xs i d e (le-of-suc-le-suc h)
 
+  pub map-set : {B : Type 0} (f : A → B) (xs : List A) (i : ℕ) (a : A) → map f (set xs i a) ≡ set (map f xs) i (f a)
+  map-set f [] i a = refl
+  map-set f (x ∷ xs) zero a = refl
+  map-set f (x ∷ xs) (suc i) a = ap (λ l. f x ∷ l) (map-set f xs i a)
+
   -- what holds of the default and of every value holds at every index
   pub getD-map-has : {B : Type 0} (P : B → Type 0) (f : A → B) (e : B) → P e → ((x : A) → P (f x)) → (xs : List A) (i : ℕ) → P (getD (map f xs) i e)
   getD-map-has P f e z h [] i = z

@@ -8,7 +8,7 @@ use native.Mathlib.Nat.{not-suc-le-zero, le-of-suc-le-suc, zero-add, add-zero, s
 use native.Mathlib.Numerals.{add-one}
 use native.Mathlib.Omega.{arith}
 use lib.ListN.{length, getD, take, drop, set, replicate, length-replicate, drop-of-length-le, getD-replicate, replicate-append-replicate}
-use lib.Seq.{take-suc, take-all, drop-cons, map-set-same, set-getD, getD-drop, drop-drop, drop-set-lt, take-suc-set, append-snoc, paste, paste-suc, length-take-le, drop-at}
+use lib.Seq.{take-suc, take-all, drop-cons, map-set-same, set-getD, getD-drop, drop-drop, drop-set-lt, take-suc-set, append-snoc, paste, paste-suc, length-paste, length-take-le, drop-at}
 use Rattle.lists.specs.Lists.{all, any, count, find, first, keep, leading, dropFirst, change, replaceFirst, pairs, range, padded, All}
 use Rattle.lists.proofs.Bools.{split, clash, and-fst, and-snd, and-both, and-left, and-right, or-both}
 use Rattle.lists.proofs.Lists.{Pass, All-at, All-set, all-All, All-all, all-append, all-end, any-append, all-map, all-same, any-no, all-yes, all-no, any-All, find-yes, find-no, keep-yes, keep-no, count-yes, count-no, leading-yes, leading-no, change-same, any-count, count-none}
@@ -376,6 +376,19 @@ pub moved : {A : Type 0} (d : A) (cs rs : List A) (i : ℕ) (a : A) → i < leng
     → take (i + 1) (set cs i a) ++ drop (i + 1 + 1) rs ≡ take i cs ++ drop (i + 1) rs
 moved d cs rs i a h k e =
     take-set cs (drop (i + 1 + 1) rs) i a h ∙ ap (λ l. take i cs ++ l) (sym (rw e (next rs (i + 1) d k)))
+
+-- ---- a list copied over another, from the first entry on: `zs ≡ paste ys 0 xs i`
+
+module _ {A : Type 0} (xs ys : List A) (i : ℕ) where
+  pub paste-more : (d : A) → i < length xs → i < length ys → set (paste ys 0 xs i) i (getD xs i d) ≡ paste ys 0 xs (i + 1)
+  paste-more d h k =
+      let z : 0 + i ≡ i = omega arith in
+      ap (λ n. set (paste ys 0 xs i) n (getD xs i d)) (sym z)
+      ∙ paste-suc ys 0 xs i d (omega arith) h
+      ∙ ap (paste ys 0 xs) (sym (add-one i))
+
+  pub paste-long : i ≤ length xs → i ≤ length ys → length (paste ys 0 xs i) ≡ length ys
+  paste-long h k = length-paste ys 0 xs i (omega arith) h
 
 -- ---- places cleared: `cs ≡ paste cs₀ j (replicate (n - j) d) t`
 

@@ -67,8 +67,8 @@ module _ (l : Lent) where
 
 -- ---- the part that a look gives
 
-found-inside : (b : List ℕ) (p : Siginfo → Bool) (r : Siginfo) → first p (recordsOf b) ≡ some r → find p (recordsOf b) < bufferRecords
-found-inside b p r e = in-buffer b (find p (recordsOf b)) (find-any p (recordsOf b) (some-first p (recordsOf b) r e))
+record-inside : (b : List ℕ) (p : Siginfo → Bool) (r : Siginfo) → first p (recordsOf b) ≡ some r → find p (recordsOf b) < bufferRecords
+record-inside b p r e = in-buffer b (find p (recordsOf b)) (find-any p (recordsOf b) (some-first p (recordsOf b) r e))
 
 module _ (l : Lent) (a : longAs l ≡ true) where
   abbrev ToldOf : Part → Type 0
@@ -80,10 +80,10 @@ module _ (l : Lent) (a : longAs l ≡ true) where
       split (eqb (q .thread) 0)
       (λ z.
       rw z
-      (told-shared l _ (right-process-buffer (l .processes) (l .threads) (l .threadBuffer) (l .processBuffer) a) (found-inside (l .processBuffer) (inQueue q s) r (rw z at e))))
+      (told-shared l _ (right-process-buffer (l .processes) (l .threads) (l .threadBuffer) (l .processBuffer) a) (record-inside (l .processBuffer) (inQueue q s) r (rw z at e))))
       (λ z.
       rw z
-      (told-own l _ (right-thread-buffer (l .processes) (l .threads) (l .threadBuffer) (l .processBuffer) a) (found-inside (l .threadBuffer) (inQueue q s) r (rw z at e))))
+      (told-own l _ (right-thread-buffer (l .processes) (l .threads) (l .threadBuffer) (l .processBuffer) a) (record-inside (l .threadBuffer) (inQueue q s) r (rw z at e))))
 
   told-next : (x : Next) → ((q : Queue) (s : ℕ) (r : Siginfo) → x ≡ nextRecord q s r → first (inQueue q s) (recordsFor q (decoded l)) ≡ some r) → ToldOf (partOf (decoded l) x)
   unfolding partOf slotNumber partBytes

@@ -1,11 +1,12 @@
 -- A row whose first i records were copied from another: the invariant of both copying loops. Assumes nothing.
-use mathlib.Core.Path.{_≡_, sym, _∙_, ap, subst}
-use Prim.Native.Nat.{ℕ, suc, _+_, _<_, _≤_}
+use mathlib.Core.Path.{_≡_, _∙_, ap}
+use Prim.Native.Nat.{ℕ, _+_, _<_, _≤_}
 use native.Mathlib.Nat.{zero-add, le-of-eq}
-use native.Mathlib.Numerals.{add-one}
+use native.Mathlib.Omega.{arith}
 use mathlib.Core.List.{List, _++_, append-nil}
 use lib.ListN.{length, getD, set, take, drop as from-on, drop-of-length-le}
-use lib.Seq.{paste, paste-suc, length-paste, take-all}
+use lib.Seq.{paste, take-all}
+use Rattle.lists.proofs.Loops.{paste-more, paste-long}
 use Rattle.threads.specs.Records.{noThread}
 use Rattle.threads.specs.declared.Thread.{Thread}
 
@@ -14,14 +15,10 @@ abbrev pub filled : List Thread → List Thread → ℕ → List Thread
 filled d ys i = paste d 0 ys i
 
 pub filled-suc : (d ys : List Thread) (i n : ℕ) → length d ≡ n → length ys ≡ n → i < n → set (filled d ys i) i (getD ys i noThread) ≡ filled d ys (i + 1)
-filled-suc d ys i n c e l =
-    subst (λ (k : ℕ). set (filled d ys i) k (getD ys i noThread) ≡ filled d ys (suc i)) (zero-add i)
-    (paste-suc d 0 ys i noThread (subst (λ (k : ℕ). k < length d) (sym (zero-add i)) (subst (λ (k : ℕ). i < k) (sym c) l)) (subst (λ (k : ℕ). i < k) (sym e) l))
-    ∙ ap (filled d ys) (sym (add-one i))
+filled-suc d ys i n c e l = paste-more ys d i noThread (omega arith) (omega arith)
 
 pub filled-long : (d ys : List Thread) (i n : ℕ) → length d ≡ n → length ys ≡ n → i ≤ n → length (filled d ys i) ≡ n
-filled-long d ys i n c e l =
-    length-paste d 0 ys i (subst (λ (k : ℕ). k ≤ length d) (sym (zero-add i)) (subst (λ (k : ℕ). i ≤ k) (sym c) l)) (subst (λ (k : ℕ). i ≤ k) (sym e) l) ∙ c
+filled-long d ys i n c e l = paste-long ys d i (omega arith) (omega arith) ∙ c
 
 pub filled-all : (d ys : List Thread) (n : ℕ) → length d ≡ n → length ys ≡ n → filled d ys n ≡ ys
 filled-all d ys n c e =
