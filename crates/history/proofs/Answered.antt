@@ -19,7 +19,7 @@ use Rattle.rules.specs.Calls.{answer, finish, step, isRefused}
 use Rattle.rules.proofs.Clauses.{clauses}
 use Rattle.rules.proofs.Facts.{within-limit}
 use Rattle.rules.proofs.Refused.{accepted-answers}
-use Rattle.rules.proofs.Table.{given-passes}
+use Rattle.rules.proofs.Table.{given-passes, no-fault}
 use Rattle.history.specs.Ledger.{Ledger, ledgerView, ledgerRefusal, ledgerAnswer, ofProcess, pendingWhere}
 use Rattle.history.specs.History.{isRefusedWith}
 use Rattle.history.proofs.Counted.{same-queued}
@@ -27,15 +27,10 @@ use Rattle.history.proofs.Holds.{Holds, same-view}
 
 -- ---- the tables' refusal is the ledger's
 
--- the row of 14 does not apply to a sound store
-fault-off : (c : Call) (st : Store) → sound st ≡ true → fault st c .applies ≡ false
-unfolding fault
-fault-off c st e = split (isClear c) (λ k. rw (k, clauses st e .lengths)) (λ k. rw (k, e))
-
 module _ (st : Store) (k : Ledger) (h : Holds st k) (c : Call) where
   pub same-refusal : refusalOf st c ≡ ledgerRefusal k c
   unfolding refusalOf table refusal ledgerRefusal
-  same-refusal = cond-false _ _ (fault-off c st (h .isSound)) ∙ ap (λ (v : View). refusal (rows v c)) (same-view st k h)
+  same-refusal = cond-false _ _ (no-fault c st (h .isSound)) ∙ ap (λ (v : View). refusal (rows v c)) (same-view st k h)
 
   finished : (n : ℕ) → finish n c st .1 ≡ cond (eqb n 0) (answer (view st) c) (refused n)
   unfolding finish

@@ -15,6 +15,7 @@ use Rattle.rules.specs.Store.{Place, held, freeProcess, freeThread, clea
 use Rattle.rules.specs.Sound.{lengthsRight, sound}
 use Rattle.rules.specs.Refusals.{refusal, badId, overLast, badAction, badWay, noProcessLive, noThreadLive, badTarget, noProcessPlace, noThreadPlace, rows, isClear, fault, table, refusalOf}
 use Rattle.rules.specs.Computing.{computing}
+use Rattle.rules.proofs.Table.{no-fault}
 
 -- ---- what is there
 
@@ -62,14 +63,6 @@ refusedThere (who p) = ESRCH
 refusedThere (take t) = ESRCH
 refusedThere (return t saved) = ESRCH
 
-fault-off : (c : Call) → fault cleared c .applies ≡ false
-unfolding fault
-fault-off c = ap not (go (isClear c))
-  where
-    go : (b : Bool) → cond b (lengthsRight cleared) (sound cleared) ≡ true
-    go true = unfold sound in and-fst (lengthsRight cleared) _ sound-cleared
-    go false = sound-cleared
-
 by-rows : (c : Call) → refusal (rows (view cleared) c) ≡ refusedThere c
 unfolding refusal rows refusedThere noProcessLive noThreadLive badTarget
 by-rows clear = refl
@@ -90,4 +83,4 @@ by-rows (return t saved) = rw (no-thread t)
 -- a call on a cleared store is refused exactly where the rows say
 pub on-cleared : (c : Call) → refusalOf cleared c ≡ refusedThere c
 unfolding refusalOf table refusal
-on-cleared c = rw (fault-off c) (by-rows c)
+on-cleared c = rw (no-fault c cleared sound-cleared) (by-rows c)

@@ -39,3 +39,5 @@ pub mod Taken
 pub mod Lasting
 pub mod Asking
 pub mod Made
+pub mod QuickRuns
+pub mod Readings

@@ -17,6 +17,7 @@ use Rattle.rules.specs.Store.{Store, view}
 use Rattle.rules.specs.Sound.{lengthsRight, sound}
 use Rattle.rules.specs.Sending.{fate, needsRecord}
 use Rattle.rules.specs.Refusals.{Row, tableOrder, refusal, rows, fault, table, refusalOf, noRoom, isClear}
+use Rattle.rules.proofs.Clauses.{clauses}
 
 abbrev pub Off : Row → Type 0
 Off r = r .applies ≡ false
@@ -42,6 +43,11 @@ given-passes p [] z h = z
 given-passes p (r ∷ rs) z h = split (r .applies) (λ e. rw e (h .0 e)) (λ e. rw e (given-passes p rs z (h .1)))
 
 -- ---- the table of a call
+
+-- the row of 14 does not apply to a sound store
+pub no-fault : (c : Call) (st : Store) → sound st ≡ true → fault st c .applies ≡ false
+unfolding fault
+no-fault c st e = split (isClear c) (λ k. rw (k, clauses st e .lengths)) (λ k. rw (k, e))
 
 -- the row of an errno, from the top
 abbrev pub rank : ℕ → ℕ

@@ -13,6 +13,3 @@ pub mod Calls
 pub mod Fitting
 pub mod Machine
 pub mod Computing
-pub mod Cases
-pub mod Examples
-pub mod Damaged

@@ -1,17 +1,23 @@
 -- The examples of docs/CALLS.md, line by line: each call and what it answers, by computation. The comments are the page's lines.
 use Prim.Native.Nat.{ℕ}
-use mathlib.Core.Path.{_≡_, refl}
-use mathlib.Core.List.{List, [], _∷_, map}
+use mathlib.Core.Path.{_≡_, refl, ap, _∙_}
+use mathlib.Core.Bool.{true}
+use mathlib.Core.List.{List, [], _∷_, _++_, map}
 use mathlib.Core.Option.{some, none}
 use lib.ListN.{take as firsts}
 use Rattle.limits.specs.Limits.{recordLimit}
+use Rattle.lists.specs.Lists.{All, all}
 use Rattle.sigset.specs.Set.{bits, empty}
 use Rattle.types.specs.Values.{defaultAction}
 use Rattle.rules.specs.Types.{Call, clear, addProcess, addThread, endProcess, endThread, kill, queue, action, mask, pending, look, who, take, return, noNext, nextMark, nextRecord, Answer, refused, done, tested, acted, dropped, absorbed, marked, kept, oldAction, oldMask, pendingSet, looked, canTake, noneCan, nothing, handler, end, stop, noAction}
 use Rattle.rules.specs.Store.{Store, cleared}
 use Rattle.rules.specs.Calls.{run, Part, emptyPart, processSlot, lookPart}
-use Rattle.rules.specs.Cases.{times}
+use Rattle.rules.specs.Machine.{machine}
 use Rattle.rules.specs.Computing.{computing}
+use Rattle.rules.proofs.Cleared.{sound-cleared}
+use Rattle.rules.proofs.Lasting.{run-sound}
+use Rattle.rules.proofs.QuickRuns.{quickComputing, quickRun, same-run, quickPart, same-part}
+use Rattle.examples.specs.Cases.{Case, Holds, holds, times}
 
 abbrev called : Call × Answer → Call
 called x = x .0
@@ -176,13 +182,13 @@ story =
     ∷ (take 200, refused 3)
     ∷ []
 
-pub told : run (map called story) cleared .1 ≡ map answered story
-unfolding computing
-told = refl
+-- lines of the page as a case
+abbrev lines : List (Call × Answer) → Case
+lines l = record { calls = map called l; expected = map answered l }
 
--- the store after so many lines of the story
-pub afterLines : ℕ → Store
-afterLines n = run (map called (firsts n story)) cleared .0
+pub told : Holds (lines story)
+unfolding computing quickComputing
+told = holds (lines story) refl refl
 
 -- the look itself, before each line of the look's example
 pub record Look : Type 0 where
@@ -190,27 +196,37 @@ pub record Look : Type 0 where
   pub thread : ℕ
   pub part : Part
 
-abbrev looks : List Look
-looks =
-    record { lines = 47; thread = 200; part = emptyPart }
-    ∷ record { lines = 49; thread = 200; part = emptyPart }
-    ∷ record { lines = 50; thread = 201; part = processSlot 0 }
-    ∷ record { lines = 51; thread = 202; part = emptyPart }
-    ∷ []
+-- the first lines of the story
+abbrev linesBefore : Look → List Call
+linesBefore x = map called (firsts (x .lines) story)
 
-abbrev lookedAt : Look → Part
-lookedAt x = lookPart (x .thread) (afterLines (x .lines))
+abbrev Finds : Look → Type 0
+Finds x = lookPart (x .thread) (run (linesBefore x) cleared .0) ≡ x .part
 
-abbrev partOfLook : Look → Part
-partOfLook x = x .part
+finds : (x : Look) → all machine (linesBefore x) ≡ true → quickPart (x .thread) (quickRun (linesBefore x) cleared .0) ≡ x .part → Finds x
+finds x u e =
+    same-part (x .thread) (run (linesBefore x) cleared .0) (run-sound (linesBefore x) cleared u sound-cleared)
+    ∙ (ap (λ (y : Store × List Answer). quickPart (x .thread) (y .0)) (same-run (linesBefore x) cleared u sound-cleared) ∙ e)
 
-pub parts : map lookedAt looks ≡ map partOfLook looks
-unfolding afterLines computing
-parts = refl
+abbrev aMark : Look
+aMark = record { lines = 47; thread = 200; part = emptyPart }
+
+abbrev nothingNext : Look
+nothingNext = record { lines = 49; thread = 200; part = emptyPart }
+
+abbrev aRecord : Look
+aRecord = record { lines = 50; thread = 201; part = processSlot 0 }
+
+abbrev nobody : Look
+nobody = record { lines = 51; thread = 202; part = emptyPart }
+
+pub parts : All Finds (aMark ∷ nothingNext ∷ aRecord ∷ nobody ∷ [])
+unfolding computing quickComputing
+parts = (finds aMark refl refl, (finds nothingNext refl refl, (finds aRecord refl refl, (finds nobody refl refl, tt))))
 
 -- beside the story: process 100 alone, with 32 records of 34 pending
-abbrev crowd : List Call
-crowd = addProcess 100 1000 1000 1000 7 200 empty ∷ times recordLimit (queue 100 100 0 34 7 ∷ [])
+abbrev crowd : List (Call × Answer)
+crowd = (addProcess 100 1000 1000 1000 7 200 empty, done) ∷ times recordLimit ((queue 100 100 0 34 7, kept) ∷ [])
 
 abbrev beside : List (Call × Answer)
 beside =
@@ -224,6 +240,6 @@ beside =
     ∷ (queue 100 100 0 9 7, acted)
     ∷ []
 
-pub crowded : run (map called beside) (run crowd cleared .0) .1 ≡ map answered beside
-unfolding times computing
-crowded = refl
+pub crowded : Holds (lines (crowd ++ beside))
+unfolding times computing quickComputing
+crowded = holds (lines (crowd ++ beside)) refl refl

@@ -1,20 +1,24 @@
 -- "Numbers to run against": the starred rows, by computation, and the three "Readings that bit us". Each row is a list of calls from a cleared
 -- store, and what they answer.
 use Prim.Native.Nat.{ℕ, zero, suc}
-use mathlib.Core.Path.{_≡_, refl}
+use mathlib.Core.Path.{_≡_, refl, ap, _∙_}
+use mathlib.Core.Bool.{true}
 use mathlib.Core.List.{List, [], _∷_, _++_}
 use mathlib.Core.Option.{some, none}
 use Rattle.limits.specs.Limits.{siQueue, recordLimit, saNodefer, saResethand, SIGKILL, SIGCHLD, SIGCONT, SIGSTOP, EINVAL, EAGAIN, ESRCH}
-use Rattle.lists.specs.Lists.{All}
+use Rattle.lists.specs.Lists.{All, all}
 use Rattle.sigset.specs.declared.SigSet.{SigSet}
 use Rattle.sigset.specs.Set.{bits, empty, ofSignal}
 use Rattle.types.specs.declared.Action.{Action}
 use Rattle.types.specs.declared.Siginfo.{Siginfo}
 use Rattle.types.specs.Values.{defaultAction}
 use Rattle.rules.specs.Types.{Call, addProcess, addThread, endProcess, endThread, kill, queue, action, mask, pending, look, who, take, return, Answer, refused, done, tested, acted, dropped, marked, kept, oldAction, oldMask, pendingSet, nothing, handler}
-use Rattle.rules.specs.Store.{cleared}
+use Rattle.rules.specs.Store.{Store, cleared}
 use Rattle.rules.specs.Calls.{run}
+use Rattle.rules.specs.Machine.{machine}
 use Rattle.rules.specs.Computing.{computing}
+use Rattle.rules.proofs.Cleared.{sound-cleared}
+use Rattle.rules.proofs.QuickRuns.{quickComputing, quickRun, same-run}
 
 pub answers : List Call → List Answer
 answers cs = run cs cleared .1
@@ -22,6 +26,14 @@ answers cs = run cs cleared .1
 pub record Case : Type 0 where
   pub calls : List Call
   pub expected : List Answer
+
+abbrev pub Holds : Case → Type 0
+Holds c = answers (c .calls) ≡ c .expected
+
+-- a case holds if it does by the rows below 14, which are quicker to compute
+pub holds : (c : Case) → all machine (c .calls) ≡ true → quickRun (c .calls) cleared .1 ≡ c .expected → Holds c
+unfolding answers
+holds c u e = ap (λ (x : Store × List Answer). x .1) (same-run (c .calls) cleared u sound-cleared) ∙ e
 
 -- ---- what the cases share: process 100 with thread 200, which signals itself
 
@@ -153,55 +165,52 @@ case10 =
       expected = done ∷ dropped ∷ oldAction defaultAction ∷ refused EINVAL ∷ [];
     }
 
-abbrev Holds : Case → Type 0
-Holds c = answers (c .calls) ≡ c .expected
-
 abbrev starredCases : List Case
 starredCases = case1 ∷ case2 ∷ case3 ∷ case4 ∷ case4Nodefer ∷ case4Full ∷ case5 ∷ case6 ∷ case6Queues ∷ case8 ∷ case10 ∷ []
 
 case1-holds : Holds case1
-unfolding answers times computing
-case1-holds = refl
+unfolding times computing quickComputing
+case1-holds = holds case1 refl refl
 
 case2-holds : Holds case2
-unfolding answers times computing
-case2-holds = refl
+unfolding times computing quickComputing
+case2-holds = holds case2 refl refl
 
 case3-holds : Holds case3
-unfolding answers times computing
-case3-holds = refl
+unfolding times computing quickComputing
+case3-holds = holds case3 refl refl
 
 case4-holds : Holds case4
-unfolding answers times computing
-case4-holds = refl
+unfolding times computing quickComputing
+case4-holds = holds case4 refl refl
 
 case4Nodefer-holds : Holds case4Nodefer
-unfolding answers times computing
-case4Nodefer-holds = refl
+unfolding times computing quickComputing
+case4Nodefer-holds = holds case4Nodefer refl refl
 
 case4Full-holds : Holds case4Full
-unfolding answers times computing
-case4Full-holds = refl
+unfolding times computing quickComputing
+case4Full-holds = holds case4Full refl refl
 
 case5-holds : Holds case5
-unfolding answers times computing
-case5-holds = refl
+unfolding times computing quickComputing
+case5-holds = holds case5 refl refl
 
 case6-holds : Holds case6
-unfolding answers times computing
-case6-holds = refl
+unfolding times computing quickComputing
+case6-holds = holds case6 refl refl
 
 case6Queues-holds : Holds case6Queues
-unfolding answers times computing
-case6Queues-holds = refl
+unfolding times computing quickComputing
+case6Queues-holds = holds case6Queues refl refl
 
 case8-holds : Holds case8
-unfolding answers times computing
-case8-holds = refl
+unfolding times computing quickComputing
+case8-holds = holds case8 refl refl
 
 case10-holds : Holds case10
-unfolding answers times computing
-case10-holds = refl
+unfolding times computing quickComputing
+case10-holds = holds case10 refl refl
 
 pub starred : All Holds starredCases
 starred = (case1-holds, (case2-holds, (case3-holds, (case4-holds, (case4Nodefer-holds, (case4Full-holds, (case5-holds, (case6-holds, (case6Queues-holds, (case8-holds, (case10-holds, tt)))))))))))
@@ -242,16 +251,16 @@ abbrev readingCases : List Case
 readingCases = unblocking ∷ blockedCont ∷ resetHandler ∷ []
 
 unblocking-holds : Holds unblocking
-unfolding answers times computing
-unblocking-holds = refl
+unfolding times computing quickComputing
+unblocking-holds = holds unblocking refl refl
 
 blockedCont-holds : Holds blockedCont
-unfolding answers times computing
-blockedCont-holds = refl
+unfolding times computing quickComputing
+blockedCont-holds = holds blockedCont refl refl
 
 resetHandler-holds : Holds resetHandler
-unfolding answers times computing
-resetHandler-holds = refl
+unfolding times computing quickComputing
+resetHandler-holds = holds resetHandler refl refl
 
 pub readings : All Holds readingCases
 readings = (unblocking-holds, (blockedCont-holds, (resetHandler-holds, tt)))
@@ -289,16 +298,16 @@ abbrev badInputCases : List Case
 badInputCases = noSignal ∷ noId ∷ noWay ∷ []
 
 noSignal-holds : Holds noSignal
-unfolding answers times computing
-noSignal-holds = refl
+unfolding times computing quickComputing
+noSignal-holds = holds noSignal refl refl
 
 noId-holds : Holds noId
-unfolding answers times computing
-noId-holds = refl
+unfolding times computing quickComputing
+noId-holds = holds noId refl refl
 
 noWay-holds : Holds noWay
-unfolding answers times computing
-noWay-holds = refl
+unfolding times computing quickComputing
+noWay-holds = holds noWay refl refl
 
 pub badInput : All Holds badInputCases
 badInput = (noSignal-holds, (noId-holds, (noWay-holds, tt)))

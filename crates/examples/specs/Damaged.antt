@@ -10,14 +10,14 @@ use Rattle.lists.specs.Lists.{range}
 use Rattle.sigset.specs.Set.{bits, empty}
 use Rattle.types.specs.declared.Action.{Action}
 use Rattle.types.specs.declared.Siginfo.{Siginfo}
 use Rattle.rules.specs.Types.{Thread, addProcess, kill, queue, clear, refused, done}
 use Rattle.rules.specs.View.{Change, newProcess, newThread, setStopped, setAction, setMask, setMark, append, processQueue}
 use Rattle.rules.specs.Store.{Store, cleared, applyAll}
 use Rattle.rules.specs.Sound.{lengthsRight, freeZero, idsInRange, idsDistinct, fieldsInRange, threadsOwned, processesPeopled, nothingUnmaskable, unmaskableDefault, allFlagsKnown, recordsLaidOut, limitKept, pendingOnce, nothingIgnored}
 use Rattle.rules.specs.Adding.{newborn}
 use Rattle.rules.specs.Calls.{run, step}
-use Rattle.rules.specs.Cases.{times}
+use Rattle.examples.specs.Cases.{times}
 use Rattle.rules.specs.Computing.{computing}
 
 -- what each clause says of a store, in the order of `sound`
 unfoldable pub verdicts : Store → List Bool
