@@ -141,10 +141,10 @@ case6 =
 abbrev case6Queues : Case
 case6Queues =
     record {
-      calls = one empty ∷ handles 34 ∷ handles 35 ∷ queue 100 100 200 35 1 ∷ queue 100 100 0 34 2 ∷ times 2 taken;
+      calls = one empty ∷ handles 34 ∷ handles 35 ∷ queue 100 100 0 34 1 ∷ queue 100 100 200 35 2 ∷ times 2 taken;
       expected =
           done ∷ oldAction defaultAction ∷ oldAction defaultAction ∷ kept ∷ kept
-          ∷ runs (sent 0 34 2) ∷ oldMask (bits 8589934592) ∷ runs (sent 200 35 1) ∷ oldMask (bits 17179869184) ∷ [];
+          ∷ runs (sent 0 34 1) ∷ oldMask (bits 8589934592) ∷ runs (sent 200 35 2) ∷ oldMask (bits 17179869184) ∷ [];
     }
 
 -- 8: "The 32nd record is kept, the 33rd answers 11; after one is taken the next is kept."
