@@ -154,7 +154,7 @@ extern "C" {
 /* ---- The tables */
 
 /* What a process does on a signal. */
-struct rrezhbuta_action {
+struct rrezhbuta_sigaction {
     uint64_t handler; /* SIG_DFL, SIG_IGN, else a handler */
     uint64_t flags;
     uint64_t mask; /* what is blocked while the handler runs */
@@ -165,9 +165,9 @@ struct rrezhbuta_process {
     uint64_t id;
     uint64_t real, effective, saved; /* user ids */
     uint64_t session;
-    uint64_t stopped;                                   /* 0 or 1 */
-    uint64_t marks;                                     /* what is pending for it without a value */
-    struct rrezhbuta_action actions[RREZHBUTA_SIGNALS]; /* that of signal s is at s-1 */
+    uint64_t stopped;                                      /* 0 or 1 */
+    uint64_t marks;                                        /* what is pending for it without a value */
+    struct rrezhbuta_sigaction actions[RREZHBUTA_SIGNALS]; /* that of signal s is at s-1 */
 };
 
 /* A place of the thread table; all zero where it is free. */
@@ -247,10 +247,10 @@ struct rrezhbuta_taken {
 #define RREZHBUTA_WORD(type, field, word) RREZHBUTA_ASSERT(offsetof(struct type, field) == sizeof(uint64_t) * (word))
 #define RREZHBUTA_BYTE(field, byte) RREZHBUTA_ASSERT(offsetof(struct rrezhbuta_siginfo, field) == (byte))
 
-RREZHBUTA_WORD(rrezhbuta_action, handler, RREZHBUTA_ACTION_HANDLER);
-RREZHBUTA_WORD(rrezhbuta_action, flags, RREZHBUTA_ACTION_FLAGS);
-RREZHBUTA_WORD(rrezhbuta_action, mask, RREZHBUTA_ACTION_MASK);
-RREZHBUTA_ASSERT(sizeof(struct rrezhbuta_action) == sizeof(uint64_t) * RREZHBUTA_ACTION_WORDS);
+RREZHBUTA_WORD(rrezhbuta_sigaction, handler, RREZHBUTA_ACTION_HANDLER);
+RREZHBUTA_WORD(rrezhbuta_sigaction, flags, RREZHBUTA_ACTION_FLAGS);
+RREZHBUTA_WORD(rrezhbuta_sigaction, mask, RREZHBUTA_ACTION_MASK);
+RREZHBUTA_ASSERT(sizeof(struct rrezhbuta_sigaction) == sizeof(uint64_t) * RREZHBUTA_ACTION_WORDS);
 
 RREZHBUTA_WORD(rrezhbuta_process, id, RREZHBUTA_PROCESS_ID);
 RREZHBUTA_WORD(rrezhbuta_process, real, RREZHBUTA_PROCESS_REAL);
@@ -317,15 +317,24 @@ static inline struct rrezhbuta_tables rrezhbuta_lend(struct rrezhbuta_store *sto
     return tables;
 }
 
+/*
+ * The length of a table in the words or bytes that the library counts, so many to each place or record. It is 0 where the product is more than a size_t
+ * holds: no table has that length, and nothing can be read or written through it.
+ */
+static inline size_t rrezhbuta_length(size_t count, size_t each)
+{
+    return count <= SIZE_MAX / each ? count * each : 0;
+}
+
 /* One call on the lent tables: a to f are narrow, x to z are wide. */
 static inline int rrezhbuta_serve(const struct rrezhbuta_tables *tables, struct rrezhbuta_answer *answer, uint32_t number, const uint32_t narrow[6],
                                   const uint64_t wide[3])
 {
-    return (int)rrezhbuta_call((uint64_t *)tables->processes, tables->process_places * RREZHBUTA_PROCESS_WORDS, (uint8_t *)tables->thread_buffer,
-                               tables->thread_records * RREZHBUTA_RECORD_BYTES, (uint8_t *)tables->process_buffer,
-                               tables->process_records * RREZHBUTA_RECORD_BYTES, (uint64_t *)answer, RREZHBUTA_ANSWER_WORDS, tables->threads,
-                               tables->thread_places, number, narrow[0], narrow[1], narrow[2], narrow[3], narrow[4], narrow[5], wide[0], wide[1],
-                               wide[2]);
+    return (int)rrezhbuta_call((uint64_t *)tables->processes, rrezhbuta_length(tables->process_places, RREZHBUTA_PROCESS_WORDS),
+                               (uint8_t *)tables->thread_buffer, rrezhbuta_length(tables->thread_records, RREZHBUTA_RECORD_BYTES),
+                               (uint8_t *)tables->process_buffer, rrezhbuta_length(tables->process_records, RREZHBUTA_RECORD_BYTES),
+                               (uint64_t *)answer, RREZHBUTA_ANSWER_WORDS, tables->threads, tables->thread_places, number, narrow[0], narrow[1],
+                               narrow[2], narrow[3], narrow[4], narrow[5], wide[0], wide[1], wide[2]);
 }
 
 /* A call that has ids alone as its arguments, two at most. */
@@ -411,11 +420,11 @@ static inline int rrezhbuta_queue(const struct rrezhbuta_tables *tables, uint32_
 }
 
 /* Stores an action, or only asks where `action` is NULL. `old`, which may be NULL, gets the action before. */
-static inline int rrezhbuta_action(const struct rrezhbuta_tables *tables, uint32_t process, uint32_t signal, const struct rrezhbuta_action *action,
-                                   struct rrezhbuta_action *old)
+static inline int rrezhbuta_action(const struct rrezhbuta_tables *tables, uint32_t process, uint32_t signal,
+                                   const struct rrezhbuta_sigaction *action, struct rrezhbuta_sigaction *old)
 {
-    const struct rrezhbuta_action none = {0, 0, 0};
-    const struct rrezhbuta_action *stored = action != NULL ? action : &none;
+    const struct rrezhbuta_sigaction none = {0, 0, 0};
+    const struct rrezhbuta_sigaction *stored = action != NULL ? action : &none;
     const uint32_t narrow[6] = {process, signal, action != NULL};
     const uint64_t wide[3] = {stored->handler, stored->flags, stored->mask};
     struct rrezhbuta_answer answer;
@@ -453,10 +462,10 @@ static inline int rrezhbuta_pending(const struct rrezhbuta_tables *tables, uint3
 /* The record that a thread takes next, where it lies in a lent buffer; NULL for a mark, for nothing, and where the look is refused. */
 static inline const struct rrezhbuta_siginfo *rrezhbuta_look_part(const struct rrezhbuta_tables *tables, uint32_t thread)
 {
-    uint64_t found = rrezhbuta_look((const uint64_t *)tables->processes, tables->process_places * RREZHBUTA_PROCESS_WORDS,
-                                    (const uint8_t *)tables->thread_buffer, tables->thread_records * RREZHBUTA_RECORD_BYTES,
-                                    (const uint8_t *)tables->process_buffer, tables->process_records * RREZHBUTA_RECORD_BYTES, tables->threads,
-                                    tables->thread_places, thread);
+    uint64_t found = rrezhbuta_look((const uint64_t *)tables->processes, rrezhbuta_length(tables->process_places, RREZHBUTA_PROCESS_WORDS),
+                                    (const uint8_t *)tables->thread_buffer, rrezhbuta_length(tables->thread_records, RREZHBUTA_RECORD_BYTES),
+                                    (const uint8_t *)tables->process_buffer, rrezhbuta_length(tables->process_records, RREZHBUTA_RECORD_BYTES),
+                                    tables->threads, tables->thread_places, thread);
     if (found == 0)
         return NULL;
     if (found <= RREZHBUTA_BUFFER_RECORDS)

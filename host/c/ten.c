@@ -7,7 +7,7 @@ int main(void)
     static struct rrezhbuta_store store;
     struct rrezhbuta_tables tables = rrezhbuta_lend(&store);
     struct rrezhbuta_new_process process = {.id = 100, .thread = 200};
-    struct rrezhbuta_action action = {.handler = 5000};
+    struct rrezhbuta_sigaction action = {.handler = 5000};
     struct rrezhbuta_taken taken;
     int refusal = rrezhbuta_clear(&tables);
     if (!refusal) refusal = rrezhbuta_add_process(&tables, &process);

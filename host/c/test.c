@@ -62,7 +62,7 @@ static uint64_t queue_sent(uint32_t thread, uint32_t signal, uint64_t value)
 
 static void handle(uint32_t signal, uint64_t flags, uint64_t mask)
 {
-    struct rrezhbuta_action action = {HANDLER, flags, mask};
+    struct rrezhbuta_sigaction action = {HANDLER, flags, mask};
     DONE(rrezhbuta_action(&tables, 100, signal, &action, NULL));
 }
 
@@ -263,8 +263,8 @@ static void kill_lands_on_a_full_queue(void)
 
 static void actions(void)
 {
-    struct rrezhbuta_action old = {OLD, OLD, OLD};
-    const struct rrezhbuta_action stored = {HANDLER, ALL_ONES, ALL_ONES};
+    struct rrezhbuta_sigaction old = {OLD, OLD, OLD};
+    const struct rrezhbuta_sigaction stored = {HANDLER, ALL_ONES, ALL_ONES};
     start();
     DONE(rrezhbuta_action(&tables, 100, 40, &stored, &old));
     CHECK(old.handler == RREZHBUTA_SIG_DFL && old.flags == 0 && old.mask == 0);
@@ -282,7 +282,7 @@ static void actions(void)
 
 static void ignoring_discards(void)
 {
-    const struct rrezhbuta_action ignore = {RREZHBUTA_SIG_IGN, 0, 0};
+    const struct rrezhbuta_sigaction ignore = {RREZHBUTA_SIG_IGN, 0, 0};
     start();
     CHECK(kill_sent(0, 2) == RREZHBUTA_ANSWER_MARKED);
     DONE(rrezhbuta_action(&tables, 100, 2, &ignore, NULL));
@@ -536,6 +536,16 @@ static void all_refused(void)
     CHECK(rrezhbuta_look_part(&tables, 200) == NULL);
 }
 
+/* with that length in place of the right one every function refuses, clearing too */
+static void refused_at(size_t *length, size_t wrong)
+{
+    const size_t right = *length;
+    *length = wrong;
+    REFUSED(RREZHBUTA_EFAULT, rrezhbuta_clear(&tables));
+    all_refused();
+    *length = right;
+}
+
 static void wrong_lengths(void)
 {
     start();
@@ -543,12 +553,23 @@ static void wrong_lengths(void)
     CHECK(rrezhbuta_look_part(&tables, 200) != NULL);
     size_t *lengths[] = {&tables.process_places, &tables.thread_places, &tables.thread_records, &tables.process_records};
     for (size_t n = 0; n < sizeof lengths / sizeof *lengths; n++) {
-        --*lengths[n];
-        REFUSED(RREZHBUTA_EFAULT, rrezhbuta_clear(&tables));
-        all_refused();
-        ++*lengths[n];
+        refused_at(lengths[n], *lengths[n] - 1);
+        /* too long by each power of two: 2^59 records more are 2^64 bytes more, which a size_t does not show */
+        for (size_t more = 1; more != 0; more *= 2)
+            refused_at(lengths[n], *lengths[n] + more);
     }
     DONE(rrezhbuta_clear(&tables));
+}
+
+static void lengths_that_no_size_holds(void)
+{
+    const size_t sizes[] = {RREZHBUTA_PROCESS_WORDS, RREZHBUTA_RECORD_BYTES};
+    for (size_t n = 0; n < sizeof sizes / sizeof *sizes; n++) {
+        const size_t most = SIZE_MAX / sizes[n];
+        CHECK(rrezhbuta_length(most, sizes[n]) == most * sizes[n]);
+        CHECK(rrezhbuta_length(most + 1, sizes[n]) == 0);
+        CHECK(rrezhbuta_length(SIZE_MAX, sizes[n]) == 0);
+    }
 }
 
 static void an_unsound_store(void)
@@ -586,6 +607,7 @@ int main(void)
     the_room_for_the_answer();
     unknown_calls();
     wrong_lengths();
+    lengths_that_no_size_holds();
     an_unsound_store();
     printf("host/c/test.c: %d checks\n", checks);
     return 0;
