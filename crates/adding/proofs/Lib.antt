@@ -1,6 +1,3 @@
-mod Cleared
 mod ProcessRows
 mod ThreadRows
 mod Added
-mod Others
-mod Ended

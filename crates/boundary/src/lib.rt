@@ -10,7 +10,8 @@ ghost use Rattle.lists.specs.Lists.{padded};
 ghost use Rattle.sigset.specs.Set.{bits};
 ghost use Rattle.answers.specs.Answers.{answerOf, nextOf};
 ghost use Rattle.answers.specs.Step.{lent};
-ghost use Rattle.settings.specs.Given.{newAction, newSet};
+ghost use Rattle.actions.specs.Given.{newAction};
+ghost use Rattle.masks.specs.Given.{newSet};
 ghost use Rattle.calls.specs.Calls.{callOf};
 ghost use Rattle.boundary.specs.Boundary.{arguments, whereGiven, isCall, numbered, accepted, usable, nextWords, wordsOf, errnoOf, written, serveOn};
 use answers::Answer;
@@ -53,8 +54,8 @@ use limits::CALL_TAKE;
 use limits::CALL_WHO;
 use limits::EFAULT;
 use limits::EINVAL;
-use settings::GivenAction;
-use settings::GivenSet;
+use actions::GivenAction;
+use masks::GivenSet;
 use sigset::SigSet;
 use types::Action;
 use types::Siginfo;
@@ -252,7 +253,7 @@ fn is_usable(ps: &[u64], ts: &[u64], tb: &[u8], pb: &[u8], number: u32) -> bool
     ensures { λ r. ⌜ r ≡ usable number (lent (now (ps .entry)) (now (ts .entry)) (now (tb .entry)) (now (pb .entry))) ⌝ }
 {
     if number == CALL_CLEAR {
-        return adding::lengths_are(ps, ts, tb, pb);
+        return clearing::lengths_are(ps, ts, tb, pb);
     }
     sound::sound(ps, ts, tb, pb)
 }

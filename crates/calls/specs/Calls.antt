@@ -1,6 +1,7 @@
 -- The rules' call for each case of the enum.
 use Rattle.rules.specs.Types.{Call, clear, addProcess, addThread, endProcess, endThread, kill, queue, action, mask, pending, look, who, take, return}
-use Rattle.settings.specs.Given.{newAction, newSet}
+use Rattle.actions.specs.Given.{newAction}
+use Rattle.masks.specs.Given.{newSet}
 use Rattle.calls.specs.declared.Call as declared
 use Rattle.calls.specs.declared.Call.the-variants as cases
 

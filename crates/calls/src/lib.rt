@@ -4,8 +4,8 @@ ghost use Rattle.answers.specs.Answers.{answerOf};
 ghost use Rattle.answers.specs.Step.{lent, stepOn};
 ghost use Rattle.calls.specs.Calls.{callOf};
 use answers::Answer;
-use settings::GivenAction;
-use settings::GivenSet;
+use actions::GivenAction;
+use masks::GivenSet;
 use sigset::SigSet;
 
 // A call with its arguments in the documented order.
@@ -39,7 +39,7 @@ pub fn step(ps: &mut [u64], ts: &mut [u64], tb: &mut [u8], pb: &mut [u8], c: Cal
     ensures tables { λ r. ⌜ lent (now (ps .exit)) (now (ts .exit)) (now (tb .exit)) (now (pb .exit)) ≡ stepOn (callOf c) (lent (now (ps .entry)) (now (ts .entry)) (now (tb .entry)) (now (pb .entry))) .0 ⌝ }
 {
     match c {
-        Call::Clear => adding::clear(ps, ts, tb, pb),
+        Call::Clear => clearing::clear(ps, ts, tb, pb),
         Call::AddProcess(id, real, effective, saved, session, thread, mask) => {
             adding::add_process(
                 ps,
@@ -56,18 +56,18 @@ pub fn step(ps: &mut [u64], ts: &mut [u64], tb: &mut [u8], pb: &mut [u8], c: Cal
             )
         }
         Call::AddThread(creator, id) => adding::add_thread(ps, ts, tb, pb, creator, id),
-        Call::EndProcess(id) => adding::end_process(ps, ts, tb, pb, id),
-        Call::EndThread(id) => adding::end_thread(ps, ts, tb, pb, id),
+        Call::EndProcess(id) => ending::end_process(ps, ts, tb, pb, id),
+        Call::EndThread(id) => ending::end_thread(ps, ts, tb, pb, id),
         Call::Kill(by, to, thread, s) => sending::kill(ps, ts, tb, pb, by, to, thread, s),
         Call::Queue(by, to, thread, s, value) => {
             sending::sigqueue(ps, ts, tb, pb, by, to, thread, s, value)
         }
-        Call::Action(process, s, new) => settings::sigaction(ps, ts, tb, pb, process, s, new),
-        Call::Mask(thread, way, set) => settings::sigmask(ps, ts, tb, pb, thread, way, set),
-        Call::Pending(thread) => settings::sigpending(ps, ts, tb, pb, thread),
+        Call::Action(process, s, new) => actions::sigaction(ps, ts, tb, pb, process, s, new),
+        Call::Mask(thread, way, set) => masks::sigmask(ps, ts, tb, pb, thread, way, set),
+        Call::Pending(thread) => masks::sigpending(ps, ts, tb, pb, thread),
         Call::Look(thread) => looking::looked(ps, ts, tb, pb, thread),
         Call::Who(process) => looking::who(ps, ts, tb, pb, process),
         Call::Take(thread) => taking::take(ps, ts, tb, pb, thread),
-        Call::Return(thread, saved) => settings::sigreturn(ps, ts, tb, pb, thread, saved),
+        Call::Return(thread, saved) => masks::sigreturn(ps, ts, tb, pb, thread, saved),
     }
 }

@@ -9,7 +9,7 @@ use Rattle.limits.specs.Limits.{EFAULT, EINVAL, callMask, callReturn, sigSetmas
 use Rattle.sigset.specs.Set.{bits}
 use Rattle.rules.specs.Types.{Answer, refused}
 use Rattle.answers.specs.Step.{Lent, lent}
-use Rattle.settings.proofs.Masks.{return-is}
+use Rattle.masks.proofs.Masks.{return-is}
 use Rattle.boundary.specs.Boundary.{whereGiven, callsOf, numbered, isCall, errnoOf, written, usable, accepted, serveOn}
 use Rattle.threads.specs.declared.Thread.{Thread}
 use Rattle.threads.specs.Records.{wordsOf, recordsOf}

@@ -1,6 +1,6 @@
 -- `given_action` meets its contract. Assumes nothing.
 use Rattle.sigset.specs.Set.{bits}
-use Rattle.settings.specs.Given.{newAction}
+use Rattle.actions.specs.Given.{newAction}
 use Rattle.boundary.proofs.Numbers.{none-given, one-given}
 use Rattle.boundary.proofs.given_action.Statement.{statement}
 use Rattle.boundary.proofs.given_action.Tie as tie

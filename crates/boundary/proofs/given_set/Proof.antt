@@ -1,6 +1,6 @@
 -- `given_set` meets its contract. Assumes nothing.
 use Rattle.sigset.specs.Set.{bits}
-use Rattle.settings.specs.Given.{newSet}
+use Rattle.masks.specs.Given.{newSet}
 use Rattle.boundary.proofs.Numbers.{none-given, one-given}
 use Rattle.boundary.proofs.given_set.Statement.{statement}
 use Rattle.boundary.proofs.given_set.Tie as tie

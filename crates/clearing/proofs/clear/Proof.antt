@@ -1,0 +1,78 @@
+-- `clear` meets its contract: the whole store is cleared, or the lengths refuse. Assumes nothing.
+use native.Mathlib.Omega.{arith}
+use Rattle.siginfo.proofs.Numbers.{bytes-each}
+use Rattle.answers.specs.Step.{lent}
+use Rattle.clearing.proofs.Cleared.{clear-refused, clear-long, clear-done}
+use borrow.Author.Needs.{needs}
+use Rattle.clearing.proofs.clear.Statement.{statement}
+use Rattle.clearing.proofs.clear.Tie as tie
+
+lengths-are-requires : tie.Need-lengths-are-requires
+lengths-are-requires c κs = search needs
+
+same-length : tie.Need-same-length
+same-length c = search needs
+
+same-length-2 : tie.Need-same-length-2
+same-length-2 c = search needs
+
+same-length-3 : tie.Need-same-length-3
+same-length-3 c = search needs
+
+same-length-4 : tie.Need-same-length-4
+same-length-4 c = search needs
+
+returns : tie.Need-returns
+returns c =
+    let s = c .before in
+    let a = s .before .before .before .before .before .before .before .before .before in
+    clear-refused (lent (a .args .ps .now) (a .args .ts .now) (a .args .tb .now) (a .args .pb .now)) (s .lengths-are .result) (s .lengths-are .ensures) (c .if1 .taken)
+
+forget-requires : tie.Need-forget-requires
+forget-requires c κs =
+    let i = c .before .before .before .before in
+    let s = i .before in
+    let a = s .before .before .before .before .before .before .before .before .before in
+    clear-long (lent (a .args .ps .now) (a .args .ts .now) (a .args .tb .now) (a .args .pb .now)) (s .lengths-are .result) (s .lengths-are .ensures) (i .if1 .left)
+
+same-length-5 : tie.Need-same-length-5
+same-length-5 c = search needs
+
+same-length-6 : tie.Need-same-length-6
+same-length-6 c = search needs
+
+same-length-7 : tie.Need-same-length-7
+same-length-7 c = search needs
+
+same-length-8 : tie.Need-same-length-8
+same-length-8 c = search needs
+
+returns-2 : tie.Need-returns-2
+returns-2 c =
+    let f = c .before .before .before .before .before .before .before .before in
+    let i = f .before .before .before .before .before in
+    let s = i .before in
+    let a = s .before .before .before .before .before .before .before .before .before in
+    clear-done (lent (a .args .ps .now) (a .args .ts .now) (a .args .tb .now) (a .args .pb .now)) (s .lengths-are .result) (s .lengths-are .ensures) (i .if1 .left)
+    (lent (f .forget .last .0) (f .forget .last .1 .0) (f .forget .last .1 .1 .0) (f .forget .last .1 .1 .1 .0))
+    (record { processes = search needs; threads = search needs; threadBuffer = search needs; processBuffer = search needs })
+    (bytes-each (f .forget .last .1 .1 .0) (λ i. omega (arith, c .before .before .slice-known7 .given i)))
+    (bytes-each (f .forget .last .1 .1 .1 .0) (λ i. omega (arith, c .slice-known8 .given i)))
+    (f .forget .ensures)
+
+pub clear-spec : {M : Type 1} → statement M
+clear-spec =
+    tie.close
+    (tie.spec
+    lengths-are-requires
+    same-length
+    same-length-2
+    same-length-3
+    same-length-4
+    returns
+    forget-requires
+    same-length-5
+    same-length-6
+    same-length-7
+    same-length-8
+    returns-2)

@@ -1,0 +1,2 @@
+mod Others
+mod Ended

@@ -1,0 +1,81 @@
+-- `end_process` meets its contract: refused, or the process is gone. Assumes nothing.
+use native.Mathlib.Omega.{arith}
+use Rattle.siginfo.proofs.Numbers.{bytes-each}
+use Rattle.answers.specs.Step.{lent}
+use Rattle.ending.proofs.Ended.{process-kept, process-can-end, process-ended}
+use borrow.Author.Needs.{needs}
+use Rattle.ending.proofs.end_process.Statement.{statement}
+use Rattle.ending.proofs.end_process.Tie as tie
+
+process-refusal-requires : tie.Need-process-refusal-requires
+process-refusal-requires c κs = search needs
+
+same-length : tie.Need-same-length
+same-length c = search needs
+
+same-length-2 : tie.Need-same-length-2
+same-length-2 c = search needs
+
+same-length-3 : tie.Need-same-length-3
+same-length-3 c = search needs
+
+same-length-4 : tie.Need-same-length-4
+same-length-4 c = search needs
+
+returns : tie.Need-returns
+returns c =
+    let r = c .before in
+    let a = r .before .before .before .before .before .before .before .before .before in
+    process-kept (a .args .ps .now) (a .args .ts .now) (a .args .tb .now) (a .args .pb .now)
+    (a .args .id) (r .process-refusal .result) (r .process-refusal .ensures) (c .if1 .taken)
+
+remove-process-requires : tie.Need-remove-process-requires
+remove-process-requires c κs =
+    let i = c .before .before .before .before in
+    let r = i .before in
+    let a = r .before .before .before .before .before .before .before .before .before in
+    process-can-end (a .args .ps .now) (a .args .ts .now) (a .args .tb .now) (a .args .pb .now)
+    (a .args .id) (r .process-refusal .result) (r .process-refusal .ensures) (i .if1 .left)
+
+same-length-5 : tie.Need-same-length-5
+same-length-5 c = search needs
+
+same-length-6 : tie.Need-same-length-6
+same-length-6 c = search needs
+
+same-length-7 : tie.Need-same-length-7
+same-length-7 c = search needs
+
+same-length-8 : tie.Need-same-length-8
+same-length-8 c = search needs
+
+returns-2 : tie.Need-returns-2
+returns-2 c =
+    let f = c .before .before .before .before .before .before .before .before in
+    let i = f .before .before .before .before .before in
+    let r = i .before in
+    let a = r .before .before .before .before .before .before .before .before .before in
+    process-ended (a .args .ps .now) (a .args .ts .now) (a .args .tb .now) (a .args .pb .now)
+    (a .args .id) (r .process-refusal .result) (r .process-refusal .ensures) (i .if1 .left)
+    (lent (f .remove-process .last .0) (f .remove-process .last .1 .0) (f .remove-process .last .1 .1 .0) (f .remove-process .last .1 .1 .1 .0))
+    (record { processes = search needs; threads = search needs; threadBuffer = search needs; processBuffer = search needs })
+    (bytes-each (f .remove-process .last .1 .1 .0) (λ i. omega (arith, c .before .before .slice-known7 .given i)))
+    (bytes-each (f .remove-process .last .1 .1 .1 .0) (λ i. omega (arith, c .slice-known8 .given i)))
+    (f .remove-process .ensures .0)
+
+pub end-process-spec : {M : Type 1} → statement M
+end-process-spec =
+    tie.close
+    (tie.spec
+    process-refusal-requires
+    same-length
+    same-length-2
+    same-length-3
+    same-length-4
+    returns
+    remove-process-requires
+    same-length-5
+    same-length-6
+    same-length-7
+    same-length-8
+    returns-2)

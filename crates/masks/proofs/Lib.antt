@@ -1,0 +1,2 @@
+pub mod Masks
+mod Pending

@@ -1,0 +1,168 @@
+-- `sigmask` meets its contract: refused, enquired, or changed. Assumes nothing.
+use mathlib.Core.Path.{refl, sym, ap, _∙_}
+use native.Mathlib.Omega.{arith}
+use Rattle.siginfo.proofs.Numbers.{bytes-each}
+use Rattle.rules.specs.Types.{mask}
+use Rattle.sound.proofs.Facts.{threads-long, thread-listed}
+use Rattle.answers.specs.Answers.{answerOf}
+use Rattle.answers.specs.Step.{lent}
+use Rattle.answers.proofs.Endings.{refused-ends}
+use Rattle.masks.specs.Given.{newSet}
+use Rattle.masks.proofs.Masks.{mask-sound, mask-live, mask-kept, mask-ready, mask-stored}
+use borrow.Author.Needs.{needs}
+use Rattle.masks.proofs.sigmask.Statement.{statement}
+use Rattle.masks.proofs.sigmask.Tie as tie
+
+mask-refusal-requires : tie.Need-mask-refusal-requires
+mask-refusal-requires c κs = search needs
+
+same-length : tie.Need-same-length
+same-length c = search needs
+
+same-length-2 : tie.Need-same-length-2
+same-length-2 c = search needs
+
+same-length-3 : tie.Need-same-length-3
+same-length-3 c = search needs
+
+same-length-4 : tie.Need-same-length-4
+same-length-4 c = search needs
+
+returns : tie.Need-returns
+returns c =
+    let a = c .before .before .before .before .before .before .before .before .before .before in
+    let ps = a .args .ps .now in
+    let ts = a .args .ts .now in
+    let tb = a .args .tb .now in
+    let pb = a .args .pb .now in
+    let t = a .args .thread in
+    let way = a .args .way in
+    let set = newSet (a .args .set) in
+    let n = c .before .mask-refusal .result in
+    let e = c .before .mask-refusal .ensures in
+    refused-ends (mask t way set) (lent ps ts tb pb) n e (c .if1 .taken)
+
+mask-of-requires : tie.Need-mask-of-requires
+mask-of-requires c κs =
+    let a = c .before .before .before .before .before .before .before .before .before .before .before in
+    let ps = a .args .ps .now in
+    let ts = a .args .ts .now in
+    let tb = a .args .tb .now in
+    let pb = a .args .pb .now in
+    let t = a .args .thread in
+    let way = a .args .way in
+    let set = newSet (a .args .set) in
+    let e = sym (c .before .before .mask-refusal .ensures) ∙ c .before .if1 .left in
+    (threads-long ps ts tb pb (mask-sound (lent ps ts tb pb) t way set e), thread-listed ps ts tb pb t (mask-live (lent ps ts tb pb) t way set e))
+
+enum-told : tie.Need-enum-told
+enum-told c = search needs
+
+enum-known-set : tie.Need-enum-known-set
+enum-known-set c = search needs
+
+mask-after-requires : tie.Need-mask-after-requires
+mask-after-requires c κs = search needs
+
+set-mask-requires : tie.Need-set-mask-requires
+unfolding newSet
+set-mask-requires c κs =
+    let a = c .before .before .before .before .before .before .before .before .before .before .before .before .before .before .before .before .before .before .before .before in
+    let ps = a .args .ps .now in
+    let ts = a .args .ts .now in
+    let tb = a .args .tb .now in
+    let pb = a .args .pb .now in
+    let t = a .args .thread in
+    let way = a .args .way in
+    let set = newSet (a .args .set) in
+    let e = sym (c .before .before .before .before .before .before .before .before .before .before .before .mask-refusal .ensures) ∙ c .before .before .before .before .before .before .before .before .before .before .if1 .left in
+    let o = c .before .before .before .before .before .before .before .before in (
+      mask-sound (lent ps ts tb pb) t way set e,
+      mask-ready (lent ps ts tb pb) t way set e (o .mask-of .result) (o .mask-of .ensures) (c .before .before .before .before .before .before .set .given .0 .0) (c .mask-after .result)
+          (ap newSet (c .before .before .before .before .before .before .set .given .1)) (c .mask-after .ensures),
+    )
+
+same-length-5 : tie.Need-same-length-5
+same-length-5 c = search needs
+
+same-length-6 : tie.Need-same-length-6
+same-length-6 c = search needs
+
+same-length-7 : tie.Need-same-length-7
+same-length-7 c = search needs
+
+same-length-8 : tie.Need-same-length-8
+same-length-8 c = search needs
+
+returns-2 : tie.Need-returns-2
+unfolding answerOf newSet
+returns-2 c =
+    let a = c .before .before .before .before .before .before .before .before .before .before .before .before .before .before in
+    let ps = a .args .ps .now in
+    let ts = a .args .ts .now in
+    let tb = a .args .tb .now in
+    let pb = a .args .pb .now in
+    let t = a .args .thread in
+    let way = a .args .way in
+    let set = newSet (a .args .set) in
+    let e = sym (c .before .before .before .before .before .mask-refusal .ensures) ∙ c .before .before .before .before .if1 .left in
+    mask-kept (lent ps ts tb pb) t way set e (c .before .before .mask-of .result) (c .before .before .mask-of .ensures) (ap newSet (c .enum-told .given .1)) (bytes-each tb (λ i. omega (arith, c .before .before .before .before .before .before .before .before .before .before .before .slice-known3 .given i)))
+    (bytes-each pb (λ i. omega (arith, c .before .before .before .before .before .before .before .before .before .before .slice-known4 .given i)))
+
+same-length-9 : tie.Need-same-length-9
+same-length-9 c = search needs
+
+same-length-10 : tie.Need-same-length-10
+same-length-10 c = search needs
+
+same-length-11 : tie.Need-same-length-11
+same-length-11 c = search needs
+
+same-length-12 : tie.Need-same-length-12
+same-length-12 c = search needs
+
+returns-3 : tie.Need-returns-3
+unfolding answerOf newSet
+returns-3 c =
+    let w = c .before .before in
+    let o = c .before .before .before .before .before .before .before .before .before .before .before in
+    let a = c .before .before .before .before .before .before .before .before .before .before .before .before .before .before .before .before .before .before .before .before .before .before .before in
+    let ps = a .args .ps .now in
+    let ts = a .args .ts .now in
+    let tb = a .args .tb .now in
+    let pb = a .args .pb .now in
+    let t = a .args .thread in
+    let way = a .args .way in
+    let set = newSet (a .args .set) in
+    let e = sym (c .before .before .before .before .before .before .before .before .before .before .before .before .before .before .mask-refusal .ensures) ∙ c .before .before .before .before .before .before .before .before .before .before .before .before .before .if1 .left in
+    mask-stored (lent ps ts tb pb) t way set e (o .mask-of .result) (o .mask-of .ensures) (c .before .before .before .before .before .before .before .before .before .set .given .0 .0) (c .before .before .before .mask-after .result)
+    (ap newSet (c .before .before .before .before .before .before .before .before .before .set .given .1)) (c .before .before .before .mask-after .ensures) (lent ps (w .set-mask .last .1 .0) tb pb)
+    (record { processes = refl; threads = search needs; threadBuffer = refl; processBuffer = refl })
+    (bytes-each tb (λ i. omega (arith, c .before .before .before .before .before .before .before .before .before .before .before .before .before .before .before .before .before .before .before .before .slice-known3 .given i))) (bytes-each pb (λ i. omega (arith, c .before .before .before .before .before .before .before .before .before .before .before .before .before .before .before .before .before .before .before .slice-known4 .given i)))
+    (w .set-mask .ensures .0)
+
+pub sigmask-spec : {M : Type 1} → statement M
+sigmask-spec =
+    tie.close
+    (tie.spec
+    mask-refusal-requires
+    same-length
+    same-length-2
+    same-length-3
+    same-length-4
+    returns
+    mask-of-requires
+    enum-told
+    enum-known-set
+    mask-after-requires
+    set-mask-requires
+    same-length-5
+    same-length-6
+    same-length-7
+    same-length-8
+    returns-2
+    same-length-9
+    same-length-10
+    same-length-11
+    same-length-12
+    returns-3)

@@ -1,0 +1,45 @@
+-- `sigpending` meets its contract: refused, or the pending set. Assumes nothing.
+use Rattle.rules.specs.Types.{pending}
+use Rattle.answers.specs.Answers.{answerOf}
+use Rattle.answers.specs.Step.{lent}
+use Rattle.answers.proofs.Endings.{refused-ends}
+use Rattle.answers.proofs.Rows.{live-thread}
+use Rattle.masks.proofs.Pending.{pending-refusal, pending-answered}
+use borrow.Author.Needs.{needs}
+use Rattle.masks.proofs.sigpending.Statement.{statement}
+use Rattle.masks.proofs.sigpending.Tie as tie
+
+thread-refusal-requires : tie.Need-thread-refusal-requires
+thread-refusal-requires c κs = search needs
+
+returns : tie.Need-returns
+returns c =
+    let a = c .before .before .before .before .before .before in
+    let ps = a .args .ps .now in
+    let ts = a .args .ts .now in
+    let tb = a .args .tb .now in
+    let pb = a .args .pb .now in
+    let n = c .before .thread-refusal .result in
+    refused-ends (pending (a .args .thread)) (lent ps ts tb pb) n (pending-refusal (lent ps ts tb pb) (a .args .thread) n (c .before .thread-refusal .ensures)) (c .if1 .taken) .0
+
+blocked-requires : tie.Need-blocked-requires
+blocked-requires c κs =
+    let a = c .before .before .before .before .before .before in
+    let ps = a .args .ps .now in
+    let ts = a .args .ts .now in
+    let tb = a .args .tb .now in
+    let pb = a .args .pb .now in
+    live-thread (lent ps ts tb pb) (a .args .thread) (c .before .thread-refusal .result) (c .before .thread-refusal .ensures) (c .if1 .left)
+
+returns-2 : tie.Need-returns-2
+unfolding answerOf
+returns-2 c =
+    let a = c .before .before .before .before .before .before .before in
+    let ps = a .args .ps .now in
+    let ts = a .args .ts .now in
+    let tb = a .args .tb .now in
+    let pb = a .args .pb .now in
+    pending-answered (lent ps ts tb pb) (a .args .thread) (c .before .before .thread-refusal .result) (c .before .before .thread-refusal .ensures) (c .before .if1 .left) (c .blocked .result) (c .blocked .ensures)
+
+pub sigpending-spec : {M : Type 1} → statement M
+sigpending-spec = tie.close (tie.spec thread-refusal-requires returns blocked-requires returns-2)

@@ -1,3 +1,0 @@
-mod Actions
-pub mod Masks
-mod Pending
