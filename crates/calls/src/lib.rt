@@ -3,8 +3,8 @@ ghost use mathlib.Core.Path.{_≡_};
 ghost use Rattle.answers.specs.Answers.{answerOf};
 ghost use Rattle.answers.specs.Step.{lent, stepOn};
 ghost use Rattle.calls.specs.Calls.{callOf};
-use answers::Answer;
 use actions::GivenAction;
+use answers::Answer;
 use masks::GivenSet;
 use sigset::SigSet;
 

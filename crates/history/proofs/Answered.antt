@@ -12,11 +12,9 @@ use Rattle.lists.proofs.Bools.{split, clash, same-test, cond-false}
 use Rattle.rules.specs.Types.{Call, clear, addProcess, addThread, endProcess, endThread, kill, queue, action, mask, pending, look, who, take, return, Answer, refused, done, tested, acted, dropped, absorbed, marked, kept, oldAction, oldMask, pendingSet, looked, canTake, noneCan, nothing, handler, end, stop, noAction}
 use Rattle.rules.specs.View.{View, targetQueue}
 use Rattle.rules.specs.Store.{Store, view}
-use Rattle.rules.specs.Sound.{sound}
 use Rattle.rules.specs.Sending.{fate, needsRecord}
-use Rattle.rules.specs.Refusals.{Row, refusal, rows, isClear, fault, table, refusalOf, noRoom, einval, esrch, eperm, eagain}
+use Rattle.rules.specs.Refusals.{Row, refusal, rows, table, refusalOf, noRoom, einval, esrch, eperm, eagain}
 use Rattle.rules.specs.Calls.{answer, finish, step, isRefused}
-use Rattle.rules.proofs.Clauses.{clauses}
 use Rattle.rules.proofs.Facts.{within-limit}
 use Rattle.rules.proofs.Refused.{accepted-answers}
 use Rattle.rules.proofs.Table.{given-passes, no-fault}

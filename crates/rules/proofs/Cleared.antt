@@ -1,19 +1,19 @@
 -- A cleared store: it is sound, nobody lives in it, and what each call is refused with there. Assumes nothing.
 use Prim.Native.Nat.{ℕ, zero, suc}
-use mathlib.Core.Path.{_≡_, refl, ap, _∙_}
+use mathlib.Core.Path.{_≡_, refl, _∙_}
 use mathlib.Core.Bool.{Bool, true, false, not, _&&_, _||_, cond}
 use mathlib.Core.List.{map}
 use lib.Dec.{eqb, eqb·zero-suc}
 use lib.ListN.{replicate}
 use Rattle.limits.specs.Limits.{processPlaces, threadPlaces, ESRCH, EINVAL}
 use Rattle.lists.specs.Lists.{any}
-use Rattle.lists.proofs.Bools.{and-fst, and-right}
+use Rattle.lists.proofs.Bools.{and-right}
 use Rattle.lists.proofs.Lists.{any-map, any-replicate}
 use Rattle.rules.specs.Types.{Call, clear, addProcess, addThread, endProcess, endThread, kill, queue, action, mask, pending, look, who, take, return}
 use Rattle.rules.specs.View.{isProcess, isThread, liveProcess, liveThread}
 use Rattle.rules.specs.Store.{Place, held, freeProcess, freeThread, cleared, view}
-use Rattle.rules.specs.Sound.{lengthsRight, sound}
-use Rattle.rules.specs.Refusals.{refusal, badId, overLast, badAction, badWay, noProcessLive, noThreadLive, badTarget, noProcessPlace, noThreadPlace, rows, isClear, fault, table, refusalOf}
+use Rattle.rules.specs.Sound.{sound}
+use Rattle.rules.specs.Refusals.{refusal, badId, overLast, badAction, badWay, noProcessLive, noThreadLive, badTarget, noProcessPlace, noThreadPlace, rows, table, refusalOf}
 use Rattle.rules.specs.Computing.{computing}
 use Rattle.rules.proofs.Table.{no-fault}
 

@@ -14,7 +14,7 @@ use Rattle.sigset.proofs.Laws.{has-empty}
 use Rattle.rules.specs.Types.{Process, Thread, Queue, Call, look, Answer, refused}
 use Rattle.rules.specs.View.{View, inQueue, sameQueue, threadQueue, processQueue, theThread}
 use Rattle.rules.specs.Signals.{isSignal}
-use Rattle.rules.specs.Store.{Place, Store, held, processMark, threadMark, markIn, recordsFor, queuedIn, view, applyAll}
+use Rattle.rules.specs.Store.{Place, Store, held, markIn, recordsFor, queuedIn, view, applyAll}
 use Rattle.rules.specs.Sound.{sound}
 use Rattle.rules.specs.Taking.{next}
 use Rattle.rules.specs.Refusals.{refusal, rows, table, refusalOf}

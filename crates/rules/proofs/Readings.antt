@@ -1,19 +1,18 @@
 -- The table of default outcomes, number by number, and the readings that bit us, for every mask and every action. Assumes nothing.
 use Prim.Native.Nat.{ℕ}
-use mathlib.Core.Path.{_≡_, refl, sym, ap, ap₂, _∙_}
+use mathlib.Core.Path.{_≡_, refl, ap, ap₂, _∙_}
 use mathlib.Core.Bool.{Bool, true, false, not, _&&_, _||_, cond}
-use mathlib.Core.List.{List, [], _∷_, _++_, map}
+use mathlib.Core.List.{[], _∷_, _++_, map}
 use lib.Dec.{eqb}
 use lib.ListN.{replicate}
 use Rattle.limits.specs.Limits.{signals, sigDfl, sigBlock, sigUnblock, saNodefer, SIGKILL, SIGCHLD, SIGSTOP, SIGURG, SIGWINCH}
 use Rattle.lists.specs.Lists.{All, range}
-use Rattle.lists.proofs.Bools.{split}
 use Rattle.sigset.specs.declared.SigSet.{SigSet}
 use Rattle.sigset.specs.Set.{Signal, has, union, without, ofSignal, isUnmaskable, empty}
 use Rattle.sigset.proofs.Laws.{has-empty, has-of, has-union, has-without, has-maskable}
 use Rattle.types.specs.declared.Action.{Action}
 use Rattle.rules.specs.Types.{Queue}
-use Rattle.rules.specs.Signals.{Outcome, ignores, stops, continues, ends, ignoring, stopSignal, outcome, ignored}
+use Rattle.rules.specs.Signals.{ignores, stops, continues, ends, ignoring, stopSignal, outcome, ignored}
 use Rattle.rules.specs.View.{View, actionOf, theProcess}
 use Rattle.rules.specs.Sending.{dropping, fate}
 use Rattle.rules.specs.Actions.{hasFlag, newMask}

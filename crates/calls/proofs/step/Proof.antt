@@ -1,22 +1,6 @@
 use borrow.Author.Needs.{needs}
 use Rattle.calls.proofs.step.Statement.{statement}
 use Rattle.calls.proofs.step.Tie as tie
-use Rattle.calls.proofs.step.Reads as reads
-use Rattle.calls.proofs.step.Lts as lts
-use Rattle.adding.proofs.add_process.Reads as add-process-reads
-use Rattle.adding.proofs.add_thread.Reads as add-thread-reads
-use Rattle.clearing.proofs.clear.Reads as clear-reads
-use Rattle.ending.proofs.end_process.Reads as end-process-reads
-use Rattle.ending.proofs.end_thread.Reads as end-thread-reads
-use Rattle.looking.proofs.looked.Reads as looked-reads
-use Rattle.looking.proofs.who.Reads as who-reads
-use Rattle.sending.proofs.kill.Reads as kill-reads
-use Rattle.sending.proofs.sigqueue.Reads as sigqueue-reads
-use Rattle.actions.proofs.sigaction.Reads as sigaction-reads
-use Rattle.masks.proofs.sigmask.Reads as sigmask-reads
-use Rattle.masks.proofs.sigpending.Reads as sigpending-reads
-use Rattle.masks.proofs.sigreturn.Reads as sigreturn-reads
-use Rattle.taking.proofs.take.Reads as take-reads
 use mathlib.Core.Path.{refl}
 use native.Mathlib.Omega.{arith}
 use Rattle.siginfo.proofs.Numbers.{bytes-each}
