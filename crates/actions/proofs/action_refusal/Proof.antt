@@ -10,9 +10,6 @@ use borrow.Author.Needs.{needs}
 use Rattle.actions.proofs.action_refusal.Statement.{statement}
 use Rattle.actions.proofs.action_refusal.Tie as tie
 
-sound-requires : tie.Need-sound-requires
-sound-requires c κs = search needs
-
 returns : tie.Need-returns
 returns c =
     let a = c .before .before .before .before .before .before in
@@ -21,9 +18,6 @@ returns c =
     let tb = a .args .tb .now in
     let pb = a .args .pb .now in
     action-fault (lent ps ts tb pb) (a .args .process) (a .args .signal) (newAction (a .args .new)) (sym (c .before .sound .ensures) ∙ not-true (c .before .sound .result) (c .if1 .taken))
-
-is-bad-action-requires : tie.Need-is-bad-action-requires
-is-bad-action-requires c κs = search needs
 
 returns-2 : tie.Need-returns-2
 returns-2 c =
@@ -72,9 +66,9 @@ pub action-refusal-spec : {M : Type 1} → statement M
 action-refusal-spec =
     tie.close
     (tie.spec
-    sound-requires
+    (λ c κs. search needs)
     returns
-    is-bad-action-requires
+    (λ c κs. search needs)
     returns-2
     is-process-requires
     returns-3

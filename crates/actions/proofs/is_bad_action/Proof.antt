@@ -12,12 +12,6 @@ use borrow.Author.Needs.{needs}
 use Rattle.actions.proofs.is_bad_action.Statement.{statement}
 use Rattle.actions.proofs.is_bad_action.Tie as tie
 
-enum-told : tie.Need-enum-told
-enum-told c = search needs
-
-enum-told-2 : tie.Need-enum-told-2
-enum-told-2 c = search needs
-
 returns : tie.Need-returns
 unfolding badAction overLast newAction
 returns c =
@@ -26,4 +20,4 @@ returns c =
     (⊎-elim (λ w. w .2 ∙ ap (λ x. isSome (newAction x)) (sym (w .1 .given .1))) (λ w. w .2 ∙ ap (λ x. isSome (newAction x)) (sym (w .1 .given .1))) (c .match .came))
 
 pub is-bad-action-spec : {M : Type 1} → statement M
-is-bad-action-spec = tie.close (tie.spec enum-told enum-told-2 returns)
+is-bad-action-spec = tie.close (tie.spec (λ c. search needs) (λ c. search needs) returns)

@@ -4,12 +4,9 @@ use borrow.Author.Needs.{needs}
 use Rattle.actions.proofs.stored_of.Statement.{statement}
 use Rattle.actions.proofs.stored_of.Tie as tie
 
-maskable-requires : tie.Need-maskable-requires
-maskable-requires c κs = search needs
-
 returns : tie.Need-returns
 unfolding stored
 returns c = rw (c .maskable .ensures)
 
 pub stored-of-spec : {M : Type 1} → statement M
-stored-of-spec = tie.close (tie.spec maskable-requires returns)
+stored-of-spec = tie.close (tie.spec (λ c κs. search needs) returns)

@@ -6,21 +6,6 @@ use borrow.Author.Needs.{needs}
 use Rattle.adding.proofs.add_process.Statement.{statement}
 use Rattle.adding.proofs.add_process.Tie as tie
 
-add-process-refusal-requires : tie.Need-add-process-refusal-requires
-add-process-refusal-requires c κs = search needs
-
-same-length : tie.Need-same-length
-same-length c = search needs
-
-same-length-2 : tie.Need-same-length-2
-same-length-2 c = search needs
-
-same-length-3 : tie.Need-same-length-3
-same-length-3 c = search needs
-
-same-length-4 : tie.Need-same-length-4
-same-length-4 c = search needs
-
 returns : tie.Need-returns
 returns c =
     let r = c .before in
@@ -36,9 +21,6 @@ new-process-requires c κs =
     process-room (a .args .ps .now) (a .args .ts .now) (a .args .tb .now) (a .args .pb .now)
     (a .args .id) (a .args .thread) (r .add-process-refusal .result) (r .add-process-refusal .ensures) (i .if1 .left)
 
-maskable-requires : tie.Need-maskable-requires
-maskable-requires c κs = search needs
-
 new-thread-requires : tie.Need-new-thread-requires
 new-thread-requires c κs =
     let i = c .before .before .before .before .before .before in
@@ -46,18 +28,6 @@ new-thread-requires c κs =
     let a = r .before .before .before .before .before .before .before .before .before in
     first-thread-room (a .args .ps .now) (a .args .ts .now) (a .args .tb .now) (a .args .pb .now)
     (a .args .id) (a .args .thread) (r .add-process-refusal .result) (r .add-process-refusal .ensures) (i .if1 .left)
-
-same-length-5 : tie.Need-same-length-5
-same-length-5 c = search needs
-
-same-length-6 : tie.Need-same-length-6
-same-length-6 c = search needs
-
-same-length-7 : tie.Need-same-length-7
-same-length-7 c = search needs
-
-same-length-8 : tie.Need-same-length-8
-same-length-8 c = search needs
 
 returns-2 : tie.Need-returns-2
 returns-2 c =
@@ -78,17 +48,17 @@ pub add-process-spec : {M : Type 1} → statement M
 add-process-spec =
     tie.close
     (tie.spec
-    add-process-refusal-requires
-    same-length
-    same-length-2
-    same-length-3
-    same-length-4
+    (λ c κs. search needs)
+    (λ c. search needs)
+    (λ c. search needs)
+    (λ c. search needs)
+    (λ c. search needs)
     returns
     new-process-requires
-    maskable-requires
+    (λ c κs. search needs)
     new-thread-requires
-    same-length-5
-    same-length-6
-    same-length-7
-    same-length-8
+    (λ c. search needs)
+    (λ c. search needs)
+    (λ c. search needs)
+    (λ c. search needs)
     returns-2)

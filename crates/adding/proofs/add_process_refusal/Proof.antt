@@ -7,20 +7,11 @@ use borrow.Author.Needs.{needs}
 use Rattle.adding.proofs.add_process_refusal.Statement.{statement}
 use Rattle.adding.proofs.add_process_refusal.Tie as tie
 
-sound-requires : tie.Need-sound-requires
-sound-requires c κs = search needs
-
 returns : tie.Need-returns
 returns c =
     let s = c .before in
     let a = s .before .before .before .before .before in
     process-fault (a .args .ps .now) (a .args .ts .now) (a .args .tb .now) (a .args .pb .now) (a .args .id) (a .args .thread) (s .sound .result) (s .sound .ensures) (c .if1 .taken)
-
-is-id-requires : tie.Need-is-id-requires
-is-id-requires c κs = search needs
-
-is-id-requires-2 : tie.Need-is-id-requires-2
-is-id-requires-2 c κs = search needs
 
 returns-2 : tie.Need-returns-2
 returns-2 c =
@@ -102,10 +93,10 @@ pub add-process-refusal-spec : {M : Type 1} → statement M
 add-process-refusal-spec =
     tie.close
     (tie.spec
-    sound-requires
+    (λ c κs. search needs)
     returns
-    is-id-requires
-    is-id-requires-2
+    (λ c κs. search needs)
+    (λ c κs. search needs)
     returns-2
     is-process-requires
     is-thread-requires

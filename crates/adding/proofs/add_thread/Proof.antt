@@ -6,21 +6,6 @@ use borrow.Author.Needs.{needs}
 use Rattle.adding.proofs.add_thread.Statement.{statement}
 use Rattle.adding.proofs.add_thread.Tie as tie
 
-add-thread-refusal-requires : tie.Need-add-thread-refusal-requires
-add-thread-refusal-requires c κs = search needs
-
-same-length : tie.Need-same-length
-same-length c = search needs
-
-same-length-2 : tie.Need-same-length-2
-same-length-2 c = search needs
-
-same-length-3 : tie.Need-same-length-3
-same-length-3 c = search needs
-
-same-length-4 : tie.Need-same-length-4
-same-length-4 c = search needs
-
 returns : tie.Need-returns
 returns c =
     let r = c .before in
@@ -52,18 +37,6 @@ new-thread-requires c κs =
     thread-room (a .args .ps .now) (a .args .ts .now) (a .args .tb .now) (a .args .pb .now)
     (a .args .creator) (a .args .id) (r .add-thread-refusal .result) (r .add-thread-refusal .ensures) (i .if1 .left)
 
-same-length-5 : tie.Need-same-length-5
-same-length-5 c = search needs
-
-same-length-6 : tie.Need-same-length-6
-same-length-6 c = search needs
-
-same-length-7 : tie.Need-same-length-7
-same-length-7 c = search needs
-
-same-length-8 : tie.Need-same-length-8
-same-length-8 c = search needs
-
 returns-2 : tie.Need-returns-2
 returns-2 c =
     let t = c .before .before in
@@ -83,17 +56,17 @@ pub add-thread-spec : {M : Type 1} → statement M
 add-thread-spec =
     tie.close
     (tie.spec
-    add-thread-refusal-requires
-    same-length
-    same-length-2
-    same-length-3
-    same-length-4
+    (λ c κs. search needs)
+    (λ c. search needs)
+    (λ c. search needs)
+    (λ c. search needs)
+    (λ c. search needs)
     returns
     process-of-requires
     mask-of-requires
     new-thread-requires
-    same-length-5
-    same-length-6
-    same-length-7
-    same-length-8
+    (λ c. search needs)
+    (λ c. search needs)
+    (λ c. search needs)
+    (λ c. search needs)
     returns-2)

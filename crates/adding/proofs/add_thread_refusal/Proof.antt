@@ -7,17 +7,11 @@ use borrow.Author.Needs.{needs}
 use Rattle.adding.proofs.add_thread_refusal.Statement.{statement}
 use Rattle.adding.proofs.add_thread_refusal.Tie as tie
 
-sound-requires : tie.Need-sound-requires
-sound-requires c κs = search needs
-
 returns : tie.Need-returns
 returns c =
     let s = c .before in
     let a = s .before .before .before .before .before in
     thread-fault (a .args .ps .now) (a .args .ts .now) (a .args .tb .now) (a .args .pb .now) (a .args .creator) (a .args .id) (s .sound .result) (s .sound .ensures) (c .if1 .taken)
-
-is-id-requires : tie.Need-is-id-requires
-is-id-requires c κs = search needs
 
 returns-2 : tie.Need-returns-2
 returns-2 c =
@@ -104,9 +98,9 @@ pub add-thread-refusal-spec : {M : Type 1} → statement M
 add-thread-refusal-spec =
     tie.close
     (tie.spec
-    sound-requires
+    (λ c κs. search needs)
     returns
-    is-id-requires
+    (λ c κs. search needs)
     returns-2
     is-thread-requires
     returns-3

@@ -10,12 +10,6 @@ use Rattle.boundary.proofs.Numbers.{at-number, call-bounds, past}
 use Rattle.boundary.proofs.call_of.Statement.{statement}
 use Rattle.boundary.proofs.call_of.Tie as tie
 
-given-action-requires : tie.Need-given-action-requires
-given-action-requires c κs = search needs
-
-given-set-requires : tie.Need-given-set-requires
-given-set-requires c κs = search needs
-
 returns : tie.Need-returns
 unfolding callOf numbered callsOf
 returns c =
@@ -106,8 +100,8 @@ pub call-of-spec : {M : Type 1} → statement M
 call-of-spec =
     tie.close
     (tie.spec
-    given-action-requires
-    given-set-requires
+    (λ c κs. search needs)
+    (λ c κs. search needs)
     returns
     returns-2
     returns-3

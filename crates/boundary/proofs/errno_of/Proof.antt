@@ -7,9 +7,6 @@ use Rattle.boundary.proofs.Words.{errno-case, not-refused}
 use Rattle.boundary.proofs.errno_of.Statement.{statement}
 use Rattle.boundary.proofs.errno_of.Tie as tie
 
-enum-known-answer : tie.Need-enum-known-answer
-enum-known-answer c = search needs
-
 returns : tie.Need-returns
 unfolding errnoOf answerOf
 returns c =
@@ -20,4 +17,4 @@ returns-2 : tie.Need-returns-2
 returns-2 c = not-refused (c .before .args .answer) (c .match .keys2)
 
 pub errno-of-spec : {M : Type 1} → statement M
-errno-of-spec = tie.close (tie.spec enum-known-answer returns returns-2)
+errno-of-spec = tie.close (tie.spec (λ c. search needs) returns returns-2)

@@ -5,16 +5,10 @@ use Rattle.boundary.proofs.Served.{usable-clear, usable-other}
 use Rattle.boundary.proofs.is_usable.Statement.{statement}
 use Rattle.boundary.proofs.is_usable.Tie as tie
 
-lengths-are-requires : tie.Need-lengths-are-requires
-lengths-are-requires c κs = search needs
-
 returns : tie.Need-returns
 returns c =
     let a = c .before .before .before .before .before .before in
     usable-clear (a .args .number) (lent (a .args .ps .now) (a .args .ts .now) (a .args .tb .now) (a .args .pb .now)) (c .before .if1 .taken) (c .lengths-are .result) (c .lengths-are .ensures)
-
-sound-requires : tie.Need-sound-requires
-sound-requires c κs = search needs
 
 returns-2 : tie.Need-returns-2
 returns-2 c =
@@ -22,4 +16,4 @@ returns-2 c =
     usable-other (a .args .number) (lent (a .args .ps .now) (a .args .ts .now) (a .args .tb .now) (a .args .pb .now)) (c .before .if1 .left) (c .sound .result) (c .sound .ensures)
 
 pub is-usable-spec : {M : Type 1} → statement M
-is-usable-spec = tie.close (tie.spec lengths-are-requires returns sound-requires returns-2)
+is-usable-spec = tie.close (tie.spec (λ c κs. search needs) returns (λ c κs. search needs) returns-2)

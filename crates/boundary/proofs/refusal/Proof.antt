@@ -6,9 +6,6 @@ use Rattle.lists.proofs.Bools.{cond-true, cond-false}
 use Rattle.boundary.proofs.refusal.Statement.{statement}
 use Rattle.boundary.proofs.refusal.Tie as tie
 
-is-usable-requires : tie.Need-is-usable-requires
-is-usable-requires c κs = search needs
-
 returns : tie.Need-returns
 returns c = sym (cond-true EINVAL EFAULT (sym (c .before .is-usable .ensures) ∙ c .if1 .taken))
 
@@ -16,4 +13,4 @@ returns-2 : tie.Need-returns-2
 returns-2 c = sym (cond-false EINVAL EFAULT (sym (c .before .is-usable .ensures) ∙ c .if1 .left))
 
 pub refusal-spec : {M : Type 1} → statement M
-refusal-spec = tie.close (tie.spec is-usable-requires returns returns-2)
+refusal-spec = tie.close (tie.spec (λ c κs. search needs) returns returns-2)

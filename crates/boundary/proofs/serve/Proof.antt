@@ -11,27 +11,6 @@ use Rattle.boundary.proofs.Served.{accepted-call, accepted-room, turned
 use Rattle.boundary.proofs.serve.Statement.{statement}
 use Rattle.boundary.proofs.serve.Tie as tie
 
-is-accepted-requires : tie.Need-is-accepted-requires
-is-accepted-requires c κs = search needs
-
-refusal-requires : tie.Need-refusal-requires
-refusal-requires c κs = search needs
-
-cast-result : tie.Need-cast-result
-cast-result c = search needs
-
-same-length : tie.Need-same-length
-same-length c = search needs
-
-same-length-2 : tie.Need-same-length-2
-same-length-2 c = search needs
-
-same-length-3 : tie.Need-same-length-3
-same-length-3 c = search needs
-
-same-length-4 : tie.Need-same-length-4
-same-length-4 c = search needs
-
 returns : tie.Need-returns
 returns c =
     let a = c .before .before .before .before .before .before .before .before .before .before .before .before in
@@ -43,27 +22,6 @@ call-of-requires c κs =
     let a = c .before .before .before .before .before .before .before .before .before .before .before in
     accepted-call (a .args .number) (length (a .args .out .now)) (sym (c .before .before .before .before .before .is-accepted .ensures) ∙ not-false _ (c .before .before .before .before .if1 .left))
 
-step-requires : tie.Need-step-requires
-step-requires c κs = search needs
-
-errno-of-requires : tie.Need-errno-of-requires
-errno-of-requires c κs = search needs
-
-cast-result-2 : tie.Need-cast-result-2
-cast-result-2 c = search needs
-
-same-length-5 : tie.Need-same-length-5
-same-length-5 c = search needs
-
-same-length-6 : tie.Need-same-length-6
-same-length-6 c = search needs
-
-same-length-7 : tie.Need-same-length-7
-same-length-7 c = search needs
-
-same-length-8 : tie.Need-same-length-8
-same-length-8 c = search needs
-
 returns-2 : tie.Need-returns-2
 returns-2 c =
     let s = c .before .before .before .before .before .before .before .before .before .before in
@@ -73,29 +31,11 @@ returns-2 c =
     (lent (s .step .last .0) (s .step .last .1 .0) (s .step .last .1 .1 .0) (s .step .last .1 .1 .1 .0)) (s .step .ensures .0) (s .step .ensures .1)
     (c .before .errno-of .result) (c .before .errno-of .ensures) (c .if2 .taken)
 
-words-of-requires : tie.Need-words-of-requires
-words-of-requires c κs = search needs
-
 write-requires : tie.Need-write-requires
 write-requires c κs =
     let s = c .before .before .before .before .before .before .before .before .before .before .before .before in
     let a = s .before .before .before .before .before .before .before .before .before .before .before .before .before in
     accepted-room (a .args .number) (length (a .args .out .now)) (sym (s .before .before .before .before .before .before .before .is-accepted .ensures) ∙ not-false _ (s .before .before .before .before .before .before .if1 .left))
-
-same-length-9 : tie.Need-same-length-9
-same-length-9 c = search needs
-
-same-length-10 : tie.Need-same-length-10
-same-length-10 c = search needs
-
-same-length-11 : tie.Need-same-length-11
-same-length-11 c = search needs
-
-same-length-12 : tie.Need-same-length-12
-same-length-12 c = search needs
-
-same-length-13 : tie.Need-same-length-13
-same-length-13 c = search needs
 
 returns-3 : tie.Need-returns-3
 returns-3 c =
@@ -110,28 +50,28 @@ pub serve-spec : {M : Type 1} → statement M
 serve-spec =
     tie.close
     (tie.spec
-    is-accepted-requires
-    refusal-requires
-    cast-result
-    same-length
-    same-length-2
-    same-length-3
-    same-length-4
+    (λ c κs. search needs)
+    (λ c κs. search needs)
+    (λ c. search needs)
+    (λ c. search needs)
+    (λ c. search needs)
+    (λ c. search needs)
+    (λ c. search needs)
     returns
     call-of-requires
-    step-requires
-    errno-of-requires
-    cast-result-2
-    same-length-5
-    same-length-6
-    same-length-7
-    same-length-8
+    (λ c κs. search needs)
+    (λ c κs. search needs)
+    (λ c. search needs)
+    (λ c. search needs)
+    (λ c. search needs)
+    (λ c. search needs)
+    (λ c. search needs)
     returns-2
-    words-of-requires
+    (λ c κs. search needs)
     write-requires
-    same-length-9
-    same-length-10
-    same-length-11
-    same-length-12
-    same-length-13
+    (λ c. search needs)
+    (λ c. search needs)
+    (λ c. search needs)
+    (λ c. search needs)
+    (λ c. search needs)
     returns-3)

@@ -8,129 +8,6 @@ use Rattle.boundary.proofs.Words.{words-case}
 use Rattle.boundary.proofs.words_of.Statement.{statement}
 use Rattle.boundary.proofs.words_of.Tie as tie
 
-enum-told : tie.Need-enum-told
-enum-told c = search needs
-
-enum-told-2 : tie.Need-enum-told-2
-enum-told-2 c = search needs
-
-short-requires : tie.Need-short-requires
-short-requires c κs = search needs
-
-enum-told-3 : tie.Need-enum-told-3
-enum-told-3 c = search needs
-
-short-requires-2 : tie.Need-short-requires-2
-short-requires-2 c κs = search needs
-
-enum-told-4 : tie.Need-enum-told-4
-enum-told-4 c = search needs
-
-short-requires-3 : tie.Need-short-requires-3
-short-requires-3 c κs = search needs
-
-enum-told-5 : tie.Need-enum-told-5
-enum-told-5 c = search needs
-
-short-requires-4 : tie.Need-short-requires-4
-short-requires-4 c κs = search needs
-
-enum-told-6 : tie.Need-enum-told-6
-enum-told-6 c = search needs
-
-short-requires-5 : tie.Need-short-requires-5
-short-requires-5 c κs = search needs
-
-enum-told-7 : tie.Need-enum-told-7
-enum-told-7 c = search needs
-
-short-requires-6 : tie.Need-short-requires-6
-short-requires-6 c κs = search needs
-
-enum-told-8 : tie.Need-enum-told-8
-enum-told-8 c = search needs
-
-short-requires-7 : tie.Need-short-requires-7
-short-requires-7 c κs = search needs
-
-enum-known-answer : tie.Need-enum-known-answer
-enum-known-answer c = search needs
-
-short-requires-8 : tie.Need-short-requires-8
-short-requires-8 c κs = search needs
-
-enum-known-answer-2 : tie.Need-enum-known-answer-2
-enum-known-answer-2 c = search needs
-
-short-requires-9 : tie.Need-short-requires-9
-short-requires-9 c κs = search needs
-
-enum-known-answer-3 : tie.Need-enum-known-answer-3
-enum-known-answer-3 c = search needs
-
-short-requires-10 : tie.Need-short-requires-10
-short-requires-10 c κs = search needs
-
-enum-known-answer-4 : tie.Need-enum-known-answer-4
-enum-known-answer-4 c = search needs
-
-next-words-requires : tie.Need-next-words-requires
-next-words-requires c κs = search needs
-
-enum-known-answer-5 : tie.Need-enum-known-answer-5
-enum-known-answer-5 c = search needs
-
-cast-short : tie.Need-cast-short
-cast-short c = search needs
-
-short-requires-11 : tie.Need-short-requires-11
-short-requires-11 c κs = search needs
-
-enum-told-9 : tie.Need-enum-told-9
-enum-told-9 c = search needs
-
-short-requires-12 : tie.Need-short-requires-12
-short-requires-12 c κs = search needs
-
-enum-told-10 : tie.Need-enum-told-10
-enum-told-10 c = search needs
-
-short-requires-13 : tie.Need-short-requires-13
-short-requires-13 c κs = search needs
-
-enum-known-answer-6 : tie.Need-enum-known-answer-6
-enum-known-answer-6 c = search needs
-
-handler-words-requires : tie.Need-handler-words-requires
-handler-words-requires c κs = search needs
-
-enum-known-answer-7 : tie.Need-enum-known-answer-7
-enum-known-answer-7 c = search needs
-
-cast-short-2 : tie.Need-cast-short-2
-cast-short-2 c = search needs
-
-short-requires-14 : tie.Need-short-requires-14
-short-requires-14 c κs = search needs
-
-enum-known-answer-8 : tie.Need-enum-known-answer-8
-enum-known-answer-8 c = search needs
-
-cast-short-3 : tie.Need-cast-short-3
-cast-short-3 c = search needs
-
-short-requires-15 : tie.Need-short-requires-15
-short-requires-15 c κs = search needs
-
-enum-known-answer-9 : tie.Need-enum-known-answer-9
-enum-known-answer-9 c = search needs
-
-cast-short-4 : tie.Need-cast-short-4
-cast-short-4 c = search needs
-
-short-requires-16 : tie.Need-short-requires-16
-short-requires-16 c κs = search needs
-
 returns : tie.Need-returns
 unfolding padded answerOf wordsOf
 returns c = words-case (c .before .before .args .answer) _ (c .enum-told .given .1) _ refl
@@ -211,47 +88,47 @@ pub words-of-spec : {M : Type 1} → statement M
 words-of-spec =
     tie.close
     (tie.spec
-    enum-told
-    enum-told-2
-    short-requires
-    enum-told-3
-    short-requires-2
-    enum-told-4
-    short-requires-3
-    enum-told-5
-    short-requires-4
-    enum-told-6
-    short-requires-5
-    enum-told-7
-    short-requires-6
-    enum-told-8
-    short-requires-7
-    enum-known-answer
-    short-requires-8
-    enum-known-answer-2
-    short-requires-9
-    enum-known-answer-3
-    short-requires-10
-    enum-known-answer-4
-    next-words-requires
-    enum-known-answer-5
-    cast-short
-    short-requires-11
-    enum-told-9
-    short-requires-12
-    enum-told-10
-    short-requires-13
-    enum-known-answer-6
-    handler-words-requires
-    enum-known-answer-7
-    cast-short-2
-    short-requires-14
-    enum-known-answer-8
-    cast-short-3
-    short-requires-15
-    enum-known-answer-9
-    cast-short-4
-    short-requires-16
+    (λ c. search needs)
+    (λ c. search needs)
+    (λ c κs. search needs)
+    (λ c. search needs)
+    (λ c κs. search needs)
+    (λ c. search needs)
+    (λ c κs. search needs)
+    (λ c. search needs)
+    (λ c κs. search needs)
+    (λ c. search needs)
+    (λ c κs. search needs)
+    (λ c. search needs)
+    (λ c κs. search needs)
+    (λ c. search needs)
+    (λ c κs. search needs)
+    (λ c. search needs)
+    (λ c κs. search needs)
+    (λ c. search needs)
+    (λ c κs. search needs)
+    (λ c. search needs)
+    (λ c κs. search needs)
+    (λ c. search needs)
+    (λ c κs. search needs)
+    (λ c. search needs)
+    (λ c. search needs)
+    (λ c κs. search needs)
+    (λ c. search needs)
+    (λ c κs. search needs)
+    (λ c. search needs)
+    (λ c κs. search needs)
+    (λ c. search needs)
+    (λ c κs. search needs)
+    (λ c. search needs)
+    (λ c. search needs)
+    (λ c κs. search needs)
+    (λ c. search needs)
+    (λ c. search needs)
+    (λ c κs. search needs)
+    (λ c. search needs)
+    (λ c. search needs)
+    (λ c κs. search needs)
     returns
     returns-2
     returns-3

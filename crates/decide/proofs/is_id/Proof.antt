@@ -4,12 +4,9 @@ use Rattle.rules.specs.Sound.{goodId}
 use Rattle.decide.proofs.is_id.Statement.{statement}
 use Rattle.decide.proofs.is_id.Tie as tie
 
-cast-result : tie.Need-cast-result
-cast-result c = search needs
-
 returns : tie.Need-returns
 unfolding goodId
 returns c = refl
 
 pub is-id-spec : {M : Type 1} → statement M
-is-id-spec = tie.close (tie.spec cast-result returns)
+is-id-spec = tie.close (tie.spec (λ c. search needs) returns)

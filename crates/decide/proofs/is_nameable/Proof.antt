@@ -3,12 +3,9 @@ use Rattle.rules.specs.Sound.{nameable}
 use Rattle.decide.proofs.is_nameable.Statement.{statement}
 use Rattle.decide.proofs.is_nameable.Tie as tie
 
-is-signal-requires : tie.Need-is-signal-requires
-is-signal-requires c κs = search needs
-
 returns : tie.Need-returns
 unfolding nameable
 returns c = rw (c .is-signal .ensures)
 
 pub is-nameable-spec : {M : Type 1} → statement M
-is-nameable-spec = tie.close (tie.spec is-signal-requires returns)
+is-nameable-spec = tie.close (tie.spec (λ c κs. search needs) returns)

@@ -27,9 +27,6 @@ append-requires-2 c κs =
     let pb = a .args .pb .now in
     (thread-buffer-laid ps ts tb pb (a .pre .0), append-room ps ts tb pb (a .pre .0) (a .args .r) (a .pre .1) .0)
 
-same-length : tie.Need-same-length
-same-length c = search needs
-
 returns : tie.Need-returns
 returns c =
     let w = c .before .before in
@@ -43,9 +40,6 @@ returns c =
     let pb′ = w .append .last .0 in
     after (append r) ps ts tb pb ps ts tb pb′ (a .pre .0) (a .pre .1) refl refl refl (search needs)
     (append-process ps ts tb pb r (eq-eqb (r .thread) 0 (i .if1 .taken)) pb′ (w .append .ensures))
-
-same-length-2 : tie.Need-same-length-2
-same-length-2 c = search needs
 
 returns-2 : tie.Need-returns-2
 returns-2 c =
@@ -62,4 +56,4 @@ returns-2 c =
     (append-thread ps ts tb pb r (ne-eqb (r .thread) 0 (i .if1 .left)) tb′ (w .append2 .ensures))
 
 pub append-spec : {M : Type 1} → statement M
-append-spec = tie.close (tie.spec append-requires append-requires-2 same-length returns same-length-2 returns-2)
+append-spec = tie.close (tie.spec append-requires append-requires-2 (λ c. search needs) returns (λ c. search needs) returns-2)

@@ -13,9 +13,6 @@ use Rattle.effects.proofs.Queues.{clear-process, clear-thread}
 use Rattle.effects.proofs.clear_mark.Statement.{statement}
 use Rattle.effects.proofs.clear_mark.Tie as tie
 
-of-signal-requires : tie.Need-of-signal-requires
-of-signal-requires c κs = search needs
-
 remark-process-requires : tie.Need-remark-process-requires
 remark-process-requires c κs =
     let a = c .before .before .before .before .before .before .before in
@@ -42,9 +39,6 @@ remark-thread-requires c κs =
       thread-listed ps ts tb pb t (target-thread v n t (queue-target v n t (unmark-queue v (targetQueue n t) (a .args .signal) (a .pre .1))) (ne-eqb t 0 (c .before .if1 .left))),
     )
 
-same-length : tie.Need-same-length
-same-length c = search needs
-
 returns : tie.Need-returns
 returns c =
     let w = c .before .before in
@@ -61,9 +55,6 @@ returns c =
     let ps′ = w .remark-process .last .0 in
     after (clearMark (targetQueue n t) s) ps ts tb pb ps′ ts tb pb (a .pre .0) (a .pre .1) (search needs) refl refl refl
     (clear-process ps ts tb pb (a .pre .0) n t s (o .of-signal .result) (o .of-signal .ensures) (a .pre .1) (i .if1 .taken) ps′ (w .remark-process .ensures))
-
-same-length-2 : tie.Need-same-length-2
-same-length-2 c = search needs
 
 returns-2 : tie.Need-returns-2
 returns-2 c =
@@ -86,10 +77,10 @@ pub clear-mark-spec : {M : Type 1} → statement M
 clear-mark-spec =
     tie.close
     (tie.spec
-    of-signal-requires
+    (λ c κs. search needs)
     remark-process-requires
     remark-thread-requires
-    same-length
+    (λ c. search needs)
     returns
-    same-length-2
+    (λ c. search needs)
     returns-2)

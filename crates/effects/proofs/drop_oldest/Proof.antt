@@ -47,9 +47,6 @@ remove-requires-2 c κs =
       oldest-thread ps ts tb pb q (a .args .signal) (d .first-of2 .result) (a .pre .1) (ne-eqb (a .args .thread) 0 (i .if1 .left)) (d .first-of2 .ensures),
     )
 
-same-length : tie.Need-same-length
-same-length c = search needs
-
 returns : tie.Need-returns
 returns c =
     let w = c .before .before in
@@ -65,9 +62,6 @@ returns c =
     let pb′ = w .remove .last .0 in
     after (dropOldest q s) ps ts tb pb ps ts tb pb′ (a .pre .0) (a .pre .1) refl refl refl (search needs)
     (drop-process ps ts tb pb q s (d .first-of .result) (eq-eqb (a .args .thread) 0 (i .if1 .taken)) (d .first-of .ensures) pb′ (w .remove .ensures))
-
-same-length-2 : tie.Need-same-length-2
-same-length-2 c = search needs
 
 returns-2 : tie.Need-returns-2
 returns-2 c =
@@ -93,7 +87,7 @@ drop-oldest-spec =
     remove-requires
     first-of-requires-2
     remove-requires-2
-    same-length
+    (λ c. search needs)
     returns
-    same-length-2
+    (λ c. search needs)
     returns-2)

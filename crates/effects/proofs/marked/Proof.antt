@@ -5,18 +5,6 @@ use Rattle.effects.specs.Effects.{markedBy}
 use Rattle.effects.proofs.marked.Statement.{statement}
 use Rattle.effects.proofs.marked.Tie as tie
 
-enum-known-how : tie.Need-enum-known-how
-enum-known-how c = search needs
-
-union-requires : tie.Need-union-requires
-union-requires c κs = search needs
-
-enum-known-how-2 : tie.Need-enum-known-how-2
-enum-known-how-2 c = search needs
-
-without-requires : tie.Need-without-requires
-without-requires c κs = search needs
-
 returns : tie.Need-returns
 unfolding markedBy
 returns c =
@@ -30,4 +18,4 @@ returns-2 c =
     c .without .ensures ∙ ap (λ h. markedBy h (a .args .m)) (sym (c .before .before .how2 .given .1))
 
 pub marked-spec : {M : Type 1} → statement M
-marked-spec = tie.close (tie.spec enum-known-how union-requires enum-known-how-2 without-requires returns returns-2)
+marked-spec = tie.close (tie.spec (λ c. search needs) (λ c κs. search needs) (λ c. search needs) (λ c κs. search needs) returns returns-2)

@@ -13,9 +13,6 @@ use Rattle.effects.proofs.Places.{filled-place}
 use Rattle.effects.proofs.new_process.Statement.{statement}
 use Rattle.effects.proofs.new_process.Tie as tie
 
-free-process-requires : tie.Need-free-process-requires
-free-process-requires c κs = search needs
-
 fill-process-requires : tie.Need-fill-process-requires
 fill-process-requires c κs =
     let d = c .before in
@@ -23,9 +20,6 @@ fill-process-requires c κs =
     let ps = a .args .ps .now in
     let h = any-inside isFreeProcess (heldProcesses ps) processPlaces (length-heldProcesses ps) (a .pre .1) in
     (a .pre .0, omega (arith, d .free-process .ensures))
-
-same-length : tie.Need-same-length
-same-length c = search needs
 
 returns : tie.Need-returns
 returns c =
@@ -37,4 +31,4 @@ returns c =
     w .fill-process .ensures ∙ ap (λ i. set (processesOf ps) i new) (d .free-process .ensures) ∙ filled-place isFreeProcess new (processesOf ps)
 
 pub new-process-spec : {M : Type 1} → statement M
-new-process-spec = tie.close (tie.spec free-process-requires fill-process-requires same-length returns)
+new-process-spec = tie.close (tie.spec (λ c κs. search needs) fill-process-requires (λ c. search needs) returns)

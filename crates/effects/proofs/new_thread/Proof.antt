@@ -13,9 +13,6 @@ use Rattle.effects.proofs.Places.{filled-place}
 use Rattle.effects.proofs.new_thread.Statement.{statement}
 use Rattle.effects.proofs.new_thread.Tie as tie
 
-free-thread-requires : tie.Need-free-thread-requires
-free-thread-requires c κs = search needs
-
 fill-thread-requires : tie.Need-fill-thread-requires
 fill-thread-requires c κs =
     let d = c .before in
@@ -23,9 +20,6 @@ fill-thread-requires c κs =
     let ts = a .args .ts .now in
     let h = any-inside isFreeThread (heldThreads ts) threadPlaces (length-heldThreads ts) (a .pre .1) in
     (a .pre .0, omega (arith, d .free-thread .ensures))
-
-same-length : tie.Need-same-length
-same-length c = search needs
 
 returns : tie.Need-returns
 returns c =
@@ -37,4 +31,4 @@ returns c =
     w .fill-thread .ensures ∙ ap (λ i. set (threadsOf ts) i new) (d .free-thread .ensures) ∙ filled-place isFreeThread new (threadsOf ts)
 
 pub new-thread-spec : {M : Type 1} → statement M
-new-thread-spec = tie.close (tie.spec free-thread-requires fill-thread-requires same-length returns)
+new-thread-spec = tie.close (tie.spec (λ c κs. search needs) fill-thread-requires (λ c. search needs) returns)

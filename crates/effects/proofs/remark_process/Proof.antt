@@ -10,9 +10,6 @@ use Rattle.effects.proofs.Marks.{process-remarked}
 use Rattle.effects.proofs.remark_process.Statement.{statement}
 use Rattle.effects.proofs.remark_process.Tie as tie
 
-find-process-requires : tie.Need-find-process-requires
-find-process-requires c κs = search needs
-
 field-at-requires : tie.Need-field-at-requires
 field-at-requires c κs =
     let d = c .before in
@@ -21,9 +18,6 @@ field-at-requires c κs =
     let h = any-inside (isProcess (a .args .process)) (heldProcesses ps) processPlaces (length-heldProcesses ps) (a .pre .1) in
     (a .pre .0, (omega (arith, d .find-process .ensures), omega arith))
 
-marked-requires : tie.Need-marked-requires
-marked-requires c κs = search needs
-
 put-field-requires : tie.Need-put-field-requires
 put-field-requires c κs =
     let d = c .before .before .before .before in
@@ -31,9 +25,6 @@ put-field-requires c κs =
     let ps = a .args .ps .now in
     let h = any-inside (isProcess (a .args .process)) (heldProcesses ps) processPlaces (length-heldProcesses ps) (a .pre .1) in
     (a .pre .0, (omega (arith, d .find-process .ensures), omega arith))
-
-same-length : tie.Need-same-length
-same-length c = search needs
 
 returns : tie.Need-returns
 returns c =
@@ -46,4 +37,4 @@ returns c =
     (d .find-process .result) (d .find-process .ensures) (r .field-at .ensures) (w .put-field .ensures)
 
 pub remark-process-spec : {M : Type 1} → statement M
-remark-process-spec = tie.close (tie.spec find-process-requires field-at-requires marked-requires put-field-requires same-length returns)
+remark-process-spec = tie.close (tie.spec (λ c κs. search needs) field-at-requires (λ c κs. search needs) put-field-requires (λ c. search needs) returns)

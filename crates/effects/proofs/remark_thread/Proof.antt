@@ -10,9 +10,6 @@ use Rattle.effects.proofs.Marks.{thread-remarked}
 use Rattle.effects.proofs.remark_thread.Statement.{statement}
 use Rattle.effects.proofs.remark_thread.Tie as tie
 
-find-thread-requires : tie.Need-find-thread-requires
-find-thread-requires c κs = search needs
-
 thread-field-at-requires : tie.Need-thread-field-at-requires
 thread-field-at-requires c κs =
     let d = c .before in
@@ -21,9 +18,6 @@ thread-field-at-requires c κs =
     let h = any-inside (isThread (a .args .thread)) (heldThreads ts) threadPlaces (length-heldThreads ts) (a .pre .1) in
     (a .pre .0, (omega (arith, d .find-thread .ensures), omega arith))
 
-marked-requires : tie.Need-marked-requires
-marked-requires c κs = search needs
-
 put-thread-field-requires : tie.Need-put-thread-field-requires
 put-thread-field-requires c κs =
     let d = c .before .before .before .before in
@@ -31,9 +25,6 @@ put-thread-field-requires c κs =
     let ts = a .args .ts .now in
     let h = any-inside (isThread (a .args .thread)) (heldThreads ts) threadPlaces (length-heldThreads ts) (a .pre .1) in
     (a .pre .0, (omega (arith, d .find-thread .ensures), omega arith))
-
-same-length : tie.Need-same-length
-same-length c = search needs
 
 returns : tie.Need-returns
 returns c =
@@ -46,4 +37,4 @@ returns c =
     (d .find-thread .result) (d .find-thread .ensures) (r .thread-field-at .ensures) (w .put-thread-field .ensures)
 
 pub remark-thread-spec : {M : Type 1} → statement M
-remark-thread-spec = tie.close (tie.spec find-thread-requires thread-field-at-requires marked-requires put-thread-field-requires same-length returns)
+remark-thread-spec = tie.close (tie.spec (λ c κs. search needs) thread-field-at-requires (λ c κs. search needs) put-thread-field-requires (λ c. search needs) returns)

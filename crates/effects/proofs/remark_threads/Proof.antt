@@ -21,24 +21,6 @@ abbrev μ-loop : tie.MeasureT-loop
 loop-holds : tie.Need-loop-holds Inv-loop μ-loop
 loop-holds c = let a = c .before in passing-start (remarkedOf (a .args .process) (a .args .how)) (a .args .ts .now) (a .pre)
 
-thread-field-at-requires : tie.Need-thread-field-at-requires Inv-loop μ-loop
-thread-field-at-requires c κs = search needs
-
-thread-field-at-requires-2 : tie.Need-thread-field-at-requires-2 Inv-loop μ-loop
-thread-field-at-requires-2 c κs = search needs
-
-marked-requires : tie.Need-marked-requires Inv-loop μ-loop
-marked-requires c κs = search needs
-
-put-thread-field-requires : tie.Need-put-thread-field-requires Inv-loop μ-loop
-put-thread-field-requires c κs = search needs
-
-add-i : tie.Need-add-i Inv-loop μ-loop
-add-i c = search needs
-
-loop-less : tie.Need-loop-less Inv-loop μ-loop
-loop-less c = search needs
-
 loop-again : tie.Need-loop-again Inv-loop μ-loop
 loop-again c =
     let r = c .before in
@@ -59,9 +41,6 @@ loop-again c =
     (λ w. passing-skip (remarkedOf p how) ts₀ ts i (l .loop .inv) h (c .if1 .ts) (remarked-not p (r .thread-field-at .result) x (r .thread-field-at .ensures) how (w .0 .left)) (w .1))
     (c .if1 .came)
 
-same-length : tie.Need-same-length Inv-loop μ-loop
-same-length c = search needs
-
 returns : tie.Need-returns Inv-loop μ-loop
 returns c =
     let l = c .before in
@@ -75,12 +54,12 @@ remark-threads-spec =
     Inv-loop
     μ-loop
     loop-holds
-    thread-field-at-requires
-    thread-field-at-requires-2
-    marked-requires
-    put-thread-field-requires
-    add-i
-    loop-less
+    (λ c κs. search needs)
+    (λ c κs. search needs)
+    (λ c κs. search needs)
+    (λ c κs. search needs)
+    (λ c. search needs)
+    (λ c. search needs)
     loop-again
-    same-length
+    (λ c. search needs)
     returns)

@@ -31,9 +31,6 @@ put-action-requires c κs =
     let signal = action-signal v n (a .args .signal) (a .args .a) (a .pre .1) in
     (processes-long ps ts tb pb (a .pre .0), (process-inside ps ts tb pb n (d .find-process .result) live (d .find-process .ensures), (signal .low, signal .high)))
 
-same-length : tie.Need-same-length
-same-length c = search needs
-
 returns : tie.Need-returns
 returns c =
     let w = c .before .before in
@@ -51,4 +48,4 @@ returns c =
     (action-store ps ts tb pb (a .pre .0) n (d .find-process .result) live (d .find-process .ensures) ps′ s (a .args .a) (w .put-action .ensures))
 
 pub set-action-spec : {M : Type 1} → statement M
-set-action-spec = tie.close (tie.spec find-process-requires put-action-requires same-length returns)
+set-action-spec = tie.close (tie.spec find-process-requires put-action-requires (λ c. search needs) returns)

@@ -30,9 +30,6 @@ put-thread-field-requires c κs =
     let live = mask-live (view (storeOf ps ts tb pb)) n (a .args .mask) (a .pre .1) in
     (threads-long ps ts tb pb (a .pre .0), (thread-inside ps ts tb pb n (d .find-thread .result) live (d .find-thread .ensures), omega arith))
 
-same-length : tie.Need-same-length
-same-length c = search needs
-
 returns : tie.Need-returns
 returns c =
     let w = c .before .before in
@@ -50,4 +47,4 @@ returns c =
     (mask-store ps ts tb pb (a .pre .0) n (d .find-thread .result) live (d .find-thread .ensures) ts′ m (w .put-thread-field .ensures))
 
 pub set-mask-spec : {M : Type 1} → statement M
-set-mask-spec = tie.close (tie.spec find-thread-requires put-thread-field-requires same-length returns)
+set-mask-spec = tie.close (tie.spec find-thread-requires put-thread-field-requires (λ c. search needs) returns)

@@ -30,9 +30,6 @@ put-field-requires c κs =
     let live = stopped-live (view (storeOf ps ts tb pb)) n (a .args .stopped) (a .pre .1) in
     (processes-long ps ts tb pb (a .pre .0), (process-inside ps ts tb pb n (d .find-process .result) live (d .find-process .ensures), omega arith))
 
-same-length : tie.Need-same-length
-same-length c = search needs
-
 returns : tie.Need-returns
 returns c =
     let w = c .before .before in
@@ -50,4 +47,4 @@ returns c =
     (stopped-store ps ts tb pb (a .pre .0) n (d .find-process .result) live (d .find-process .ensures) ps′ b (w .put-field .ensures))
 
 pub set-stopped-spec : {M : Type 1} → statement M
-set-stopped-spec = tie.close (tie.spec find-process-requires put-field-requires same-length returns)
+set-stopped-spec = tie.close (tie.spec find-process-requires put-field-requires (λ c. search needs) returns)

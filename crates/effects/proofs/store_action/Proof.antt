@@ -6,12 +6,6 @@ use Rattle.effects.proofs.Stores.{heard-fits, heard-made, discard-fits,
 use Rattle.effects.proofs.store_action.Statement.{statement}
 use Rattle.effects.proofs.store_action.Tie as tie
 
-is-ignored-requires : tie.Need-is-ignored-requires
-is-ignored-requires c κs = search needs
-
-of-signal-requires : tie.Need-of-signal-requires
-of-signal-requires c κs = search needs
-
 discard-requires : tie.Need-discard-requires
 discard-requires c κs =
     let a = c .before .before .before .before .before .before .before .before .before .before .before in
@@ -55,18 +49,6 @@ set-action-requires-2 c κs =
     let i = sym (c .before .before .before .before .before .is-ignored .ensures) ∙ c .before .before .before .before .if1 .left in
     (a .pre .0, heard-fits p s (a .args .a) st (a .pre .1) i)
 
-same-length : tie.Need-same-length
-same-length c = search needs
-
-same-length-2 : tie.Need-same-length-2
-same-length-2 c = search needs
-
-same-length-3 : tie.Need-same-length-3
-same-length-3 c = search needs
-
-same-length-4 : tie.Need-same-length-4
-same-length-4 c = search needs
-
 returns : tie.Need-returns
 returns c =
     let w = c .before .before in
@@ -89,18 +71,6 @@ returns c =
       w .set-action .ensures .1,
     )
 
-same-length-5 : tie.Need-same-length-5
-same-length-5 c = search needs
-
-same-length-6 : tie.Need-same-length-6
-same-length-6 c = search needs
-
-same-length-7 : tie.Need-same-length-7
-same-length-7 c = search needs
-
-same-length-8 : tie.Need-same-length-8
-same-length-8 c = search needs
-
 returns-2 : tie.Need-returns-2
 returns-2 c =
     let w = c .before .before in
@@ -119,18 +89,18 @@ pub store-action-spec : {M : Type 1} → statement M
 store-action-spec =
     tie.close
     (tie.spec
-    is-ignored-requires
-    of-signal-requires
+    (λ c κs. search needs)
+    (λ c κs. search needs)
     discard-requires
     set-action-requires
     set-action-requires-2
-    same-length
-    same-length-2
-    same-length-3
-    same-length-4
+    (λ c. search needs)
+    (λ c. search needs)
+    (λ c. search needs)
+    (λ c. search needs)
     returns
-    same-length-5
-    same-length-6
-    same-length-7
-    same-length-8
+    (λ c. search needs)
+    (λ c. search needs)
+    (λ c. search needs)
+    (λ c. search needs)
     returns-2)

@@ -21,18 +21,6 @@ abbrev μ-loop : tie.MeasureT-loop
 loop-holds : tie.Need-loop-holds Inv-loop μ-loop
 loop-holds c = let a = c .before in passing-start (vacatedOf (a .args .process)) (a .args .ts .now) (a .pre)
 
-thread-field-at-requires : tie.Need-thread-field-at-requires Inv-loop μ-loop
-thread-field-at-requires c κs = search needs
-
-clear-thread-requires : tie.Need-clear-thread-requires Inv-loop μ-loop
-clear-thread-requires c κs = search needs
-
-add-i : tie.Need-add-i Inv-loop μ-loop
-add-i c = search needs
-
-loop-less : tie.Need-loop-less Inv-loop μ-loop
-loop-less c = search needs
-
 loop-again : tie.Need-loop-again Inv-loop μ-loop
 loop-again c =
     let r = c .before in
@@ -52,9 +40,6 @@ loop-again c =
     (λ w. passing-skip (vacatedOf p) ts₀ ts i (l .loop .inv) h (c .if1 .ts) (vacated-not p (r .thread-field-at .result) x (r .thread-field-at .ensures) (w .0 .left)) (w .1))
     (c .if1 .came)
 
-same-length : tie.Need-same-length Inv-loop μ-loop
-same-length c = search needs
-
 returns : tie.Need-returns Inv-loop μ-loop
 returns c =
     let l = c .before in
@@ -70,10 +55,10 @@ vacate-threads-spec =
     Inv-loop
     μ-loop
     loop-holds
-    thread-field-at-requires
-    clear-thread-requires
-    add-i
-    loop-less
+    (λ c κs. search needs)
+    (λ c κs. search needs)
+    (λ c. search needs)
+    (λ c. search needs)
     loop-again
-    same-length
+    (λ c. search needs)
     returns)

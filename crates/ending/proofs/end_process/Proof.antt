@@ -7,21 +7,6 @@ use borrow.Author.Needs.{needs}
 use Rattle.ending.proofs.end_process.Statement.{statement}
 use Rattle.ending.proofs.end_process.Tie as tie
 
-process-refusal-requires : tie.Need-process-refusal-requires
-process-refusal-requires c κs = search needs
-
-same-length : tie.Need-same-length
-same-length c = search needs
-
-same-length-2 : tie.Need-same-length-2
-same-length-2 c = search needs
-
-same-length-3 : tie.Need-same-length-3
-same-length-3 c = search needs
-
-same-length-4 : tie.Need-same-length-4
-same-length-4 c = search needs
-
 returns : tie.Need-returns
 returns c =
     let r = c .before in
@@ -36,18 +21,6 @@ remove-process-requires c κs =
     let a = r .before .before .before .before .before .before .before .before .before in
     process-can-end (a .args .ps .now) (a .args .ts .now) (a .args .tb .now) (a .args .pb .now)
     (a .args .id) (r .process-refusal .result) (r .process-refusal .ensures) (i .if1 .left)
-
-same-length-5 : tie.Need-same-length-5
-same-length-5 c = search needs
-
-same-length-6 : tie.Need-same-length-6
-same-length-6 c = search needs
-
-same-length-7 : tie.Need-same-length-7
-same-length-7 c = search needs
-
-same-length-8 : tie.Need-same-length-8
-same-length-8 c = search needs
 
 returns-2 : tie.Need-returns-2
 returns-2 c =
@@ -67,15 +40,15 @@ pub end-process-spec : {M : Type 1} → statement M
 end-process-spec =
     tie.close
     (tie.spec
-    process-refusal-requires
-    same-length
-    same-length-2
-    same-length-3
-    same-length-4
+    (λ c κs. search needs)
+    (λ c. search needs)
+    (λ c. search needs)
+    (λ c. search needs)
+    (λ c. search needs)
     returns
     remove-process-requires
-    same-length-5
-    same-length-6
-    same-length-7
-    same-length-8
+    (λ c. search needs)
+    (λ c. search needs)
+    (λ c. search needs)
+    (λ c. search needs)
     returns-2)

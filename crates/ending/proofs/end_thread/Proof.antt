@@ -7,21 +7,6 @@ use borrow.Author.Needs.{needs}
 use Rattle.ending.proofs.end_thread.Statement.{statement}
 use Rattle.ending.proofs.end_thread.Tie as tie
 
-thread-refusal-requires : tie.Need-thread-refusal-requires
-thread-refusal-requires c κs = search needs
-
-same-length : tie.Need-same-length
-same-length c = search needs
-
-same-length-2 : tie.Need-same-length-2
-same-length-2 c = search needs
-
-same-length-3 : tie.Need-same-length-3
-same-length-3 c = search needs
-
-same-length-4 : tie.Need-same-length-4
-same-length-4 c = search needs
-
 returns : tie.Need-returns
 returns c =
     let r = c .before in
@@ -34,18 +19,6 @@ remove-requires c κs =
     let r = i .before in
     let a = r .before .before .before .before .before .before .before .before .before in
     thread-can-end (a .args .ps .now) (a .args .ts .now) (a .args .tb .now) (a .args .pb .now) (a .args .id) (r .thread-refusal .result) (r .thread-refusal .ensures) (i .if1 .left)
-
-same-length-5 : tie.Need-same-length-5
-same-length-5 c = search needs
-
-same-length-6 : tie.Need-same-length-6
-same-length-6 c = search needs
-
-same-length-7 : tie.Need-same-length-7
-same-length-7 c = search needs
-
-same-length-8 : tie.Need-same-length-8
-same-length-8 c = search needs
 
 returns-2 : tie.Need-returns-2
 returns-2 c =
@@ -64,15 +37,15 @@ pub end-thread-spec : {M : Type 1} → statement M
 end-thread-spec =
     tie.close
     (tie.spec
-    thread-refusal-requires
-    same-length
-    same-length-2
-    same-length-3
-    same-length-4
+    (λ c κs. search needs)
+    (λ c. search needs)
+    (λ c. search needs)
+    (λ c. search needs)
+    (λ c. search needs)
     returns
     remove-requires
-    same-length-5
-    same-length-6
-    same-length-7
-    same-length-8
+    (λ c. search needs)
+    (λ c. search needs)
+    (λ c. search needs)
+    (λ c. search needs)
     returns-2)

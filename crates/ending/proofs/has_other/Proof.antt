@@ -25,9 +25,6 @@ abbrev μ-loop : tie.MeasureT-loop
 loop-holds : tie.Need-loop-holds Inv-loop μ-loop
 loop-holds c = (search needs, any-none (isOther (c .before .args .process) (c .before .args .thread)) noThread [])
 
-is-other-requires : tie.Need-is-other-requires Inv-loop μ-loop
-is-other-requires c κs = search needs
-
 returns : tie.Need-returns Inv-loop μ-loop
 returns c =
     let o = c .before in
@@ -35,12 +32,6 @@ returns c =
     let i = o .before .before .loop .i in
     let h : i < length (heldThreads (a .args .ts .now)) = rw (length-heldThreads (a .args .ts .now)) (omega arith) in
     sym (any-here (isOther (a .args .process) (a .args .thread)) noThread (heldThreads (a .args .ts .now)) i h (sym (o .is-other .ensures) ∙ c .if1 .taken))
-
-add-i : tie.Need-add-i Inv-loop μ-loop
-add-i c = search needs
-
-loop-less : tie.Need-loop-less Inv-loop μ-loop
-loop-less c = search needs
 
 loop-again : tie.Need-loop-again Inv-loop μ-loop
 loop-again c =
@@ -66,9 +57,9 @@ has-other-spec =
     Inv-loop
     μ-loop
     loop-holds
-    is-other-requires
+    (λ c κs. search needs)
     returns
-    add-i
-    loop-less
+    (λ c. search needs)
+    (λ c. search needs)
     loop-again
     returns-2)

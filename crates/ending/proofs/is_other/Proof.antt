@@ -4,12 +4,6 @@ use borrow.Author.Needs.{needs}
 use Rattle.ending.proofs.is_other.Statement.{statement}
 use Rattle.ending.proofs.is_other.Tie as tie
 
-thread-field-at-requires : tie.Need-thread-field-at-requires
-thread-field-at-requires c κs = search needs
-
-thread-field-at-requires-2 : tie.Need-thread-field-at-requires-2
-thread-field-at-requires-2 c κs = search needs
-
 returns : tie.Need-returns
 returns c =
     let a = c .before .before .before in
@@ -17,4 +11,4 @@ returns c =
     (c .before .thread-field-at .ensures) (c .thread-field-at2 .ensures)
 
 pub is-other-spec : {M : Type 1} → statement M
-is-other-spec = tie.close (tie.spec thread-field-at-requires thread-field-at-requires-2 returns)
+is-other-spec = tie.close (tie.spec (λ c κs. search needs) (λ c κs. search needs) returns)

@@ -32,18 +32,6 @@ remove-process-requires c κs =
     process-fits (a .args .ps .now) (a .args .ts .now) (a .args .tb .now) (a .args .pb .now) (a .pre .0) (a .args .thread) (a .pre .1)
     (o .before .before .process-of .result) (o .before .before .process-of .ensures) (o .has-other .result) (o .has-other .ensures) (i .if1 .left)
 
-same-length : tie.Need-same-length
-same-length c = search needs
-
-same-length-2 : tie.Need-same-length-2
-same-length-2 c = search needs
-
-same-length-3 : tie.Need-same-length-3
-same-length-3 c = search needs
-
-same-length-4 : tie.Need-same-length-4
-same-length-4 c = search needs
-
 returns : tie.Need-returns
 returns c =
     let f = c .before .before .before .before .before .before in
@@ -53,18 +41,6 @@ returns c =
     thread-removed (a .args .ps .now) (a .args .ts .now) (a .args .tb .now) (a .args .pb .now) (a .pre .0) (a .args .thread) (a .pre .1)
     (o .before .before .process-of .result) (o .before .before .process-of .ensures) (o .has-other .result) (o .has-other .ensures) (i .if1 .taken)
     (storeOf (a .args .ps .now) (f .remove-thread .last .1 .0) (f .remove-thread .last .1 .1 .0) (f .remove-thread .last .1 .1 .1 .0)) (f .remove-thread .ensures .0)
-
-same-length-5 : tie.Need-same-length-5
-same-length-5 c = search needs
-
-same-length-6 : tie.Need-same-length-6
-same-length-6 c = search needs
-
-same-length-7 : tie.Need-same-length-7
-same-length-7 c = search needs
-
-same-length-8 : tie.Need-same-length-8
-same-length-8 c = search needs
 
 returns-2 : tie.Need-returns-2
 returns-2 c =
@@ -84,13 +60,13 @@ remove-spec =
     has-other-requires
     remove-thread-requires
     remove-process-requires
-    same-length
-    same-length-2
-    same-length-3
-    same-length-4
+    (λ c. search needs)
+    (λ c. search needs)
+    (λ c. search needs)
+    (λ c. search needs)
     returns
-    same-length-5
-    same-length-6
-    same-length-7
-    same-length-8
+    (λ c. search needs)
+    (λ c. search needs)
+    (λ c. search needs)
+    (λ c. search needs)
     returns-2)

@@ -5,9 +5,6 @@ use Rattle.kernel.proofs.Remasked.{mask-absent, mask-held, mask-inside}
 use Rattle.kernel.proofs.mask_of.Statement.{statement}
 use Rattle.kernel.proofs.mask_of.Tie as tie
 
-thread-place-requires : tie.Need-thread-place-requires
-thread-place-requires c κs = search needs
-
 returns : tie.Need-returns
 returns c =
     let p = c .before in
@@ -27,4 +24,4 @@ returns-2 c =
     mask-held (a .args .ws .now) (a .args .id) (p .thread-place .result) (p .thread-place .ensures) (c .thread-field-at .result) (c .thread-field-at .ensures)
 
 pub mask-of-spec : {M : Type 1} → statement M
-mask-of-spec = tie.close (tie.spec thread-place-requires returns thread-field-at-requires returns-2)
+mask-of-spec = tie.close (tie.spec (λ c κs. search needs) returns thread-field-at-requires returns-2)

@@ -9,15 +9,6 @@ use Rattle.kernel.specs.Kernel.{lookAt}
 use Rattle.kernel.proofs.part_of.Statement.{statement}
 use Rattle.kernel.proofs.part_of.Tie as tie
 
-words-of-requires : tie.Need-words-of-requires
-words-of-requires c κs = search needs
-
-slice-aggregate-look : tie.Need-slice-aggregate-look
-slice-aggregate-look c = search needs
-
-look-requires : tie.Need-look-requires
-look-requires c κs = search needs
-
 returns : tie.Need-returns
 unfolding lookAt
 returns c =
@@ -25,4 +16,4 @@ returns c =
     c .look .ensures ∙ ap (λ (ws : List ℕ). lookBytes (a .args .thread) (lent (a .args .ps .now) ws (a .args .tb .now) (a .args .pb .now))) (c .before .before .words-of .ensures)
 
 pub part-of-spec : {M : Type 1} → statement M
-part-of-spec = tie.close (tie.spec words-of-requires slice-aggregate-look look-requires returns)
+part-of-spec = tie.close (tie.spec (λ c κs. search needs) (λ c. search needs) (λ c κs. search needs) returns)

@@ -9,15 +9,6 @@ use Rattle.kernel.specs.Kernel.{slotAt}
 use Rattle.kernel.proofs.slot_of.Statement.{statement}
 use Rattle.kernel.proofs.slot_of.Tie as tie
 
-words-of-requires : tie.Need-words-of-requires
-words-of-requires c κs = search needs
-
-slice-aggregate-look-slot : tie.Need-slice-aggregate-look-slot
-slice-aggregate-look-slot c = search needs
-
-look-slot-requires : tie.Need-look-slot-requires
-look-slot-requires c κs = search needs
-
 returns : tie.Need-returns
 unfolding slotAt
 returns c =
@@ -25,4 +16,4 @@ returns c =
     c .look-slot .ensures ∙ ap (λ (ws : List ℕ). lookSlot (a .args .thread) (lent (a .args .ps .now) ws (a .args .tb .now) (a .args .pb .now))) (c .before .before .words-of .ensures)
 
 pub slot-of-spec : {M : Type 1} → statement M
-slot-of-spec = tie.close (tie.spec words-of-requires slice-aggregate-look-slot look-slot-requires returns)
+slot-of-spec = tie.close (tie.spec (λ c κs. search needs) (λ c. search needs) (λ c κs. search needs) returns)

@@ -11,35 +11,14 @@ use Rattle.looking.proofs.look.Tie as tie
 told-here : (c : tie.After-look-slot) → Told (lent (c .before .before .before .before .before .args .ps .now) (c .before .before .before .before .before .args .ts .now) (c .before .before .before .before .before .args .tb .now) (c .before .before .before .before .before .args .pb .now)) (c .look-slot .result) (lookBytes (c .before .before .before .before .before .args .thread) (lent (c .before .before .before .before .before .args .ps .now) (c .before .before .before .before .before .args .ts .now) (c .before .before .before .before .before .args .tb .now) (c .before .before .before .before .before .args .pb .now)))
 told-here c = told (c .before .before .before .before .before .args .thread) (lent (c .before .before .before .before .before .args .ps .now) (c .before .before .before .before .before .args .ts .now) (c .before .before .before .before .before .args .tb .now) (c .before .before .before .before .before .args .pb .now)) (c .look-slot .result) (c .look-slot .ensures)
 
-look-slot-requires : tie.Need-look-slot-requires
-look-slot-requires c κs = search needs
-
-sub-result : tie.Need-sub-result
-sub-result c = search needs
-
-part-result-start : tie.Need-part-result-start
-part-result-start c = search needs
-
-part-result-end : tie.Need-part-result-end
-part-result-end c = search needs
-
 returns : tie.Need-returns
 returns c = told-here (c .before .before) .nothing (c .before .if1 .taken)
-
-sub-slot-of : tie.Need-sub-slot-of
-sub-slot-of c = search needs
 
 slot-of-requires : tie.Need-slot-of-requires
 slot-of-requires c κs = told-here (c .before .before) .own (c .before .if1 .left) (c .if2 .taken) .inside
 
 returns-2 : tie.Need-returns-2
 returns-2 c = c .slot-of .ensures ∙ told-here (c .before .before .before) .own (c .before .before .if1 .left) (c .before .if2 .taken) .bytes
-
-sub-slot-of-2 : tie.Need-sub-slot-of-2
-sub-slot-of-2 c = search needs
-
-sub-slot-of-3 : tie.Need-sub-slot-of-3
-sub-slot-of-3 c = search needs
 
 slot-of-requires-2 : tie.Need-slot-of-requires-2
 slot-of-requires-2 c κs = told-here (c .before .before) .shared (c .if2 .left) .inside
@@ -51,15 +30,15 @@ pub look-spec : {M : Type 1} → statement M
 look-spec =
     tie.close
     (tie.spec
-    look-slot-requires
-    sub-result
-    part-result-start
-    part-result-end
+    (λ c κs. search needs)
+    (λ c. search needs)
+    (λ c. search needs)
+    (λ c. search needs)
     returns
-    sub-slot-of
+    (λ c. search needs)
     slot-of-requires
     returns-2
-    sub-slot-of-2
-    sub-slot-of-3
+    (λ c. search needs)
+    (λ c. search needs)
     slot-of-requires-2
     returns-3)

@@ -15,9 +15,6 @@ sound-here c =
     let a = c .before .before .before .before .before .before in
     look-sound (a .args .ps .now) (a .args .ts .now) (a .args .tb .now) (a .args .pb .now) (a .args .thread) (c .before .thread-refusal .result) (c .before .thread-refusal .ensures) (c .if1 .left)
 
-thread-refusal-requires : tie.Need-thread-refusal-requires
-thread-refusal-requires c κs = search needs
-
 returns : tie.Need-returns
 returns c =
     let a = c .before .before .before .before .before .before in
@@ -29,15 +26,6 @@ next-of-requires c κs =
       sound-here c,
       look-live (a .args .ps .now) (a .args .ts .now) (a .args .tb .now) (a .args .pb .now) (a .args .thread) (c .before .thread-refusal .result) (c .before .thread-refusal .ensures) (c .if1 .left),
     )
-
-enum-told : tie.Need-enum-told
-enum-told c = search needs
-
-enum-told-2 : tie.Need-enum-told-2
-enum-told-2 c = search needs
-
-enum-known-r : tie.Need-enum-known-r
-enum-known-r c = search needs
 
 first-of-requires : tie.Need-first-of-requires
 first-of-requires c κs =
@@ -91,12 +79,12 @@ pub look-slot-spec : {M : Type 1} → statement M
 look-slot-spec =
     tie.close
     (tie.spec
-    thread-refusal-requires
+    (λ c κs. search needs)
     returns
     next-of-requires
-    enum-told
-    enum-told-2
-    enum-known-r
+    (λ c. search needs)
+    (λ c. search needs)
+    (λ c. search needs)
     first-of-requires
     add-result
     add-result-2

@@ -4,9 +4,6 @@ use Rattle.looking.proofs.Looks.{look-refused, look-sound, look-live, l
 use Rattle.looking.proofs.looked.Statement.{statement}
 use Rattle.looking.proofs.looked.Tie as tie
 
-thread-refusal-requires : tie.Need-thread-refusal-requires
-thread-refusal-requires c κs = search needs
-
 returns : tie.Need-returns
 returns c =
     let a = c .before .before .before .before .before .before in
@@ -27,4 +24,4 @@ returns-2 c =
     (c .next-of .result) (c .next-of .ensures)
 
 pub looked-spec : {M : Type 1} → statement M
-looked-spec = tie.close (tie.spec thread-refusal-requires returns next-of-requires returns-2)
+looked-spec = tie.close (tie.spec (λ c κs. search needs) returns next-of-requires returns-2)

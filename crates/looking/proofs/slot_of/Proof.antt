@@ -8,21 +8,6 @@ use Rattle.limits.specs.Limits.{recordBytes}
 use Rattle.looking.proofs.slot_of.Statement.{statement}
 use Rattle.looking.proofs.slot_of.Tie as tie
 
-mul-from : tie.Need-mul-from
-mul-from c = search needs
-
-add-to : tie.Need-add-to
-add-to c = search needs
-
-sub-result : tie.Need-sub-result
-sub-result c = search needs
-
-part-result-start : tie.Need-part-result-start
-part-result-start c = search needs
-
-part-result-end : tie.Need-part-result-end
-part-result-end c = search needs
-
 returns : tie.Need-returns
 returns c =
     let a = c .before in
@@ -31,4 +16,4 @@ returns c =
 
 pub slot-of-spec : {M : Type 1} → statement M
 slot-of-spec =
-    tie.close (tie.spec mul-from add-to sub-result part-result-start part-result-end returns)
+    tie.close (tie.spec (λ c. search needs) (λ c. search needs) (λ c. search needs) (λ c. search needs) (λ c. search needs) returns)

@@ -39,12 +39,6 @@ returns c =
     sym (find-here (canTakeSome (view (storeOf (a .args .ps .now) (a .args .ts .now) (a .args .tb .now) (a .args .pb .now))) (a .args .process)) noThread (heldThreads (a .args .ts .now)) (l .loop .i)
     (rw length-heldThreads (omega arith)) (l .loop .inv .1) (sym (c .before .can-take .ensures) ∙ c .if1 .taken))
 
-add-i : tie.Need-add-i Inv-loop μ-loop
-add-i c = search needs
-
-loop-less : tie.Need-loop-less Inv-loop μ-loop
-loop-less c = search needs
-
 loop-again : tie.Need-loop-again Inv-loop μ-loop
 loop-again c =
     let l = c .before .before .before in
@@ -70,7 +64,7 @@ taker-place-spec =
     loop-holds
     can-take-requires
     returns
-    add-i
-    loop-less
+    (λ c. search needs)
+    (λ c. search needs)
     loop-again
     returns-2)

@@ -6,9 +6,6 @@ use Rattle.looking.proofs.Takers.{id-read, who-refused, who-sound, who-
 use Rattle.looking.proofs.who.Statement.{statement}
 use Rattle.looking.proofs.who.Tie as tie
 
-process-refusal-requires : tie.Need-process-refusal-requires
-process-refusal-requires c κs = search needs
-
 returns : tie.Need-returns
 returns c =
     let a = c .before .before .before .before .before .before in
@@ -65,7 +62,7 @@ pub who-spec : {M : Type 1} → statement M
 who-spec =
     tie.close
     (tie.spec
-    process-refusal-requires
+    (λ c κs. search needs)
     returns
     taker-place-requires
     returns-2

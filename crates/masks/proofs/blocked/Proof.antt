@@ -43,12 +43,6 @@ mask-of-requires c κs =
     let pb = a .args .pb .now in
     (threads-long ps ts tb pb (a .pre .0), thread-listed ps ts tb pb (a .args .thread) (a .pre .1))
 
-union-requires : tie.Need-union-requires
-union-requires c κs = search needs
-
-intersect-requires : tie.Need-intersect-requires
-intersect-requires c κs = search needs
-
 returns : tie.Need-returns
 returns c =
     let a = c .before .before .before .before .before .before .before .before .before .before in
@@ -69,6 +63,6 @@ blocked-spec =
     pending-of-requires
     pending-of-requires-2
     mask-of-requires
-    union-requires
-    intersect-requires
+    (λ c κs. search needs)
+    (λ c κs. search needs)
     returns)

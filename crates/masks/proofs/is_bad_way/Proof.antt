@@ -6,12 +6,6 @@ use borrow.Author.Needs.{needs}
 use Rattle.masks.proofs.is_bad_way.Statement.{statement}
 use Rattle.masks.proofs.is_bad_way.Tie as tie
 
-enum-told : tie.Need-enum-told
-enum-told c = search needs
-
-enum-told-2 : tie.Need-enum-told-2
-enum-told-2 c = search needs
-
 returns : tie.Need-returns
 unfolding badWay newSet
 returns c = ap (λ x. badWay (c .before .before .args .way) (newSet x)) (sym (c .enum-told .given .1))
@@ -21,4 +15,4 @@ unfolding badWay newSet
 returns-2 c = ap (λ x. badWay (c .before .before .args .way) (newSet x)) (sym (c .enum-told2 .given .1))
 
 pub is-bad-way-spec : {M : Type 1} → statement M
-is-bad-way-spec = tie.close (tie.spec enum-told enum-told-2 returns returns-2)
+is-bad-way-spec = tie.close (tie.spec (λ c. search needs) (λ c. search needs) returns returns-2)

@@ -5,30 +5,15 @@ use borrow.Author.Needs.{needs}
 use Rattle.masks.proofs.mask_after.Statement.{statement}
 use Rattle.masks.proofs.mask_after.Tie as tie
 
-union-requires : tie.Need-union-requires
-union-requires c κs = search needs
-
-maskable-requires : tie.Need-maskable-requires
-maskable-requires c κs = search needs
-
 returns : tie.Need-returns
 returns c =
     let a = c .before .before .before .args in
     c .maskable .ensures ∙ mask-added (a .old) (a .set) (a .way) (c .before .before .if1 .taken) (c .before .union .result) (c .before .union .ensures)
 
-without-requires : tie.Need-without-requires
-without-requires c κs = search needs
-
-maskable-requires-2 : tie.Need-maskable-requires-2
-maskable-requires-2 c κs = search needs
-
 returns-2 : tie.Need-returns-2
 returns-2 c =
     let a = c .before .before .before .before .args in
     c .maskable2 .ensures ∙ mask-removed (a .old) (a .set) (a .way) (c .before .before .if2 .taken) (c .before .without .result) (c .before .without .ensures)
-
-maskable-requires-3 : tie.Need-maskable-requires-3
-maskable-requires-3 c κs = search needs
 
 returns-3 : tie.Need-returns-3
 returns-3 c =
@@ -39,11 +24,11 @@ pub mask-after-spec : {M : Type 1} → statement M
 mask-after-spec =
     tie.close
     (tie.spec
-    union-requires
-    maskable-requires
+    (λ c κs. search needs)
+    (λ c κs. search needs)
     returns
-    without-requires
-    maskable-requires-2
+    (λ c κs. search needs)
+    (λ c κs. search needs)
     returns-2
-    maskable-requires-3
+    (λ c κs. search needs)
     returns-3)

@@ -10,9 +10,6 @@ use borrow.Author.Needs.{needs}
 use Rattle.masks.proofs.mask_refusal.Statement.{statement}
 use Rattle.masks.proofs.mask_refusal.Tie as tie
 
-sound-requires : tie.Need-sound-requires
-sound-requires c κs = search needs
-
 returns : tie.Need-returns
 returns c =
     let a = c .before .before .before .before .before .before in
@@ -21,9 +18,6 @@ returns c =
     let tb = a .args .tb .now in
     let pb = a .args .pb .now in
     mask-fault (lent ps ts tb pb) (a .args .thread) (a .args .way) (newSet (a .args .set)) (sym (c .before .sound .ensures) ∙ not-true (c .before .sound .result) (c .if1 .taken))
-
-is-bad-way-requires : tie.Need-is-bad-way-requires
-is-bad-way-requires c κs = search needs
 
 returns-2 : tie.Need-returns-2
 returns-2 c =
@@ -72,9 +66,9 @@ pub mask-refusal-spec : {M : Type 1} → statement M
 mask-refusal-spec =
     tie.close
     (tie.spec
-    sound-requires
+    (λ c κs. search needs)
     returns
-    is-bad-way-requires
+    (λ c κs. search needs)
     returns-2
     is-thread-requires
     returns-3

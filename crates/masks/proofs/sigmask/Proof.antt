@@ -13,21 +13,6 @@ use borrow.Author.Needs.{needs}
 use Rattle.masks.proofs.sigmask.Statement.{statement}
 use Rattle.masks.proofs.sigmask.Tie as tie
 
-mask-refusal-requires : tie.Need-mask-refusal-requires
-mask-refusal-requires c κs = search needs
-
-same-length : tie.Need-same-length
-same-length c = search needs
-
-same-length-2 : tie.Need-same-length-2
-same-length-2 c = search needs
-
-same-length-3 : tie.Need-same-length-3
-same-length-3 c = search needs
-
-same-length-4 : tie.Need-same-length-4
-same-length-4 c = search needs
-
 returns : tie.Need-returns
 returns c =
     let a = c .before .before .before .before .before .before .before .before .before .before in
@@ -55,15 +40,6 @@ mask-of-requires c κs =
     let e = sym (c .before .before .mask-refusal .ensures) ∙ c .before .if1 .left in
     (threads-long ps ts tb pb (mask-sound (lent ps ts tb pb) t way set e), thread-listed ps ts tb pb t (mask-live (lent ps ts tb pb) t way set e))
 
-enum-told : tie.Need-enum-told
-enum-told c = search needs
-
-enum-known-set : tie.Need-enum-known-set
-enum-known-set c = search needs
-
-mask-after-requires : tie.Need-mask-after-requires
-mask-after-requires c κs = search needs
-
 set-mask-requires : tie.Need-set-mask-requires
 unfolding newSet
 set-mask-requires c κs =
@@ -82,18 +58,6 @@ set-mask-requires c κs =
           (ap newSet (c .before .before .before .before .before .before .set .given .1)) (c .mask-after .ensures),
     )
 
-same-length-5 : tie.Need-same-length-5
-same-length-5 c = search needs
-
-same-length-6 : tie.Need-same-length-6
-same-length-6 c = search needs
-
-same-length-7 : tie.Need-same-length-7
-same-length-7 c = search needs
-
-same-length-8 : tie.Need-same-length-8
-same-length-8 c = search needs
-
 returns-2 : tie.Need-returns-2
 unfolding answerOf newSet
 returns-2 c =
@@ -108,18 +72,6 @@ returns-2 c =
     let e = sym (c .before .before .before .before .before .mask-refusal .ensures) ∙ c .before .before .before .before .if1 .left in
     mask-kept (lent ps ts tb pb) t way set e (c .before .before .mask-of .result) (c .before .before .mask-of .ensures) (ap newSet (c .enum-told .given .1)) (bytes-each tb (λ i. omega (arith, c .before .before .before .before .before .before .before .before .before .before .before .slice-known3 .given i)))
     (bytes-each pb (λ i. omega (arith, c .before .before .before .before .before .before .before .before .before .before .slice-known4 .given i)))
-
-same-length-9 : tie.Need-same-length-9
-same-length-9 c = search needs
-
-same-length-10 : tie.Need-same-length-10
-same-length-10 c = search needs
-
-same-length-11 : tie.Need-same-length-11
-same-length-11 c = search needs
-
-same-length-12 : tie.Need-same-length-12
-same-length-12 c = search needs
 
 returns-3 : tie.Need-returns-3
 unfolding answerOf newSet
@@ -145,24 +97,24 @@ pub sigmask-spec : {M : Type 1} → statement M
 sigmask-spec =
     tie.close
     (tie.spec
-    mask-refusal-requires
-    same-length
-    same-length-2
-    same-length-3
-    same-length-4
+    (λ c κs. search needs)
+    (λ c. search needs)
+    (λ c. search needs)
+    (λ c. search needs)
+    (λ c. search needs)
     returns
     mask-of-requires
-    enum-told
-    enum-known-set
-    mask-after-requires
+    (λ c. search needs)
+    (λ c. search needs)
+    (λ c κs. search needs)
     set-mask-requires
-    same-length-5
-    same-length-6
-    same-length-7
-    same-length-8
+    (λ c. search needs)
+    (λ c. search needs)
+    (λ c. search needs)
+    (λ c. search needs)
     returns-2
-    same-length-9
-    same-length-10
-    same-length-11
-    same-length-12
+    (λ c. search needs)
+    (λ c. search needs)
+    (λ c. search needs)
+    (λ c. search needs)
     returns-3)

@@ -9,9 +9,6 @@ use borrow.Author.Needs.{needs}
 use Rattle.masks.proofs.sigpending.Statement.{statement}
 use Rattle.masks.proofs.sigpending.Tie as tie
 
-thread-refusal-requires : tie.Need-thread-refusal-requires
-thread-refusal-requires c κs = search needs
-
 returns : tie.Need-returns
 returns c =
     let a = c .before .before .before .before .before .before in
@@ -42,4 +39,4 @@ returns-2 c =
     pending-answered (lent ps ts tb pb) (a .args .thread) (c .before .before .thread-refusal .result) (c .before .before .thread-refusal .ensures) (c .before .if1 .left) (c .blocked .result) (c .blocked .ensures)
 
 pub sigpending-spec : {M : Type 1} → statement M
-sigpending-spec = tie.close (tie.spec thread-refusal-requires returns blocked-requires returns-2)
+sigpending-spec = tie.close (tie.spec (λ c κs. search needs) returns blocked-requires returns-2)

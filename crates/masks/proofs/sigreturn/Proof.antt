@@ -7,21 +7,6 @@ use borrow.Author.Needs.{needs}
 use Rattle.masks.proofs.sigreturn.Statement.{statement}
 use Rattle.masks.proofs.sigreturn.Tie as tie
 
-sigmask-requires : tie.Need-sigmask-requires
-sigmask-requires c κs = search needs
-
-same-length : tie.Need-same-length
-same-length c = search needs
-
-same-length-2 : tie.Need-same-length-2
-same-length-2 c = search needs
-
-same-length-3 : tie.Need-same-length-3
-same-length-3 c = search needs
-
-same-length-4 : tie.Need-same-length-4
-same-length-4 c = search needs
-
 returns : tie.Need-returns
 unfolding newSet
 returns c =
@@ -37,4 +22,4 @@ returns c =
 pub sigreturn-spec : {M : Type 1} → statement M
 sigreturn-spec =
     tie.close
-    (tie.spec sigmask-requires same-length same-length-2 same-length-3 same-length-4 returns)
+    (tie.spec (λ c κs. search needs) (λ c. search needs) (λ c. search needs) (λ c. search needs) (λ c. search needs) returns)

@@ -7,12 +7,6 @@ use Rattle.rules.specs.View.{targetQueue}
 use Rattle.queue.proofs.Buffer.{length-recordsOf}
 use Rattle.next.proofs.Nexts.{record-next, mark-next}
 
-first-of-requires : tie.Need-first-of-requires
-first-of-requires c κs = search needs
-
-used-requires : tie.Need-used-requires
-used-requires c κs = search needs
-
 read-requires : tie.Need-read-requires
 read-requires c κs =
     omega (arith, c .if1 .taken, c .before .used .ensures, c .before .before .before .before .pre, length-recordsOf (c .before .before .before .before .args .b .now))
@@ -30,4 +24,4 @@ returns-2 c =
     (c .before .before .first-of .ensures) (c .before .used .ensures) (c .if1 .left)
 
 pub next-in-spec : {M : Type 1} → statement M
-next-in-spec = tie.close (tie.spec first-of-requires used-requires read-requires returns returns-2)
+next-in-spec = tie.close (tie.spec (λ c κs. search needs) (λ c κs. search needs) read-requires returns returns-2)

@@ -9,9 +9,6 @@ use Rattle.sound.proofs.Facts.{threads-long, thread-buffer-long, process-buffer
 use Rattle.view.proofs.Live.{owner-good, own-queue}
 use Rattle.next.proofs.Nexts.{nothing-next, own-next, shared-next}
 
-next-signal-requires : tie.Need-next-signal-requires
-next-signal-requires c κs = search needs
-
 returns : tie.Need-returns
 returns c =
     let a = c .before .before .before .before .before .before in
@@ -35,9 +32,6 @@ pending-of-requires c κs =
       a .pre .0,
       own-queue (a .args .ps .now) (a .args .ts .now) (a .args .tb .now) (a .args .pb .now) (a .pre .0) (a .args .thread) (a .pre .1) (c .process-of .result) (c .process-of .ensures),
     )
-
-has-requires : tie.Need-has-requires
-has-requires c κs = search needs
 
 next-in-requires : tie.Need-next-in-requires
 next-in-requires c κs =
@@ -69,11 +63,11 @@ pub next-of-spec : {M : Type 1} → statement M
 next-of-spec =
     tie.close
     (tie.spec
-    next-signal-requires
+    (λ c κs. search needs)
     returns
     process-of-requires
     pending-of-requires
-    has-requires
+    (λ c κs. search needs)
     next-in-requires
     returns-2
     next-in-requires-2

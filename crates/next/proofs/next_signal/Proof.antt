@@ -43,21 +43,12 @@ pending-of-requires-2 c κs =
       shared-queue (a .args .ps .now) (a .args .ts .now) (a .args .tb .now) (a .args .pb .now) (a .pre .0) (a .args .thread) (a .pre .1) (c .before .before .before .process-of .result) (c .before .before .before .process-of .ensures),
     )
 
-union-requires : tie.Need-union-requires
-union-requires c κs = search needs
-
 mask-of-requires : tie.Need-mask-of-requires
 mask-of-requires c κs =
     let a = c .before .before .before .before .before .before .before .before .before .before in (
       threads-long (a .args .ps .now) (a .args .ts .now) (a .args .tb .now) (a .args .pb .now) (a .pre .0),
       thread-listed (a .args .ps .now) (a .args .ts .now) (a .args .tb .now) (a .args .pb .now) (a .args .thread) (a .pre .1),
     )
-
-without-requires : tie.Need-without-requires
-without-requires c κs = search needs
-
-lowest-requires : tie.Need-lowest-requires
-lowest-requires c κs = search needs
 
 returns-2 : tie.Need-returns-2
 returns-2 c =
@@ -79,8 +70,8 @@ next-signal-spec =
     returns
     pending-of-requires
     pending-of-requires-2
-    union-requires
+    (λ c κs. search needs)
     mask-of-requires
-    without-requires
-    lowest-requires
+    (λ c κs. search needs)
+    (λ c κs. search needs)
     returns-2)

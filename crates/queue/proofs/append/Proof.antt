@@ -18,9 +18,6 @@ write-requires c κs =
     let s = c .before .before .before .before in
     omega (arith, length-laid (now (s .args .b)) (s .pre .0), s .pre .1, c .before .used .ensures)
 
-same-length : tie.Need-same-length
-same-length c = search needs
-
 returns : tie.Need-returns
 unfolding onSlots recordsOf
 returns c =
@@ -31,4 +28,4 @@ returns c =
     (c .before .before .write .ensures)
 
 pub append-spec : {M : Type 1} → statement M
-append-spec = tie.close (tie.spec used-requires write-requires same-length returns)
+append-spec = tie.close (tie.spec used-requires write-requires (λ c. search needs) returns)

@@ -21,25 +21,10 @@ Inv-loop b₀ j n m t₀ b t = (t ≤ n - j) × ((length b ≡ bufferBytes) × (
 abbrev μ-loop : tie.MeasureT-loop
 μ-loop b₀ j n m t₀ b t = n - j - t
 
-sub-m : tie.Need-sub-m Inv-loop μ-loop
-sub-m c = search needs
-
 loop-holds : tie.Need-loop-holds Inv-loop μ-loop
 loop-holds c =
     let s = c .before in
     (omega arith, (omega arith, paste-zero (slotsOf (now (s .args .b))) (s .args .j) (replicate (s .args .n - s .args .j) noSiginfo)))
-
-add-write : tie.Need-add-write Inv-loop μ-loop
-add-write c = search needs
-
-write-requires : tie.Need-write-requires Inv-loop μ-loop
-write-requires c κs = search needs
-
-add-t : tie.Need-add-t Inv-loop μ-loop
-add-t c = search needs
-
-loop-less : tie.Need-loop-less Inv-loop μ-loop
-loop-less c = search needs
 
 loop-again : tie.Need-loop-again Inv-loop μ-loop
 loop-again c =
@@ -60,9 +45,6 @@ loop-again c =
       ),
     )
 
-same-length : tie.Need-same-length Inv-loop μ-loop
-same-length c = search needs
-
 returns : tie.Need-returns Inv-loop μ-loop
 returns c =
     let l = c .before in
@@ -75,12 +57,12 @@ clear-spec =
     (tie.spec
     Inv-loop
     μ-loop
-    sub-m
+    (λ c. search needs)
     loop-holds
-    add-write
-    write-requires
-    add-t
-    loop-less
+    (λ c. search needs)
+    (λ c κs. search needs)
+    (λ c. search needs)
+    (λ c. search needs)
     loop-again
-    same-length
+    (λ c. search needs)
     returns)

@@ -30,24 +30,6 @@ loop-holds c =
     let b = now (s .args .b) in
     (omega (arith, length-recordsOf b), omega arith, sparing-start (spares (s .args .doomed)) b (s .pre))
 
-read-requires : tie.Need-read-requires Inv-loop μ-loop
-read-requires c κs = search needs
-
-is-spared-requires : tie.Need-is-spared-requires Inv-loop μ-loop
-is-spared-requires c κs = search needs
-
-write-requires : tie.Need-write-requires Inv-loop μ-loop
-write-requires c κs = search needs
-
-add-j : tie.Need-add-j Inv-loop μ-loop
-add-j c = search needs
-
-add-i : tie.Need-add-i Inv-loop μ-loop
-add-i c = search needs
-
-loop-less : tie.Need-loop-less Inv-loop μ-loop
-loop-less c = search needs
-
 loop-again : tie.Need-loop-again Inv-loop μ-loop
 loop-again c =
     let l = c .before .before .before .before .before in
@@ -69,9 +51,6 @@ loop-again c =
           (λ w. sparing-passed q b₀ b i j r inv h e (c .if1 .b) (c .if1 .j) (sym (c .before .is-spared .ensures) ∙ w .0 .left) (w .1) (w .2))
           (c .if1 .came),
     )
-
-clear-requires : tie.Need-clear-requires Inv-loop μ-loop
-clear-requires c κs = search needs
 
 same-length : tie.Need-same-length Inv-loop μ-loop
 same-length c =
@@ -96,13 +75,13 @@ discard-spec =
     μ-loop
     used-requires
     loop-holds
-    read-requires
-    is-spared-requires
-    write-requires
-    add-j
-    add-i
-    loop-less
+    (λ c κs. search needs)
+    (λ c κs. search needs)
+    (λ c κs. search needs)
+    (λ c. search needs)
+    (λ c. search needs)
+    (λ c. search needs)
     loop-again
-    clear-requires
+    (λ c κs. search needs)
     same-length
     returns)

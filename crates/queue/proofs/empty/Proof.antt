@@ -6,14 +6,8 @@ use Rattle.queue.proofs.Buffer.{all-cleared}
 use Rattle.queue.proofs.empty.Statement.{statement}
 use Rattle.queue.proofs.empty.Tie as tie
 
-clear-requires : tie.Need-clear-requires
-clear-requires c κs = search needs
-
-same-length : tie.Need-same-length
-same-length c = search needs
-
 returns : tie.Need-returns
 returns c = c .before .before .clear .ensures ∙ all-cleared (now (c .before .before .before .before .before .args .b))
 
 pub empty-spec : {M : Type 1} → statement M
-empty-spec = tie.close (tie.spec clear-requires same-length returns)
+empty-spec = tie.close (tie.spec (λ c κs. search needs) (λ c. search needs) returns)

@@ -24,20 +24,11 @@ Inv-loop b process thread signal n i₀ i =
 abbrev μ-loop : tie.MeasureT-loop
 μ-loop b process thread signal n i₀ i = n - i
 
-used-requires : tie.Need-used-requires Inv-loop μ-loop
-used-requires c κs = search needs
-
 loop-holds : tie.Need-loop-holds Inv-loop μ-loop
 loop-holds c =
     let s = c .before .before in
     let b = now (s .args .b) in
     (omega (arith, length-recordsOf b), omega arith, find-none (inQueue (targetQueue (s .args .process) (s .args .thread)) (s .args .signal)) noSiginfo (recordsOf b))
-
-read-requires : tie.Need-read-requires Inv-loop μ-loop
-read-requires c κs = search needs
-
-in-queue-requires : tie.Need-in-queue-requires Inv-loop μ-loop
-in-queue-requires c κs = search needs
 
 returns : tie.Need-returns Inv-loop μ-loop
 returns c =
@@ -50,12 +41,6 @@ returns c =
     sym
     (find-here q noSiginfo (recordsOf b) i h (l .loop .inv .2)
     (record-tested q b i (c .before .before .read .ensures) (c .before .in-queue .ensures) h ∙ c .if1 .taken))
-
-add-i : tie.Need-add-i Inv-loop μ-loop
-add-i c = search needs
-
-loop-less : tie.Need-loop-less Inv-loop μ-loop
-loop-less c = search needs
 
 loop-again : tie.Need-loop-again Inv-loop μ-loop
 loop-again c =
@@ -85,12 +70,12 @@ first-of-spec =
     (tie.spec
     Inv-loop
     μ-loop
-    used-requires
+    (λ c κs. search needs)
     loop-holds
-    read-requires
-    in-queue-requires
+    (λ c κs. search needs)
+    (λ c κs. search needs)
     returns
-    add-i
-    loop-less
+    (λ c. search needs)
+    (λ c. search needs)
     loop-again
     returns-2)

@@ -14,9 +14,6 @@ use Rattle.queue.proofs.is_laid.Tie as tie
 returns : tie.Need-returns
 returns c = sym (not-laid (now (c .before .before .args .b)) (c .if1 .taken))
 
-used-requires : tie.Need-used-requires
-used-requires c κs = search needs
-
 zero-from-requires : tie.Need-zero-from-requires
 zero-from-requires c κs = omega (arith, length-recordsOf (now (c .before .before .before .args .b)))
 
@@ -26,4 +23,4 @@ returns-2 c =
     c .zero-from .ensures ∙ ap (λ n. all isZero (drop n (slotsOf b))) (c .before .used .ensures) ∙ laid-test b (c .before .before .if1 .left)
 
 pub is-laid-spec : {M : Type 1} → statement M
-is-laid-spec = tie.close (tie.spec returns used-requires zero-from-requires returns-2)
+is-laid-spec = tie.close (tie.spec returns (λ c κs. search needs) zero-from-requires returns-2)

@@ -7,18 +7,6 @@ use Rattle.queue.specs.Queue.{spares}
 use Rattle.queue.proofs.is_spared.Statement.{statement}
 use Rattle.queue.proofs.is_spared.Tie as tie
 
-enum-known-doomed : tie.Need-enum-known-doomed
-enum-known-doomed c = search needs
-
-enum-known-doomed-2 : tie.Need-enum-known-doomed-2
-enum-known-doomed-2 c = search needs
-
-enum-known-doomed-3 : tie.Need-enum-known-doomed-3
-enum-known-doomed-3 c = search needs
-
-has-requires : tie.Need-has-requires
-has-requires c κs = search needs
-
 returns : tie.Need-returns
 unfolding spares
 returns c =
@@ -42,10 +30,10 @@ pub is-spared-spec : {M : Type 1} → statement M
 is-spared-spec =
     tie.close
     (tie.spec
-    enum-known-doomed
-    enum-known-doomed-2
-    enum-known-doomed-3
-    has-requires
+    (λ c. search needs)
+    (λ c. search needs)
+    (λ c. search needs)
+    (λ c κs. search needs)
     returns
     returns-2
     returns-3)

@@ -29,24 +29,6 @@ loop-holds c =
     let b = now (s .args .b) in
     (omega (arith, length-recordsOf b), omega arith, moving-start (s .args .k) b (s .pre .0) (s .pre .1))
 
-add-loop : tie.Need-add-loop Inv-loop μ-loop
-add-loop c = search needs
-
-add-read : tie.Need-add-read Inv-loop μ-loop
-add-read c = search needs
-
-read-requires : tie.Need-read-requires Inv-loop μ-loop
-read-requires c κs = search needs
-
-write-requires : tie.Need-write-requires Inv-loop μ-loop
-write-requires c κs = search needs
-
-add-i : tie.Need-add-i Inv-loop μ-loop
-add-i c = search needs
-
-loop-less : tie.Need-loop-less Inv-loop μ-loop
-loop-less c = search needs
-
 loop-again : tie.Need-loop-again Inv-loop μ-loop
 loop-again c =
     let w = c .before .before in
@@ -59,12 +41,6 @@ loop-again c =
     let h : i + 1 < length (recordsOf b₀) = omega (arith, d .before .before .loop-test .taken, l .before .used .ensures) in
     let fits : Fits r = omega (arith, d .read .ok) in
     (omega arith, omega arith, moving-more (s .args .k) b₀ (l .loop .b) i r (l .loop .inv .2) h (d .read .ensures) fits (w .write .ensures))
-
-sub-clear : tie.Need-sub-clear Inv-loop μ-loop
-sub-clear c = search needs
-
-clear-requires : tie.Need-clear-requires Inv-loop μ-loop
-clear-requires c κs = search needs
 
 same-length : tie.Need-same-length Inv-loop μ-loop
 same-length c =
@@ -91,14 +67,14 @@ remove-spec =
     μ-loop
     used-requires
     loop-holds
-    add-loop
-    add-read
-    read-requires
-    write-requires
-    add-i
-    loop-less
+    (λ c. search needs)
+    (λ c. search needs)
+    (λ c κs. search needs)
+    (λ c κs. search needs)
+    (λ c. search needs)
+    (λ c. search needs)
     loop-again
-    sub-clear
-    clear-requires
+    (λ c. search needs)
+    (λ c κs. search needs)
     same-length
     returns)

@@ -22,29 +22,11 @@ Inv-loop b process thread n i₀ set₀ i set = (n ≤ bufferRecords) × (i ≤ 
 abbrev μ-loop : tie.MeasureT-loop
 μ-loop b process thread n i₀ set₀ i set = n - i
 
-used-requires : tie.Need-used-requires Inv-loop μ-loop
-used-requires c κs = search needs
-
 loop-holds : tie.Need-loop-holds Inv-loop μ-loop
 loop-holds c =
     let s = c .before .before in
     let b = now (s .args .b) in
     (omega (arith, length-recordsOf b), omega arith, sym (signals-none (targetQueue (s .args .process) (s .args .thread)) (recordsOf b)))
-
-read-requires : tie.Need-read-requires Inv-loop μ-loop
-read-requires c κs = search needs
-
-of-signal-requires : tie.Need-of-signal-requires Inv-loop μ-loop
-of-signal-requires c κs = search needs
-
-union-requires : tie.Need-union-requires Inv-loop μ-loop
-union-requires c κs = search needs
-
-add-i : tie.Need-add-i Inv-loop μ-loop
-add-i c = search needs
-
-loop-less : tie.Need-loop-less Inv-loop μ-loop
-loop-less c = search needs
 
 loop-again : tie.Need-loop-again Inv-loop μ-loop
 unfolding sameQueue
@@ -81,12 +63,12 @@ signals-of-spec =
     (tie.spec
     Inv-loop
     μ-loop
-    used-requires
+    (λ c κs. search needs)
     loop-holds
-    read-requires
-    of-signal-requires
-    union-requires
-    add-i
-    loop-less
+    (λ c κs. search needs)
+    (λ c κs. search needs)
+    (λ c κs. search needs)
+    (λ c. search needs)
+    (λ c. search needs)
     loop-again
     returns)

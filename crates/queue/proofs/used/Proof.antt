@@ -26,12 +26,6 @@ loop-holds : tie.Need-loop-holds Inv-loop μ-loop
 unfolding recordsOf used
 loop-holds c = (omega arith, leading-start inUse noSiginfo (slotsOf (now (c .before .args .b))))
 
-read-requires : tie.Need-read-requires Inv-loop μ-loop
-read-requires c κs = search needs
-
-in-use-requires : tie.Need-in-use-requires Inv-loop μ-loop
-in-use-requires c κs = search needs
-
 returns : tie.Need-returns Inv-loop μ-loop
 returns c =
     let l = c .before .before .before .before in
@@ -40,12 +34,6 @@ returns c =
     let h : n < bufferRecords = omega (arith, c .before .before .before .loop-test .taken) in
     leading-here inUse noSiginfo (slotsOf b) n (length (recordsOf b)) (in-slots b n h) (l .loop .inv .1)
     (slot-tested inUse b n (c .before .before .read .ensures) (c .before .in-use .ensures) h ∙ not-true _ (c .if1 .taken))
-
-add-n : tie.Need-add-n Inv-loop μ-loop
-add-n c = search needs
-
-loop-less : tie.Need-loop-less Inv-loop μ-loop
-loop-less c = search needs
 
 loop-again : tie.Need-loop-again Inv-loop μ-loop
 loop-again c =
@@ -70,10 +58,10 @@ used-spec =
     Inv-loop
     μ-loop
     loop-holds
-    read-requires
-    in-use-requires
+    (λ c κs. search needs)
+    (λ c κs. search needs)
     returns
-    add-n
-    loop-less
+    (λ c. search needs)
+    (λ c. search needs)
     loop-again
     returns-2)

@@ -26,15 +26,6 @@ abbrev μ-loop : tie.MeasureT-loop
 loop-holds : tie.Need-loop-holds Inv-loop μ-loop
 loop-holds c = (search needs, all-none actionOk defaultAction [])
 
-add-action-at : tie.Need-add-action-at Inv-loop μ-loop
-add-action-at c = search needs
-
-action-at-requires : tie.Need-action-at-requires Inv-loop μ-loop
-action-at-requires c κs = search needs
-
-action-ok-requires : tie.Need-action-ok-requires Inv-loop μ-loop
-action-ok-requires c κs = search needs
-
 returns : tie.Need-returns Inv-loop μ-loop
 returns c =
     let a = c .before .before .before .before .before .before in
@@ -45,12 +36,6 @@ returns c =
     sym (all-fails actionOk defaultAction (p .actions) i h
     (action-test actionOk p i (c .before .before .action-at .result) (c .before .before .action-at .ensures)
     ∙ sym (c .before .action-ok .ensures) ∙ not-true (c .before .action-ok .result) (c .if1 .taken)))
-
-add-i : tie.Need-add-i Inv-loop μ-loop
-add-i c = search needs
-
-loop-less : tie.Need-loop-less Inv-loop μ-loop
-loop-less c = search needs
 
 loop-again : tie.Need-loop-again Inv-loop μ-loop
 loop-again c =
@@ -78,11 +63,11 @@ actions-ok-spec =
     Inv-loop
     μ-loop
     loop-holds
-    add-action-at
-    action-at-requires
-    action-ok-requires
+    (λ c. search needs)
+    (λ c κs. search needs)
+    (λ c κs. search needs)
     returns
-    add-i
-    loop-less
+    (λ c. search needs)
+    (λ c. search needs)
     loop-again
     returns-2)

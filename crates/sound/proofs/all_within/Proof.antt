@@ -21,19 +21,10 @@ abbrev μ-loop : tie.MeasureT-loop
 loop-holds : tie.Need-loop-holds Inv-loop μ-loop
 loop-holds c = (search needs, range-none (withinAt (c .before .before .args .cs .now) (c .before .before .args .ds .now)) 0)
 
-within-at-requires : tie.Need-within-at-requires Inv-loop μ-loop
-within-at-requires c κs = search needs
-
 returns : tie.Need-returns Inv-loop μ-loop
 unfolding allWithin
 returns c =
     sym (range-fails (withinAt (c .before .before .before .before .before .before .args .cs .now) (c .before .before .before .before .before .before .args .ds .now)) 0 processPlaces (c .before .before .before .loop .i) (omega arith) (ap (withinAt (c .before .before .before .before .before .before .args .cs .now) (c .before .before .before .before .before .before .args .ds .now)) (zero-add (c .before .before .before .loop .i)) ∙ sym (c .before .within-at .ensures) ∙ not-true (c .before .within-at .result) (c .if1 .taken)))
-
-add-i : tie.Need-add-i Inv-loop μ-loop
-add-i c = search needs
-
-loop-less : tie.Need-loop-less Inv-loop μ-loop
-loop-less c = search needs
 
 loop-again : tie.Need-loop-again Inv-loop μ-loop
 loop-again c =
@@ -52,9 +43,9 @@ all-within-spec =
     Inv-loop
     μ-loop
     loop-holds
-    within-at-requires
+    (λ c κs. search needs)
     returns
-    add-i
-    loop-less
+    (λ c. search needs)
+    (λ c. search needs)
     loop-again
     returns-2)

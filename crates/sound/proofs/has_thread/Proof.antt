@@ -31,9 +31,6 @@ returns c =
 loop-holds : tie.Need-loop-holds Inv-loop μ-loop
 loop-holds c = (search needs, any-none (belongsTo (c .before .before .args .id)) noThread [])
 
-thread-field-at-requires : tie.Need-thread-field-at-requires Inv-loop μ-loop
-thread-field-at-requires c κs = search needs
-
 returns-2 : tie.Need-returns-2 Inv-loop μ-loop
 returns-2 c =
     let a = c .before .before .before .before .before .before in
@@ -43,12 +40,6 @@ returns-2 c =
     sym (any-here (belongsTo (a .args .id)) noThread (heldThreads (a .args .ts .now)) i h
     (belongs-test (a .args .ts .now) i (a .args .id) (c .before .thread-field-at .result) (c .before .thread-field-at .ensures)
     (c .before .before .before .before .if1 .left) ∙ eq-eqb _ _ (c .if2 .taken)))
-
-add-i : tie.Need-add-i Inv-loop μ-loop
-add-i c = search needs
-
-loop-less : tie.Need-loop-less Inv-loop μ-loop
-loop-less c = search needs
 
 loop-again : tie.Need-loop-again Inv-loop μ-loop
 loop-again c =
@@ -76,9 +67,9 @@ has-thread-spec =
     μ-loop
     returns
     loop-holds
-    thread-field-at-requires
+    (λ c κs. search needs)
     returns-2
-    add-i
-    loop-less
+    (λ c. search needs)
+    (λ c. search needs)
     loop-again
     returns-3)

@@ -14,32 +14,11 @@ use borrow.Author.Needs.{needs}
 use Rattle.sound.proofs.live_thread_ok.Statement.{statement}
 use Rattle.sound.proofs.live_thread_ok.Tie as tie
 
-thread-field-at-requires : tie.Need-thread-field-at-requires
-thread-field-at-requires c κs = search needs
-
-find-process-requires : tie.Need-find-process-requires
-find-process-requires c κs = search needs
-
 returns : tie.Need-returns
 returns c =
     let a = c .before .before .before .before .before in
     orphan (a .args .ps .now) (a .args .ts .now) (a .args .place) (c .before .find-process .result) (c .before .before .thread-field-at .result)
     (c .before .before .thread-field-at .ensures) (c .before .find-process .ensures) (c .if1 .taken)
-
-thread-field-at-requires-2 : tie.Need-thread-field-at-requires-2
-thread-field-at-requires-2 c κs = search needs
-
-thread-field-at-requires-3 : tie.Need-thread-field-at-requires-3
-thread-field-at-requires-3 c κs = search needs
-
-thread-field-at-requires-4 : tie.Need-thread-field-at-requires-4
-thread-field-at-requires-4 c κs = search needs
-
-is-unmasked-requires : tie.Need-is-unmasked-requires
-is-unmasked-requires c κs = search needs
-
-find-thread-requires : tie.Need-find-thread-requires
-find-thread-requires c κs = search needs
 
 marks-heard-requires : tie.Need-marks-heard-requires
 marks-heard-requires c κs =
@@ -49,12 +28,6 @@ marks-heard-requires c κs =
       found-inside (isProcess (d .before .thread-field-at .result)) noProcess (heldProcesses (a .args .ps .now)) processPlaces (d .find-process .result)
           (length-heldProcesses (a .args .ps .now)) (d .find-process .ensures) (c .before .before .before .before .before .if1 .left),
     )
-
-is-id-requires : tie.Need-is-id-requires
-is-id-requires c κs = search needs
-
-is-unmasked-requires-2 : tie.Need-is-unmasked-requires-2
-is-unmasked-requires-2 c κs = search needs
 
 returns-2 : tie.Need-returns-2
 returns-2 c =
@@ -75,15 +48,15 @@ pub live-thread-ok-spec : {M : Type 1} → statement M
 live-thread-ok-spec =
     tie.close
     (tie.spec
-    thread-field-at-requires
-    find-process-requires
+    (λ c κs. search needs)
+    (λ c κs. search needs)
     returns
-    thread-field-at-requires-2
-    thread-field-at-requires-3
-    thread-field-at-requires-4
-    is-unmasked-requires
-    find-thread-requires
+    (λ c κs. search needs)
+    (λ c κs. search needs)
+    (λ c κs. search needs)
+    (λ c κs. search needs)
+    (λ c κs. search needs)
     marks-heard-requires
-    is-id-requires
-    is-unmasked-requires-2
+    (λ c κs. search needs)
+    (λ c κs. search needs)
     returns-2)

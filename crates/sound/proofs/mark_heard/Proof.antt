@@ -9,20 +9,11 @@ use borrow.Author.Needs.{needs}
 use Rattle.sound.proofs.mark_heard.Statement.{statement}
 use Rattle.sound.proofs.mark_heard.Tie as tie
 
-has-requires : tie.Need-has-requires
-has-requires c κs = search needs
-
 returns : tie.Need-returns
 returns c =
     let a = c .before .before .before in
     unmarked (a .args .marks) (actionOf (processAt (a .args .ps .now) (a .args .place) .holds)) (a .args .s)
     (sym (c .before .has .ensures) ∙ not-true (c .before .has .result) (c .if1 .taken))
-
-action-at-requires : tie.Need-action-at-requires
-action-at-requires c κs = search needs
-
-is-ignored-requires : tie.Need-is-ignored-requires
-is-ignored-requires c κs = search needs
 
 returns-2 : tie.Need-returns-2
 returns-2 c =
@@ -34,4 +25,4 @@ returns-2 c =
 
 pub mark-heard-spec : {M : Type 1} → statement M
 mark-heard-spec =
-    tie.close (tie.spec has-requires returns action-at-requires is-ignored-requires returns-2)
+    tie.close (tie.spec (λ c κs. search needs) returns (λ c κs. search needs) (λ c κs. search needs) returns-2)

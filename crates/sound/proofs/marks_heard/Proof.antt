@@ -31,12 +31,6 @@ loop-holds c =
     let a = c .before .before .before in
     (search needs, range-none (markHeard (a .args .marks) (actionOf (processAt (a .args .ps .now) (a .args .place) .holds))) 1)
 
-add-mark-heard : tie.Need-add-mark-heard Inv-loop μ-loop
-add-mark-heard c = search needs
-
-mark-heard-requires : tie.Need-mark-heard-requires Inv-loop μ-loop
-mark-heard-requires c κs = search needs
-
 returns-2 : tie.Need-returns-2 Inv-loop μ-loop
 unfolding marksHeard
 returns-2 c =
@@ -45,12 +39,6 @@ returns-2 c =
     let f = markHeard (a .args .marks) (actionOf (processAt (a .args .ps .now) (a .args .place) .holds)) in
     sym (range-fails f 1 signals i (omega arith)
     (ap f (add-comm 1 i) ∙ sym (c .before .mark-heard .ensures) ∙ not-true (c .before .mark-heard .result) (c .if2 .taken)))
-
-add-i : tie.Need-add-i Inv-loop μ-loop
-add-i c = search needs
-
-loop-less : tie.Need-loop-less Inv-loop μ-loop
-loop-less c = search needs
 
 loop-again : tie.Need-loop-again Inv-loop μ-loop
 loop-again c =
@@ -77,10 +65,10 @@ marks-heard-spec =
     μ-loop
     returns
     loop-holds
-    add-mark-heard
-    mark-heard-requires
+    (λ c. search needs)
+    (λ c κs. search needs)
     returns-2
-    add-i
-    loop-less
+    (λ c. search needs)
+    (λ c. search needs)
     loop-again
     returns-3)

@@ -6,15 +6,9 @@ use borrow.Author.Needs.{needs}
 use Rattle.sound.proofs.places_ok.Statement.{statement}
 use Rattle.sound.proofs.places_ok.Tie as tie
 
-processes-ok-requires : tie.Need-processes-ok-requires
-processes-ok-requires c κs = search needs
-
 returns : tie.Need-returns
 unfolding placesOk
 returns c = sym (and-left _ (sym (c .before .processes-ok .ensures) ∙ not-true (c .before .processes-ok .result) (c .if1 .taken)))
-
-threads-ok-requires : tie.Need-threads-ok-requires
-threads-ok-requires c κs = search needs
 
 returns-2 : tie.Need-returns-2
 unfolding placesOk
@@ -22,4 +16,4 @@ returns-2 c =
     rw (sym (c .before .before .processes-ok .ensures) ∙ not-false (c .before .before .processes-ok .result) (c .before .if1 .left)) (c .threads-ok .ensures)
 
 pub places-ok-spec : {M : Type 1} → statement M
-places-ok-spec = tie.close (tie.spec processes-ok-requires returns threads-ok-requires returns-2)
+places-ok-spec = tie.close (tie.spec (λ c κs. search needs) returns (λ c κs. search needs) returns-2)

@@ -4,23 +4,11 @@ use borrow.Author.Needs.{needs}
 use Rattle.sound.proofs.process_ok.Statement.{statement}
 use Rattle.sound.proofs.process_ok.Tie as tie
 
-field-at-requires : tie.Need-field-at-requires
-field-at-requires c κs = search needs
-
-mul-zeros : tie.Need-mul-zeros
-mul-zeros c = search needs
-
-zeros-requires : tie.Need-zeros-requires
-zeros-requires c κs = search needs
-
 returns : tie.Need-returns
 returns c =
     let a = c .before .before .before .before .before in
     c .zeros .ensures
     ∙ free-process (a .args .ps .now) (a .args .ts .now) (a .args .place) (c .before .before .field-at .result) (c .before .before .field-at .ensures) (a .pre .0) (a .pre .1 .1) (c .before .if1 .taken)
-
-live-process-ok-requires : tie.Need-live-process-ok-requires
-live-process-ok-requires c κs = search needs
 
 returns-2 : tie.Need-returns-2
 returns-2 c =
@@ -32,9 +20,9 @@ pub process-ok-spec : {M : Type 1} → statement M
 process-ok-spec =
     tie.close
     (tie.spec
-    field-at-requires
-    mul-zeros
-    zeros-requires
+    (λ c κs. search needs)
+    (λ c. search needs)
+    (λ c κs. search needs)
     returns
-    live-process-ok-requires
+    (λ c κs. search needs)
     returns-2)

@@ -7,12 +7,6 @@ use borrow.Author.Needs.{needs}
 use Rattle.sound.proofs.process_record.Statement.{statement}
 use Rattle.sound.proofs.process_record.Tie as tie
 
-cast-find-process : tie.Need-cast-find-process
-cast-find-process c = search needs
-
-find-process-requires : tie.Need-find-process-requires
-find-process-requires c κs = search needs
-
 process-record-ok-requires : tie.Need-process-record-ok-requires
 unfolding processPlace
 process-record-ok-requires c κs = (c .before .before .before .before .before .pre .0, c .find-process .ensures)
@@ -31,12 +25,6 @@ admit-requires c κs =
       a .pre .1 .1 (c .before .before .before .before .find-process .result),
     )
 
-same-length : tie.Need-same-length
-same-length c = search needs
-
-same-length-2 : tie.Need-same-length-2
-same-length-2 c = search needs
-
 returns-2 : tie.Need-returns-2
 unfolding processPlace
 returns-2 c =
@@ -50,11 +38,11 @@ pub process-record-spec : {M : Type 1} → statement M
 process-record-spec =
     tie.close
     (tie.spec
-    cast-find-process
-    find-process-requires
+    (λ c. search needs)
+    (λ c κs. search needs)
     process-record-ok-requires
     returns
     admit-requires
-    same-length
-    same-length-2
+    (λ c. search needs)
+    (λ c. search needs)
     returns-2)

@@ -9,9 +9,6 @@ use borrow.Author.Needs.{needs}
 use Rattle.sound.proofs.record_heard.Statement.{statement}
 use Rattle.sound.proofs.record_heard.Tie as tie
 
-is-nameable-requires : tie.Need-is-nameable-requires
-is-nameable-requires c κs = search needs
-
 returns : tie.Need-returns
 returns c =
     let a = c .before .before .before in
@@ -23,9 +20,6 @@ action-at-requires c κs =
     let n = nameable-signal (c .before .before .before .args .r .signal)
     (sym (c .before .is-nameable .ensures) ∙ not-false (c .before .is-nameable .result) (c .if1 .left)) in
     (c .before .before .before .pre .0, (c .before .before .before .pre .1, (n .low, n .high)))
-
-is-ignored-requires : tie.Need-is-ignored-requires
-is-ignored-requires c κs = search needs
 
 returns-2 : tie.Need-returns-2
 returns-2 c =
@@ -39,4 +33,4 @@ returns-2 c =
 pub record-heard-spec : {M : Type 1} → statement M
 record-heard-spec =
     tie.close
-    (tie.spec is-nameable-requires returns action-at-requires is-ignored-requires returns-2)
+    (tie.spec (λ c κs. search needs) returns action-at-requires (λ c κs. search needs) returns-2)

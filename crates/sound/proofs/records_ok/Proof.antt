@@ -9,9 +9,6 @@ use borrow.Author.Needs.{needs}
 use Rattle.sound.proofs.records_ok.Statement.{statement}
 use Rattle.sound.proofs.records_ok.Tie as tie
 
-slice-aggregate-thread-buffer-ok : tie.Need-slice-aggregate-thread-buffer-ok
-slice-aggregate-thread-buffer-ok c = search needs
-
 thread-buffer-ok-requires : tie.Need-thread-buffer-ok-requires
 thread-buffer-ok-requires c κs =
     let a = c .before .before .before .before .before in
@@ -22,9 +19,6 @@ returns c =
     let a = c .before .before .before .before .before .before .before .before in
     let d = c .before .before in
     threads-fail (a .args .ps .now) (a .args .ts .now) (recordsOf (a .args .tb .now)) (recordsOf (a .args .pb .now)) (sym (d .thread-buffer-ok .ensures .0) ∙ not-true (d .thread-buffer-ok .result) (c .if1 .taken))
-
-slice-aggregate-process-buffer-ok : tie.Need-slice-aggregate-process-buffer-ok
-slice-aggregate-process-buffer-ok c = search needs
 
 process-buffer-ok-requires : tie.Need-process-buffer-ok-requires
 process-buffer-ok-requires c κs =
@@ -37,15 +31,6 @@ returns-2 c =
     let a = c .before .before .before .before .before .before .before .before .before .before .before .before in
     let d = c .before .before in
     processes-fail (a .args .ps .now) (a .args .ts .now) (recordsOf (a .args .tb .now)) (recordsOf (a .args .pb .now)) (sym (d .process-buffer-ok .ensures .0) ∙ not-true (d .process-buffer-ok .result) (c .if2 .taken))
-
-slice-aggregate-all-within : tie.Need-slice-aggregate-all-within
-slice-aggregate-all-within c = search needs
-
-slice-aggregate-all-within-2 : tie.Need-slice-aggregate-all-within-2
-slice-aggregate-all-within-2 c = search needs
-
-all-within-requires : tie.Need-all-within-requires
-all-within-requires c κs = search needs
 
 returns-3 : tie.Need-returns-3
 returns-3 c =
@@ -63,13 +48,13 @@ pub records-ok-spec : {M : Type 1} → statement M
 records-ok-spec =
     tie.close
     (tie.spec
-    slice-aggregate-thread-buffer-ok
+    (λ c. search needs)
     thread-buffer-ok-requires
     returns
-    slice-aggregate-process-buffer-ok
+    (λ c. search needs)
     process-buffer-ok-requires
     returns-2
-    slice-aggregate-all-within
-    slice-aggregate-all-within-2
-    all-within-requires
+    (λ c. search needs)
+    (λ c. search needs)
+    (λ c κs. search needs)
     returns-3)

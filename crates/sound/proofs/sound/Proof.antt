@@ -11,16 +11,10 @@ returns c =
     let a = c .before .before .before .before .before in
     wrong-length (a .args .ps .now) (a .args .ts .now) (a .args .tb .now) (a .args .pb .now) (c .if1 .taken)
 
-is-laid-requires : tie.Need-is-laid-requires
-is-laid-requires c κs = search needs
-
 returns-2 : tie.Need-returns-2
 returns-2 c =
     let a = c .before .before .before .before .before .before .before in
     threads-unlaid (a .args .ps .now) (a .args .ts .now) (a .args .tb .now) (a .args .pb .now) (c .before .before .if1 .left) (sym (c .before .is-laid .ensures) ∙ not-true (c .before .is-laid .result) (c .if2 .taken))
-
-is-laid-requires-2 : tie.Need-is-laid-requires-2
-is-laid-requires-2 c κs = search needs
 
 returns-3 : tie.Need-returns-3
 returns-3 c =
@@ -74,9 +68,9 @@ sound-spec =
     tie.close
     (tie.spec
     returns
-    is-laid-requires
+    (λ c κs. search needs)
     returns-2
-    is-laid-requires-2
+    (λ c κs. search needs)
     returns-3
     places-ok-requires
     returns-4

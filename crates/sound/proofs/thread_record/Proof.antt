@@ -7,18 +7,6 @@ use borrow.Author.Needs.{needs}
 use Rattle.sound.proofs.thread_record.Statement.{statement}
 use Rattle.sound.proofs.thread_record.Tie as tie
 
-cast-find-process : tie.Need-cast-find-process
-cast-find-process c = search needs
-
-find-process-requires : tie.Need-find-process-requires
-find-process-requires c κs = search needs
-
-cast-find-thread : tie.Need-cast-find-thread
-cast-find-thread c = search needs
-
-find-thread-requires : tie.Need-find-thread-requires
-find-thread-requires c κs = search needs
-
 thread-record-ok-requires : tie.Need-thread-record-ok-requires
 unfolding processPlace threadPlace
 thread-record-ok-requires c κs = (c .before .before .before .before .before .before .before .before .pre .0, (c .before .before .find-process .ensures, c .find-thread .ensures))
@@ -39,12 +27,6 @@ admit-requires c κs =
       a .pre .1 .1 (c .before .before .before .before .before .before .find-process .result),
     )
 
-same-length : tie.Need-same-length
-same-length c = search needs
-
-same-length-2 : tie.Need-same-length-2
-same-length-2 c = search needs
-
 returns-2 : tie.Need-returns-2
 unfolding processPlace threadPlace
 returns-2 c =
@@ -59,13 +41,13 @@ pub thread-record-spec : {M : Type 1} → statement M
 thread-record-spec =
     tie.close
     (tie.spec
-    cast-find-process
-    find-process-requires
-    cast-find-thread
-    find-thread-requires
+    (λ c. search needs)
+    (λ c κs. search needs)
+    (λ c. search needs)
+    (λ c κs. search needs)
     thread-record-ok-requires
     returns
     admit-requires
-    same-length
-    same-length-2
+    (λ c. search needs)
+    (λ c. search needs)
     returns-2)

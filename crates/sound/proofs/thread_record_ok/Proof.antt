@@ -16,9 +16,6 @@ thread-field-at-requires c κs =
     let h = thread-inside (a .args .ps .now) (a .args .ts .now) (a .args .r) (a .args .place) (a .args .queue) (a .pre .1 .0) (a .pre .1 .1) (c .if1 .left) in
     (a .pre .0 .1, (h, omega arith))
 
-cast-if2 : tie.Need-cast-if2
-cast-if2 c = search needs
-
 returns-2 : tie.Need-returns-2
 returns-2 c =
     let a = c .before .before .before .before .before .before in
@@ -39,4 +36,4 @@ returns-3 c =
 pub thread-record-ok-spec : {M : Type 1} → statement M
 thread-record-ok-spec =
     tie.close
-    (tie.spec returns thread-field-at-requires cast-if2 returns-2 record-heard-requires returns-3)
+    (tie.spec returns thread-field-at-requires (λ c. search needs) returns-2 record-heard-requires returns-3)

@@ -18,22 +18,10 @@ abbrev μ-loop : tie.MeasureT-loop
 loop-holds : tie.Need-loop-holds Inv-loop μ-loop
 loop-holds c = (omega arith, refl)
 
-add-ws : tie.Need-add-ws Inv-loop μ-loop
-add-ws c = search needs
-
-mul-ws : tie.Need-mul-ws Inv-loop μ-loop
-mul-ws c = search needs
-
 slice-write-ws : tie.Need-slice-write-ws Inv-loop μ-loop
 slice-write-ws c =
     let a = c .before .before in
     omega (arith, ap length (c .before .loop .inv .1), length-sets (a .args .ws .now) (a .args .from) (replicate (c .before .loop .i) 0))
-
-add-i : tie.Need-add-i Inv-loop μ-loop
-add-i c = search needs
-
-loop-less : tie.Need-loop-less Inv-loop μ-loop
-loop-less c = search needs
 
 loop-again : tie.Need-loop-again Inv-loop μ-loop
 loop-again c =
@@ -59,11 +47,11 @@ clear-spec =
     Inv-loop
     μ-loop
     loop-holds
-    add-ws
-    mul-ws
+    (λ c. search needs)
+    (λ c. search needs)
     slice-write-ws
-    add-i
-    loop-less
+    (λ c. search needs)
+    (λ c. search needs)
     loop-again
     same-length
     returns)

@@ -4,12 +4,6 @@ use Rattle.tables.proofs.Places.{processes-cleared}
 use Rattle.tables.proofs.clear_processes.Statement.{statement}
 use Rattle.tables.proofs.clear_processes.Tie as tie
 
-clear-requires : tie.Need-clear-requires
-clear-requires c κs = search needs
-
-same-length : tie.Need-same-length
-same-length c = search needs
-
 returns : tie.Need-returns
 returns c =
     let d = c .before .before in
@@ -17,4 +11,4 @@ returns c =
     processes-cleared (a .args .ps .now) (d .clear .last .0) (a .pre) (d .clear .ensures)
 
 pub clear-processes-spec : {M : Type 1} → statement M
-clear-processes-spec = tie.close (tie.spec clear-requires same-length returns)
+clear-processes-spec = tie.close (tie.spec (λ c κs. search needs) (λ c. search needs) returns)

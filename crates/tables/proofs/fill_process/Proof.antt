@@ -6,27 +6,6 @@ use Rattle.tables.proofs.Places.{process-filled}
 use Rattle.tables.proofs.fill_process.Statement.{statement}
 use Rattle.tables.proofs.fill_process.Tie as tie
 
-clear-process-requires : tie.Need-clear-process-requires
-clear-process-requires c κs = search needs
-
-put-field-requires : tie.Need-put-field-requires
-put-field-requires c κs = search needs
-
-put-field-requires-2 : tie.Need-put-field-requires-2
-put-field-requires-2 c κs = search needs
-
-put-field-requires-3 : tie.Need-put-field-requires-3
-put-field-requires-3 c κs = search needs
-
-put-field-requires-4 : tie.Need-put-field-requires-4
-put-field-requires-4 c κs = search needs
-
-put-field-requires-5 : tie.Need-put-field-requires-5
-put-field-requires-5 c κs = search needs
-
-same-length : tie.Need-same-length
-same-length c = search needs
-
 returns : tie.Need-returns
 returns c =
     let p₅ = c .before .before in
@@ -44,11 +23,11 @@ pub fill-process-spec : {M : Type 1} → statement M
 fill-process-spec =
     tie.close
     (tie.spec
-    clear-process-requires
-    put-field-requires
-    put-field-requires-2
-    put-field-requires-3
-    put-field-requires-4
-    put-field-requires-5
-    same-length
+    (λ c κs. search needs)
+    (λ c κs. search needs)
+    (λ c κs. search needs)
+    (λ c κs. search needs)
+    (λ c κs. search needs)
+    (λ c κs. search needs)
+    (λ c. search needs)
     returns)

@@ -6,21 +6,6 @@ use Rattle.tables.proofs.Places.{thread-filled}
 use Rattle.tables.proofs.fill_thread.Statement.{statement}
 use Rattle.tables.proofs.fill_thread.Tie as tie
 
-clear-thread-requires : tie.Need-clear-thread-requires
-clear-thread-requires c κs = search needs
-
-put-thread-field-requires : tie.Need-put-thread-field-requires
-put-thread-field-requires c κs = search needs
-
-put-thread-field-requires-2 : tie.Need-put-thread-field-requires-2
-put-thread-field-requires-2 c κs = search needs
-
-put-thread-field-requires-3 : tie.Need-put-thread-field-requires-3
-put-thread-field-requires-3 c κs = search needs
-
-same-length : tie.Need-same-length
-same-length c = search needs
-
 returns : tie.Need-returns
 returns c =
     let p₃ = c .before .before in
@@ -36,9 +21,9 @@ pub fill-thread-spec : {M : Type 1} → statement M
 fill-thread-spec =
     tie.close
     (tie.spec
-    clear-thread-requires
-    put-thread-field-requires
-    put-thread-field-requires-2
-    put-thread-field-requires-3
-    same-length
+    (λ c κs. search needs)
+    (λ c κs. search needs)
+    (λ c κs. search needs)
+    (λ c κs. search needs)
+    (λ c. search needs)
     returns)

@@ -17,9 +17,6 @@ returns c =
     let xs = heldProcesses (a .args .ps .now) in
     sym (ap (λ n. find (isProcess n) xs) (c .if1 .taken) ∙ find-zero xs ∙ length-heldProcesses (a .args .ps .now))
 
-process-place-requires : tie.Need-process-place-requires
-process-place-requires c κs = search needs
-
 returns-2 : tie.Need-returns-2
 returns-2 c =
     let a = c .before .before .before in
@@ -28,4 +25,4 @@ returns-2 c =
     e ∙ sym (find-live xs (a .args .id) (ap not (ne-eqb (a .args .id) 0 (c .before .if1 .left))))
 
 pub find-process-spec : {M : Type 1} → statement M
-find-process-spec = tie.close (tie.spec returns process-place-requires returns-2)
+find-process-spec = tie.close (tie.spec returns (λ c κs. search needs) returns-2)

@@ -17,9 +17,6 @@ returns c =
     let xs = heldThreads (a .args .ts .now) in
     sym (ap (λ n. find (isThread n) xs) (c .if1 .taken) ∙ find-zero-thread xs ∙ length-heldThreads (a .args .ts .now))
 
-thread-place-requires : tie.Need-thread-place-requires
-thread-place-requires c κs = search needs
-
 returns-2 : tie.Need-returns-2
 returns-2 c =
     let a = c .before .before .before in
@@ -28,4 +25,4 @@ returns-2 c =
     e ∙ sym (find-live-thread xs (a .args .id) (ap not (ne-eqb (a .args .id) 0 (c .before .if1 .left))))
 
 pub find-thread-spec : {M : Type 1} → statement M
-find-thread-spec = tie.close (tie.spec returns thread-place-requires returns-2)
+find-thread-spec = tie.close (tie.spec returns (λ c κs. search needs) returns-2)

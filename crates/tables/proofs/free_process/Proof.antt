@@ -4,12 +4,9 @@ use Rattle.tables.specs.Tables.{hasProcessId}
 use Rattle.tables.proofs.free_process.Statement.{statement}
 use Rattle.tables.proofs.free_process.Tie as tie
 
-process-place-requires : tie.Need-process-place-requires
-process-place-requires c κs = search needs
-
 returns : tie.Need-returns
 unfolding hasProcessId
 returns c = c .process-place .ensures
 
 pub free-process-spec : {M : Type 1} → statement M
-free-process-spec = tie.close (tie.spec process-place-requires returns)
+free-process-spec = tie.close (tie.spec (λ c κs. search needs) returns)

@@ -4,12 +4,9 @@ use Rattle.tables.specs.Tables.{hasThreadId}
 use Rattle.tables.proofs.free_thread.Statement.{statement}
 use Rattle.tables.proofs.free_thread.Tie as tie
 
-thread-place-requires : tie.Need-thread-place-requires
-thread-place-requires c κs = search needs
-
 returns : tie.Need-returns
 unfolding hasThreadId
 returns c = c .thread-place .ensures
 
 pub free-thread-spec : {M : Type 1} → statement M
-free-thread-spec = tie.close (tie.spec thread-place-requires returns)
+free-thread-spec = tie.close (tie.spec (λ c κs. search needs) returns)

@@ -24,9 +24,6 @@ abbrev μ-loop : tie.MeasureT-loop
 loop-holds : tie.Need-loop-holds Inv-loop μ-loop
 loop-holds c = let a = c .before in (omega arith, find-none (hasThreadId (a .args .id)) noThread (heldThreads (a .args .ts .now)))
 
-thread-field-at-requires : tie.Need-thread-field-at-requires Inv-loop μ-loop
-thread-field-at-requires c κs = search needs
-
 returns : tie.Need-returns Inv-loop μ-loop
 returns c =
     let l = c .before .before .before in
@@ -34,12 +31,6 @@ returns c =
     let w = c .before .thread-field-at .result in
     sym (find-here (hasThreadId (a .args .id)) noThread (heldThreads (a .args .ts .now)) (l .loop .i) (rw length-heldThreads (omega arith)) (l .loop .inv .1)
     (thread-test (a .args .ts .now) (l .loop .i) (a .args .id) w (c .before .thread-field-at .ensures) ∙ eq-eqb w (a .args .id) (c .if1 .taken)))
-
-add-i : tie.Need-add-i Inv-loop μ-loop
-add-i c = search needs
-
-loop-less : tie.Need-loop-less Inv-loop μ-loop
-loop-less c = search needs
 
 loop-again : tie.Need-loop-again Inv-loop μ-loop
 loop-again c =
@@ -63,9 +54,9 @@ thread-place-spec =
     Inv-loop
     μ-loop
     loop-holds
-    thread-field-at-requires
+    (λ c κs. search needs)
     returns
-    add-i
-    loop-less
+    (λ c. search needs)
+    (λ c. search needs)
     loop-again
     returns-2)

@@ -11,9 +11,6 @@ use Rattle.taking.specs.Takes.{handlerChanges, outcomeOf}
 use Rattle.taking.proofs.deliver_to.Statement.{statement}
 use Rattle.taking.proofs.deliver_to.Tie as tie
 
-outcome-of-requires : tie.Need-outcome-of-requires
-outcome-of-requires c κs = search needs
-
 suffer-requires : tie.Need-suffer-requires
 suffer-requires c κs =
     let a = c .before .before .before .before .before .before .before .before .before .before .before in
@@ -43,18 +40,6 @@ handle-requires c κs =
     let e = by-handler t (a .args .a) s (ne-eqb (a .args .a .handler) sigDfl (c .before .before .before .before .if1 .left)) in
     (a .pre .0, all-fit cs st (a .pre .1) (handlerChanges t (a .args .a) s) e)
 
-same-length : tie.Need-same-length
-same-length c = search needs
-
-same-length-2 : tie.Need-same-length-2
-same-length-2 c = search needs
-
-same-length-3 : tie.Need-same-length-3
-same-length-3 c = search needs
-
-same-length-4 : tie.Need-same-length-4
-same-length-4 c = search needs
-
 returns : tie.Need-returns
 returns c =
     let a = c .before .before .before .before .before .before .before .before .before .before .before .before .before .before .before .before .before .before .before .before in
@@ -70,18 +55,6 @@ returns c =
     let e = by-default t (a .args .a) s (eq-eqb (a .args .a .handler) sigDfl (c .before .before .before .before .before .before .before .before .before .before .before .before .before .before .if1 .taken)) (outcomeOf (o .result)) (o .ensures) in
     let w = c .before .before .before .before .before .before .before .before .suffer in
     (made cs st (outcomeChanges (outcomeOf (o .result)) (a .args .process)) e (storeOf (w .last .0) (w .last .1 .0) (w .last .1 .1 .0) (w .last .1 .1 .1 .0)) (w .ensures .0), w .ensures .1)
-
-same-length-5 : tie.Need-same-length-5
-same-length-5 c = search needs
-
-same-length-6 : tie.Need-same-length-6
-same-length-6 c = search needs
-
-same-length-7 : tie.Need-same-length-7
-same-length-7 c = search needs
-
-same-length-8 : tie.Need-same-length-8
-same-length-8 c = search needs
 
 returns-2 : tie.Need-returns-2
 returns-2 c =
@@ -102,16 +75,16 @@ pub deliver-to-spec : {M : Type 1} → statement M
 deliver-to-spec =
     tie.close
     (tie.spec
-    outcome-of-requires
+    (λ c κs. search needs)
     suffer-requires
     handle-requires
-    same-length
-    same-length-2
-    same-length-3
-    same-length-4
+    (λ c. search needs)
+    (λ c. search needs)
+    (λ c. search needs)
+    (λ c. search needs)
     returns
-    same-length-5
-    same-length-6
-    same-length-7
-    same-length-8
+    (λ c. search needs)
+    (λ c. search needs)
+    (λ c. search needs)
+    (λ c. search needs)
     returns-2)

@@ -9,12 +9,6 @@ use Rattle.taking.specs.Takes.{outcomeOf}
 use Rattle.taking.proofs.delivered_to.Statement.{statement}
 use Rattle.taking.proofs.delivered_to.Tie as tie
 
-outcome-of-requires : tie.Need-outcome-of-requires
-outcome-of-requires c κs = search needs
-
-suffered-requires : tie.Need-suffered-requires
-suffered-requires c κs = search needs
-
 returns : tie.Need-returns
 returns c =
     let a = c .before .before .before .before .args in
@@ -28,4 +22,4 @@ returns-2 c =
     answers-handler (threadOf 0 0 (a .mask)) (a .a) (a .r) (ne-eqb (a .a .handler) sigDfl (c .if1 .left))
 
 pub delivered-to-spec : {M : Type 1} → statement M
-delivered-to-spec = tie.close (tie.spec outcome-of-requires suffered-requires returns returns-2)
+delivered-to-spec = tie.close (tie.spec (λ c κs. search needs) (λ c κs. search needs) returns returns-2)

@@ -7,9 +7,6 @@ use Rattle.taking.proofs.Handlers.{kept-made, mask-fits, reset-fits, re
 use Rattle.taking.proofs.handle.Statement.{statement}
 use Rattle.taking.proofs.handle.Tie as tie
 
-handler-mask-requires : tie.Need-handler-mask-requires
-handler-mask-requires c κs = search needs
-
 set-mask-requires : tie.Need-set-mask-requires
 set-mask-requires c κs =
     let a = c .before .before .before .before .before .before .before .before .before in
@@ -20,12 +17,6 @@ set-mask-requires c κs =
     let st = storeOf ps ts tb pb in
     let t = threadOf (a .args .thread) (a .args .process) (a .args .mask) in
     (a .pre .0, mask-fits t (a .args .a) (a .args .signal) st (a .pre .1) (c .handler-mask .result) (c .handler-mask .ensures))
-
-is-reset-requires : tie.Need-is-reset-requires
-is-reset-requires c κs = search needs
-
-reset-of-requires : tie.Need-reset-of-requires
-reset-of-requires c κs = search needs
 
 store-action-requires : tie.Need-store-action-requires
 store-action-requires c κs =
@@ -41,18 +32,6 @@ store-action-requires c κs =
     let st′ = storeOf ps (w .last .1 .0) tb pb in
     let r = sym (c .before .before .before .before .before .before .is-reset .ensures) ∙ c .before .before .before .before .before .if1 .taken in
     (w .ensures .1, reset-fits t (a .args .a) (a .args .signal) st (a .pre .1) (m .result) (m .ensures) st′ (w .ensures .0) r (c .reset-of .result) (c .reset-of .ensures))
-
-same-length : tie.Need-same-length
-same-length c = search needs
-
-same-length-2 : tie.Need-same-length-2
-same-length-2 c = search needs
-
-same-length-3 : tie.Need-same-length-3
-same-length-3 c = search needs
-
-same-length-4 : tie.Need-same-length-4
-same-length-4 c = search needs
 
 returns : tie.Need-returns
 returns c =
@@ -70,18 +49,6 @@ returns c =
     let n = c .before .before .before .before .before .before .before .before .before .reset-of in
     let x = c .before .before .before .before .before .before .before .before .store-action in
     (reset-made t (a .args .a) (a .args .signal) st (a .pre .1) (m .result) (m .ensures) st′ (w .ensures .0) r (n .result) (n .ensures) (storeOf (x .last .0) (x .last .1 .0) (x .last .1 .1 .0) (x .last .1 .1 .1 .0)) (x .ensures .0), x .ensures .1)
-
-same-length-5 : tie.Need-same-length-5
-same-length-5 c = search needs
-
-same-length-6 : tie.Need-same-length-6
-same-length-6 c = search needs
-
-same-length-7 : tie.Need-same-length-7
-same-length-7 c = search needs
-
-same-length-8 : tie.Need-same-length-8
-same-length-8 c = search needs
 
 returns-2 : tie.Need-returns-2
 returns-2 c =
@@ -102,18 +69,18 @@ pub handle-spec : {M : Type 1} → statement M
 handle-spec =
     tie.close
     (tie.spec
-    handler-mask-requires
+    (λ c κs. search needs)
     set-mask-requires
-    is-reset-requires
-    reset-of-requires
+    (λ c κs. search needs)
+    (λ c κs. search needs)
     store-action-requires
-    same-length
-    same-length-2
-    same-length-3
-    same-length-4
+    (λ c. search needs)
+    (λ c. search needs)
+    (λ c. search needs)
+    (λ c. search needs)
     returns
-    same-length-5
-    same-length-6
-    same-length-7
-    same-length-8
+    (λ c. search needs)
+    (λ c. search needs)
+    (λ c. search needs)
+    (λ c. search needs)
     returns-2)

@@ -4,30 +4,12 @@ use Rattle.taking.proofs.Handlers.{mask-bare, mask-blocking}
 use Rattle.taking.proofs.handler_mask.Statement.{statement}
 use Rattle.taking.proofs.handler_mask.Tie as tie
 
-union-requires : tie.Need-union-requires
-union-requires c κs = search needs
-
-union-requires-2 : tie.Need-union-requires-2
-union-requires-2 c κs = search needs
-
-maskable-requires : tie.Need-maskable-requires
-maskable-requires c κs = search needs
-
 returns : tie.Need-returns
 returns c =
     let a = c .before .before .before .before .before .args in
     let both = c .before .before .before .before .union in
     let all = c .before .union2 in
     mask-bare (a .old) (a .a) (a .signal) (both .result) (both .ensures) (all .result) (c .maskable .result) (c .maskable .ensures) (c .before .before .if1 .taken) (all .ensures)
-
-of-signal-requires : tie.Need-of-signal-requires
-of-signal-requires c κs = search needs
-
-union-requires-3 : tie.Need-union-requires-3
-union-requires-3 c κs = search needs
-
-maskable-requires-2 : tie.Need-maskable-requires-2
-maskable-requires-2 c κs = search needs
 
 returns-2 : tie.Need-returns-2
 returns-2 c =
@@ -41,11 +23,11 @@ pub handler-mask-spec : {M : Type 1} → statement M
 handler-mask-spec =
     tie.close
     (tie.spec
-    union-requires
-    union-requires-2
-    maskable-requires
+    (λ c κs. search needs)
+    (λ c κs. search needs)
+    (λ c κs. search needs)
     returns
-    of-signal-requires
-    union-requires-3
-    maskable-requires-2
+    (λ c κs. search needs)
+    (λ c κs. search needs)
+    (λ c κs. search needs)
     returns-2)

@@ -6,21 +6,6 @@ use Rattle.taking.specs.Takes.{infoIn}
 use Rattle.taking.proofs.info_of.Statement.{statement}
 use Rattle.taking.proofs.info_of.Tie as tie
 
-enum-told : tie.Need-enum-told
-enum-told c = search needs
-
-mark-info-requires : tie.Need-mark-info-requires
-mark-info-requires c κs = search needs
-
-enum-known-next : tie.Need-enum-known-next
-enum-known-next c = search needs
-
-mark-info-requires-2 : tie.Need-mark-info-requires-2
-mark-info-requires-2 c κs = search needs
-
-enum-known-next-2 : tie.Need-enum-known-next-2
-enum-known-next-2 c = search needs
-
 returns : tie.Need-returns
 unfolding infoIn nextOf
 returns c = c .mark-info .ensures ∙ ap (λ n. infoIn (nextOf n)) (sym (c .before .enum-told .given .1))
@@ -37,11 +22,11 @@ pub info-of-spec : {M : Type 1} → statement M
 info-of-spec =
     tie.close
     (tie.spec
-    enum-told
-    mark-info-requires
-    enum-known-next
-    mark-info-requires-2
-    enum-known-next-2
+    (λ c. search needs)
+    (λ c κs. search needs)
+    (λ c. search needs)
+    (λ c κs. search needs)
+    (λ c. search needs)
     returns
     returns-2
     returns-3)

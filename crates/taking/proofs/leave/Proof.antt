@@ -10,12 +10,6 @@ use Rattle.taking.specs.Takes.{leaving}
 use Rattle.taking.proofs.leave.Statement.{statement}
 use Rattle.taking.proofs.leave.Tie as tie
 
-enum-told : tie.Need-enum-told
-enum-told c = search needs
-
-enum-known-next : tie.Need-enum-known-next
-enum-known-next c = search needs
-
 clear-mark-requires : tie.Need-clear-mark-requires
 unfolding leaving nextOf
 clear-mark-requires c κs =
@@ -30,9 +24,6 @@ clear-mark-requires c κs =
     let ch = clearMark (targetQueue (d .0) (d .1 .0)) (d .1 .1 .0) in
     let e = ap (λ n. leaving (nextOf n)) (c .before .before .before .before .before .next .given .1) in
     (a .pre .0, starts cs st (a .pre .1) ch [] e)
-
-enum-known-next-2 : tie.Need-enum-known-next-2
-enum-known-next-2 c = search needs
 
 drop-oldest-requires : tie.Need-drop-oldest-requires
 unfolding leaving nextOf
@@ -62,18 +53,6 @@ returns c =
     let e = ap (λ n. leaving (nextOf n)) (c .enum-told .given .1) in
     (made-none cs st e, a .pre .0)
 
-same-length : tie.Need-same-length
-same-length c = search needs
-
-same-length-2 : tie.Need-same-length-2
-same-length-2 c = search needs
-
-same-length-3 : tie.Need-same-length-3
-same-length-3 c = search needs
-
-same-length-4 : tie.Need-same-length-4
-same-length-4 c = search needs
-
 returns-2 : tie.Need-returns-2
 unfolding leaving nextOf
 returns-2 c =
@@ -89,18 +68,6 @@ returns-2 c =
     let e = ap (λ n. leaving (nextOf n)) (c .before .before .before .before .before .before .before .before .before .before .next .given .1) in
     let w = c .before .before .before .before .clear-mark in
     (made-one cs st ch e (storeOf (w .last .0) (w .last .1 .0) tb pb) (w .ensures .0), w .ensures .1)
-
-same-length-5 : tie.Need-same-length-5
-same-length-5 c = search needs
-
-same-length-6 : tie.Need-same-length-6
-same-length-6 c = search needs
-
-same-length-7 : tie.Need-same-length-7
-same-length-7 c = search needs
-
-same-length-8 : tie.Need-same-length-8
-same-length-8 c = search needs
 
 returns-3 : tie.Need-returns-3
 unfolding leaving nextOf
@@ -122,19 +89,19 @@ pub leave-spec : {M : Type 1} → statement M
 leave-spec =
     tie.close
     (tie.spec
-    enum-told
-    enum-known-next
+    (λ c. search needs)
+    (λ c. search needs)
     clear-mark-requires
-    enum-known-next-2
+    (λ c. search needs)
     drop-oldest-requires
     returns
-    same-length
-    same-length-2
-    same-length-3
-    same-length-4
+    (λ c. search needs)
+    (λ c. search needs)
+    (λ c. search needs)
+    (λ c. search needs)
     returns-2
-    same-length-5
-    same-length-6
-    same-length-7
-    same-length-8
+    (λ c. search needs)
+    (λ c. search needs)
+    (λ c. search needs)
+    (λ c. search needs)
     returns-3)

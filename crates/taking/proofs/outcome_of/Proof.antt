@@ -8,9 +8,6 @@ use Rattle.taking.specs.Takes.{outcomeOf}
 use Rattle.taking.proofs.outcome_of.Statement.{statement}
 use Rattle.taking.proofs.outcome_of.Tie as tie
 
-is-ignoring-requires : tie.Need-is-ignoring-requires
-is-ignoring-requires c κs = search needs
-
 returns : tie.Need-returns
 unfolding outcomeOf
 returns c = is-ignores (c .before .before .args .s) (sym (c .before .is-ignoring .ensures) ∙ c .if1 .taken)
@@ -32,4 +29,4 @@ returns-4 c =
     is-ends s (sym (c .before .before .before .is-ignoring .ensures) ∙ c .before .before .if1 .left) (c .before .if2 .left) (ne-eqb s SIGCONT (c .if3 .left))
 
 pub outcome-of-spec : {M : Type 1} → statement M
-outcome-of-spec = tie.close (tie.spec is-ignoring-requires returns returns-2 returns-3 returns-4)
+outcome-of-spec = tie.close (tie.spec (λ c κs. search needs) returns returns-2 returns-3 returns-4)

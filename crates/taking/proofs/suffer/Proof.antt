@@ -10,12 +10,6 @@ use Rattle.taking.specs.Takes.{outcomeOf}
 use Rattle.taking.proofs.suffer.Statement.{statement}
 use Rattle.taking.proofs.suffer.Tie as tie
 
-enum-told : tie.Need-enum-told
-enum-told c = search needs
-
-enum-told-2 : tie.Need-enum-told-2
-enum-told-2 c = search needs
-
 set-stopped-requires : tie.Need-set-stopped-requires
 unfolding outcomeOf outcomeChanges
 set-stopped-requires c κs =
@@ -29,12 +23,6 @@ set-stopped-requires c κs =
     let cs = outcomeChanges (outcomeOf (a .args .o)) p in
     let e = ap (λ o. outcomeChanges (outcomeOf o) p) (c .before .before .before .before .enum-told2 .given .1) in
     (a .pre .0, starts cs st (a .pre .1) (setStopped p 1) [] e)
-
-enum-told-3 : tie.Need-enum-told-3
-enum-told-3 c = search needs
-
-enum-told-4 : tie.Need-enum-told-4
-enum-told-4 c = search needs
 
 remove-process-requires : tie.Need-remove-process-requires
 unfolding outcomeOf outcomeChanges
@@ -63,18 +51,6 @@ returns c =
     let cs = outcomeChanges (outcomeOf (a .args .o)) p in
     let e = ap (λ o. outcomeChanges (outcomeOf o) p) (c .enum-told .given .1) in
     (made-none cs st e, a .pre .0)
-
-same-length : tie.Need-same-length
-same-length c = search needs
-
-same-length-2 : tie.Need-same-length-2
-same-length-2 c = search needs
-
-same-length-3 : tie.Need-same-length-3
-same-length-3 c = search needs
-
-same-length-4 : tie.Need-same-length-4
-same-length-4 c = search needs
 
 returns-2 : tie.Need-returns-2
 unfolding outcomeOf outcomeChanges
@@ -105,18 +81,6 @@ returns-3 c =
     let e = ap (λ o. outcomeChanges (outcomeOf o) p) (c .enum-told3 .given .1) in
     (made-none cs st e, a .pre .0)
 
-same-length-5 : tie.Need-same-length-5
-same-length-5 c = search needs
-
-same-length-6 : tie.Need-same-length-6
-same-length-6 c = search needs
-
-same-length-7 : tie.Need-same-length-7
-same-length-7 c = search needs
-
-same-length-8 : tie.Need-same-length-8
-same-length-8 c = search needs
-
 returns-4 : tie.Need-returns-4
 unfolding outcomeOf outcomeChanges
 returns-4 c =
@@ -136,21 +100,21 @@ pub suffer-spec : {M : Type 1} → statement M
 suffer-spec =
     tie.close
     (tie.spec
-    enum-told
-    enum-told-2
+    (λ c. search needs)
+    (λ c. search needs)
     set-stopped-requires
-    enum-told-3
-    enum-told-4
+    (λ c. search needs)
+    (λ c. search needs)
     remove-process-requires
     returns
-    same-length
-    same-length-2
-    same-length-3
-    same-length-4
+    (λ c. search needs)
+    (λ c. search needs)
+    (λ c. search needs)
+    (λ c. search needs)
     returns-2
     returns-3
-    same-length-5
-    same-length-6
-    same-length-7
-    same-length-8
+    (λ c. search needs)
+    (λ c. search needs)
+    (λ c. search needs)
+    (λ c. search needs)
     returns-4)

@@ -7,18 +7,6 @@ use Rattle.taking.specs.Takes.{outcomeOf}
 use Rattle.taking.proofs.suffered.Statement.{statement}
 use Rattle.taking.proofs.suffered.Tie as tie
 
-enum-told : tie.Need-enum-told
-enum-told c = search needs
-
-enum-told-2 : tie.Need-enum-told-2
-enum-told-2 c = search needs
-
-enum-told-3 : tie.Need-enum-told-3
-enum-told-3 c = search needs
-
-enum-told-4 : tie.Need-enum-told-4
-enum-told-4 c = search needs
-
 returns : tie.Need-returns
 unfolding answerOf outcomeAnswer outcomeOf
 returns c = ap (λ o. outcomeAnswer (outcomeOf o) (c .before .before .args .signal)) (sym (c .enum-told .given .1))
@@ -38,4 +26,4 @@ returns-4 c = ap (λ o. outcomeAnswer (outcomeOf o) (c .before .before .args .si
 pub suffered-spec : {M : Type 1} → statement M
 suffered-spec =
     tie.close
-    (tie.spec enum-told enum-told-2 enum-told-3 enum-told-4 returns returns-2 returns-3 returns-4)
+    (tie.spec (λ c. search needs) (λ c. search needs) (λ c. search needs) (λ c. search needs) returns returns-2 returns-3 returns-4)

@@ -8,9 +8,6 @@ use Rattle.taking.proofs.Taken.{leaving-fits, delivering-fits, taken, a
 use Rattle.taking.proofs.take_next.Statement.{statement}
 use Rattle.taking.proofs.take_next.Tie as tie
 
-info-of-requires : tie.Need-info-of-requires
-info-of-requires c κs = search needs
-
 process-of-requires : tie.Need-process-of-requires
 process-of-requires c κs =
     let a = c .before .before .before .before .before .before in
@@ -74,21 +71,6 @@ deliver-to-requires c κs =
     let w = c .before .before .before .before .before .before .before .before .before .before .before .before .leave in
     (w .ensures .1, delivering-fits d (storeOf (w .last .0) (w .last .1 .0) (w .last .1 .1 .0) (w .last .1 .1 .1 .0)) (w .ensures .0))
 
-delivered-to-requires : tie.Need-delivered-to-requires
-delivered-to-requires c κs = search needs
-
-same-length : tie.Need-same-length
-same-length c = search needs
-
-same-length-2 : tie.Need-same-length-2
-same-length-2 c = search needs
-
-same-length-3 : tie.Need-same-length-3
-same-length-3 c = search needs
-
-same-length-4 : tie.Need-same-length-4
-same-length-4 c = search needs
-
 returns : tie.Need-returns
 returns c =
     let a = c .before .before .before .before .before .before .before .before .before .before .before .before .before .before .before .before .before .before .before .before .before .before .before .before .before .before .before .before .before .before .before .before .before .before .before .before .before .before in
@@ -110,15 +92,15 @@ pub take-next-spec : {M : Type 1} → statement M
 take-next-spec =
     tie.close
     (tie.spec
-    info-of-requires
+    (λ c κs. search needs)
     process-of-requires
     mask-of-requires
     action-of-requires
     leave-requires
     deliver-to-requires
-    delivered-to-requires
-    same-length
-    same-length-2
-    same-length-3
-    same-length-4
+    (λ c κs. search needs)
+    (λ c. search needs)
+    (λ c. search needs)
+    (λ c. search needs)
+    (λ c. search needs)
     returns)

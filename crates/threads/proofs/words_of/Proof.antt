@@ -20,66 +20,6 @@ loop-holds : tie.Need-loop-holds Inv-loop μ-loop
 unfolding wordsOf flat
 loop-holds c = (omega arith, refl)
 
-mul-t : tie.Need-mul-t Inv-loop μ-loop
-mul-t c = search needs
-
-array-copy-out-t : tie.Need-array-copy-out-t Inv-loop μ-loop
-array-copy-out-t c = search needs
-
-mul-ws : tie.Need-mul-ws Inv-loop μ-loop
-mul-ws c = search needs
-
-add-ws : tie.Need-add-ws Inv-loop μ-loop
-add-ws c = search needs
-
-mul-ws-2 : tie.Need-mul-ws-2 Inv-loop μ-loop
-mul-ws-2 c = search needs
-
-array-write-ws : tie.Need-array-write-ws Inv-loop μ-loop
-array-write-ws c = search needs
-
-mul-ws-3 : tie.Need-mul-ws-3 Inv-loop μ-loop
-mul-ws-3 c = search needs
-
-add-ws-2 : tie.Need-add-ws-2 Inv-loop μ-loop
-add-ws-2 c = search needs
-
-mul-ws-4 : tie.Need-mul-ws-4 Inv-loop μ-loop
-mul-ws-4 c = search needs
-
-array-write-ws-2 : tie.Need-array-write-ws-2 Inv-loop μ-loop
-array-write-ws-2 c = search needs
-
-mul-ws-5 : tie.Need-mul-ws-5 Inv-loop μ-loop
-mul-ws-5 c = search needs
-
-add-ws-3 : tie.Need-add-ws-3 Inv-loop μ-loop
-add-ws-3 c = search needs
-
-mul-ws-6 : tie.Need-mul-ws-6 Inv-loop μ-loop
-mul-ws-6 c = search needs
-
-array-write-ws-3 : tie.Need-array-write-ws-3 Inv-loop μ-loop
-array-write-ws-3 c = search needs
-
-mul-ws-7 : tie.Need-mul-ws-7 Inv-loop μ-loop
-mul-ws-7 c = search needs
-
-add-ws-4 : tie.Need-add-ws-4 Inv-loop μ-loop
-add-ws-4 c = search needs
-
-mul-ws-8 : tie.Need-mul-ws-8 Inv-loop μ-loop
-mul-ws-8 c = search needs
-
-array-write-ws-4 : tie.Need-array-write-ws-4 Inv-loop μ-loop
-array-write-ws-4 c = search needs
-
-add-i : tie.Need-add-i Inv-loop μ-loop
-add-i c = search needs
-
-loop-less : tie.Need-loop-less Inv-loop μ-loop
-loop-less c = search needs
-
 loop-again : tie.Need-loop-again Inv-loop μ-loop
 unfolding recordTo
 loop-again c =
@@ -99,25 +39,25 @@ words-of-spec =
     Inv-loop
     μ-loop
     loop-holds
-    mul-t
-    array-copy-out-t
-    mul-ws
-    add-ws
-    mul-ws-2
-    array-write-ws
-    mul-ws-3
-    add-ws-2
-    mul-ws-4
-    array-write-ws-2
-    mul-ws-5
-    add-ws-3
-    mul-ws-6
-    array-write-ws-3
-    mul-ws-7
-    add-ws-4
-    mul-ws-8
-    array-write-ws-4
-    add-i
-    loop-less
+    (λ c. search needs)
+    (λ c. search needs)
+    (λ c. search needs)
+    (λ c. search needs)
+    (λ c. search needs)
+    (λ c. search needs)
+    (λ c. search needs)
+    (λ c. search needs)
+    (λ c. search needs)
+    (λ c. search needs)
+    (λ c. search needs)
+    (λ c. search needs)
+    (λ c. search needs)
+    (λ c. search needs)
+    (λ c. search needs)
+    (λ c. search needs)
+    (λ c. search needs)
+    (λ c. search needs)
+    (λ c. search needs)
+    (λ c. search needs)
     loop-again
     returns)

@@ -8,9 +8,6 @@ use native.Mathlib.Omega.{arith}
 use lib.Dec.{eqb}
 use Rattle.view.proofs.Fields.{process-place, stopped-read}
 
-find-process-requires : tie.Need-find-process-requires
-find-process-requires c κs = search needs
-
 field-at-requires : tie.Need-field-at-requires
 field-at-requires c κs = let a = c .before .before in (a .pre .0, (process-place (a .args .ps .now) (a .args .process) (c .find-process .result) (c .find-process .ensures) (a .pre .1), omega arith))
 
@@ -18,4 +15,4 @@ returns : tie.Need-returns
 returns c = let a = c .before .before .before in ap (λ (n : ℕ). not (eqb n 0)) (stopped-read (a .args .ps .now) (a .args .process) (c .before .find-process .result) (c .before .find-process .ensures) (c .field-at .result) (c .field-at .ensures))
 
 pub is-stopped-spec : {M : Type 1} → statement M
-is-stopped-spec = tie.close (tie.spec find-process-requires field-at-requires returns)
+is-stopped-spec = tie.close (tie.spec (λ c κs. search needs) field-at-requires returns)

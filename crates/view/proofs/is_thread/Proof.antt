@@ -7,11 +7,8 @@ use Rattle.rules.specs.View.{isThread}
 use Rattle.tables.specs.Tables.{heldThreads}
 use Rattle.tables.proofs.Words.{length-heldThreads}
 
-find-thread-requires : tie.Need-find-thread-requires
-find-thread-requires c κs = search needs
-
 returns : tie.Need-returns
 returns c = let a = c .before .before .args in found (isThread (a .id)) (heldThreads (a .ts .now)) threadPlaces (c .find-thread .result) (length-heldThreads (a .ts .now)) (c .find-thread .ensures)
 
 pub is-thread-spec : {M : Type 1} → statement M
-is-thread-spec = tie.close (tie.spec find-thread-requires returns)
+is-thread-spec = tie.close (tie.spec (λ c κs. search needs) returns)

@@ -5,12 +5,6 @@ use native.Mathlib.Omega.{arith}
 use Rattle.view.proofs.Fields.{process-place}
 use Rattle.view.proofs.Fields.{may-read, real-read, effective-read, saved-read, session-read}
 
-find-process-requires : tie.Need-find-process-requires
-find-process-requires c κs = search needs
-
-find-process-requires-2 : tie.Need-find-process-requires-2
-find-process-requires-2 c κs = search needs
-
 field-at-requires : tie.Need-field-at-requires
 field-at-requires c κs = let a = c .before .before .before in (a .pre .0, (process-place (a .args .ps .now) (a .args .by) (c .before .find-process .result) (c .before .find-process .ensures) (a .pre .1 .0), omega arith))
 
@@ -43,8 +37,8 @@ pub may-signal-spec : {M : Type 1} → statement M
 may-signal-spec =
     tie.close
     (tie.spec
-    find-process-requires
-    find-process-requires-2
+    (λ c κs. search needs)
+    (λ c κs. search needs)
     field-at-requires
     field-at-requires-2
     field-at-requires-3

@@ -7,9 +7,6 @@ use native.Mathlib.Omega.{arith}
 use Rattle.view.proofs.Fields.{thread-place}
 use Rattle.view.proofs.Fields.{id-fits, owner-read}
 
-find-thread-requires : tie.Need-find-thread-requires
-find-thread-requires c κs = search needs
-
 thread-field-at-requires : tie.Need-thread-field-at-requires
 thread-field-at-requires c κs = let a = c .before .before in (a .pre .0, (thread-place (a .args .ts .now) (a .args .thread) (c .find-thread .result) (c .find-thread .ensures) (a .pre .1 .0), omega arith))
 
@@ -22,4 +19,4 @@ returns c = let a = c .before .before .before in owner-read (a .args .ts .now) (
 
 pub process-of-spec : {M : Type 1} → statement M
 process-of-spec =
-    tie.close (tie.spec find-thread-requires thread-field-at-requires cast-result returns)
+    tie.close (tie.spec (λ c κs. search needs) thread-field-at-requires cast-result returns)

@@ -13,9 +13,6 @@ use Rattle.view.proofs.Live.{no-process}
 use Rattle.view.proofs.process_refusal.Statement.{statement}
 use Rattle.view.proofs.process_refusal.Tie as tie
 
-sound-requires : tie.Need-sound-requires
-sound-requires c κs = search needs
-
 returns : tie.Need-returns
 returns c =
     let s = c .before in
@@ -48,4 +45,4 @@ returns-3 c =
     (no-process (l .processes) (l .threads) (l .threadBuffer) (l .processBuffer) (a .args .process) (i .is-process .result) (i .is-process .ensures) ∙ c .if2 .left, tt)
 
 pub process-refusal-spec : {M : Type 1} → statement M
-process-refusal-spec = tie.close (tie.spec sound-requires returns is-process-requires returns-2 returns-3)
+process-refusal-spec = tie.close (tie.spec (λ c κs. search needs) returns is-process-requires returns-2 returns-3)

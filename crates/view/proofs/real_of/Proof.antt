@@ -7,9 +7,6 @@ use native.Mathlib.Omega.{arith}
 use Rattle.view.proofs.Fields.{process-place}
 use Rattle.view.proofs.Fields.{user-fits, real-read}
 
-find-process-requires : tie.Need-find-process-requires
-find-process-requires c κs = search needs
-
 field-at-requires : tie.Need-field-at-requires
 field-at-requires c κs = let a = c .before .before in (a .pre .0, (process-place (a .args .ps .now) (a .args .process) (c .find-process .result) (c .find-process .ensures) (a .pre .1 .0), omega arith))
 
@@ -21,4 +18,4 @@ returns : tie.Need-returns
 returns c = let a = c .before .before .before in real-read (a .args .ps .now) (a .args .process) (c .before .find-process .result) (c .before .find-process .ensures) (c .field-at .result) (c .field-at .ensures)
 
 pub real-of-spec : {M : Type 1} → statement M
-real-of-spec = tie.close (tie.spec find-process-requires field-at-requires cast-result returns)
+real-of-spec = tie.close (tie.spec (λ c κs. search needs) field-at-requires cast-result returns)

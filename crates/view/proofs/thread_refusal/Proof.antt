@@ -13,9 +13,6 @@ use Rattle.view.proofs.Live.{no-thread}
 use Rattle.view.proofs.thread_refusal.Statement.{statement}
 use Rattle.view.proofs.thread_refusal.Tie as tie
 
-sound-requires : tie.Need-sound-requires
-sound-requires c κs = search needs
-
 returns : tie.Need-returns
 returns c =
     let s = c .before in
@@ -48,4 +45,4 @@ returns-3 c =
     (no-thread (l .processes) (l .threads) (l .threadBuffer) (l .processBuffer) (a .args .thread) (i .is-thread .result) (i .is-thread .ensures) ∙ c .if2 .left, tt)
 
 pub thread-refusal-spec : {M : Type 1} → statement M
-thread-refusal-spec = tie.close (tie.spec sound-requires returns is-thread-requires returns-2 returns-3)
+thread-refusal-spec = tie.close (tie.spec (λ c κs. search needs) returns is-thread-requires returns-2 returns-3)

@@ -12,17 +12,8 @@ returns c = sym (has-beyond (c .before .args .a) (c .before .args .s) (omega ari
 returns-2 : tie.Need-returns-2
 returns-2 c = sym (has-beyond (c .before .before .args .a) (c .before .before .args .s) (omega arith) (λ h. omega arith))
 
-sub-result : tie.Need-sub-result
-sub-result c = search needs
-
-cast-result : tie.Need-cast-result
-cast-result c = search needs
-
-shr-result : tie.Need-shr-result
-shr-result c = search needs
-
 returns-3 : tie.Need-returns-3
 returns-3 c = sym (has-at (c .before .before .before .args .a) (c .before .before .before .args .s) (omega arith))
 
 pub has-spec : {M : Type 1} → statement M
-has-spec = tie.close (tie.spec returns returns-2 sub-result cast-result shr-result returns-3)
+has-spec = tie.close (tie.spec returns returns-2 (λ c. search needs) (λ c. search needs) (λ c. search needs) returns-3)

@@ -12,11 +12,8 @@ less : (a u r : SigSet) → r ≡ without a u → u ≡ unmaskable → r ≡ mas
 unfolding maskable
 less a u r e is = e ∙ ap (without a) is
 
-without-requires : tie.Need-without-requires
-without-requires c κs = search needs
-
 returns : tie.Need-returns
 returns c = less (c .before .args .a) _ _ (c .without .ensures) (sym unmaskable-is)
 
 pub maskable-spec : {M : Type 1} → statement M
-maskable-spec = tie.close (tie.spec without-requires returns)
+maskable-spec = tie.close (tie.spec (λ c κs. search needs) returns)

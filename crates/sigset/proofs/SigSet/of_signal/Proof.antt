@@ -17,15 +17,6 @@ returns c = sym (of-none (c .before .args .s) (λ h. omega arith))
 returns-2 : tie.Need-returns-2
 returns-2 c = sym (of-none (c .before .before .args .s) (λ h. omega arith))
 
-sub-t3 : tie.Need-sub-t3
-sub-t3 c = search needs
-
-cast-t4 : tie.Need-cast-t4
-cast-t4 c = search needs
-
-shl-t5 : tie.Need-shl-t5
-shl-t5 c = search needs
-
 returns-3 : tie.Need-returns-3
 returns-3 c =
     let s = c .before .before .args .s in
@@ -34,4 +25,4 @@ returns-3 c =
     ap bits (mod-eq-of-lt fits ∙ one) ∙ sym (of-is s (record { low = omega arith; high = omega arith }))
 
 pub of-signal-spec : {M : Type 1} → statement M
-of-signal-spec = tie.close (tie.spec returns returns-2 sub-t3 cast-t4 shl-t5 returns-3)
+of-signal-spec = tie.close (tie.spec returns returns-2 (λ c. search needs) (λ c. search needs) (λ c. search needs) returns-3)
