@@ -168,52 +168,9 @@ case10 =
 abbrev starredCases : List Case
 starredCases = case1 ∷ case2 ∷ case3 ∷ case4 ∷ case4Nodefer ∷ case4Full ∷ case5 ∷ case6 ∷ case6Queues ∷ case8 ∷ case10 ∷ []
 
-case1-holds : Holds case1
-unfolding times computing quickComputing
-case1-holds = holds case1 refl refl
-
-case2-holds : Holds case2
-unfolding times computing quickComputing
-case2-holds = holds case2 refl refl
-
-case3-holds : Holds case3
-unfolding times computing quickComputing
-case3-holds = holds case3 refl refl
-
-case4-holds : Holds case4
-unfolding times computing quickComputing
-case4-holds = holds case4 refl refl
-
-case4Nodefer-holds : Holds case4Nodefer
-unfolding times computing quickComputing
-case4Nodefer-holds = holds case4Nodefer refl refl
-
-case4Full-holds : Holds case4Full
-unfolding times computing quickComputing
-case4Full-holds = holds case4Full refl refl
-
-case5-holds : Holds case5
-unfolding times computing quickComputing
-case5-holds = holds case5 refl refl
-
-case6-holds : Holds case6
-unfolding times computing quickComputing
-case6-holds = holds case6 refl refl
-
-case6Queues-holds : Holds case6Queues
-unfolding times computing quickComputing
-case6Queues-holds = holds case6Queues refl refl
-
-case8-holds : Holds case8
-unfolding times computing quickComputing
-case8-holds = holds case8 refl refl
-
-case10-holds : Holds case10
-unfolding times computing quickComputing
-case10-holds = holds case10 refl refl
-
 pub starred : All Holds starredCases
-starred = (case1-holds, (case2-holds, (case3-holds, (case4-holds, (case4Nodefer-holds, (case4Full-holds, (case5-holds, (case6-holds, (case6Queues-holds, (case8-holds, (case10-holds, tt)))))))))))
+unfolding times computing quickComputing
+starred = (holds case1 refl refl, (holds case2 refl refl, (holds case3 refl refl, (holds case4 refl refl, (holds case4Nodefer refl refl, (holds case4Full refl refl, (holds case5 refl refl, (holds case6 refl refl, (holds case6Queues refl refl, (holds case8 refl refl, (holds case10 refl refl, tt)))))))))))
 
 -- ---- "Readings that bit us"
 
@@ -250,20 +207,9 @@ resetHandler =
 abbrev readingCases : List Case
 readingCases = unblocking ∷ blockedCont ∷ resetHandler ∷ []
 
-unblocking-holds : Holds unblocking
-unfolding times computing quickComputing
-unblocking-holds = holds unblocking refl refl
-
-blockedCont-holds : Holds blockedCont
-unfolding times computing quickComputing
-blockedCont-holds = holds blockedCont refl refl
-
-resetHandler-holds : Holds resetHandler
-unfolding times computing quickComputing
-resetHandler-holds = holds resetHandler refl refl
-
 pub readings : All Holds readingCases
-readings = (unblocking-holds, (blockedCont-holds, (resetHandler-holds, tt)))
+unfolding times computing quickComputing
+readings = (holds unblocking refl refl, (holds blockedCont refl refl, (holds resetHandler refl refl, tt)))
 
 -- ---- numbers that are no signal, no id and no way
 
@@ -297,17 +243,6 @@ noWay =
 abbrev badInputCases : List Case
 badInputCases = noSignal ∷ noId ∷ noWay ∷ []
 
-noSignal-holds : Holds noSignal
-unfolding times computing quickComputing
-noSignal-holds = holds noSignal refl refl
-
-noId-holds : Holds noId
-unfolding times computing quickComputing
-noId-holds = holds noId refl refl
-
-noWay-holds : Holds noWay
-unfolding times computing quickComputing
-noWay-holds = holds noWay refl refl
-
 pub badInput : All Holds badInputCases
-badInput = (noSignal-holds, (noId-holds, (noWay-holds, tt)))
+unfolding times computing quickComputing
+badInput = (holds noSignal refl refl, (holds noId refl refl, (holds noWay refl refl, tt)))
