@@ -1,44 +1,66 @@
 -- The changes of a send, one after the other, as code makes them. Assumes nothing.
 use Prim.Native.Nat.{ℕ}
-use mathlib.Core.Path.{_≡_, refl, sym, ap, ap₂}
-use mathlib.Core.Bool.{Bool, true, false}
-use mathlib.Core.List.{[], _∷_, _++_}
-use borrow.Author.Tests.{eq-eqb, ne-eqb}
+use mathlib.Core.Path.{_≡_, refl, sym, ap, ap₂, subst, _∙_}
+use mathlib.Core.Bool.{Bool, true, false, _||_, cond}
+use mathlib.Core.List.{List, [], _∷_, _++_}
+use lib.Dec.{eqb}
+use borrow.Author.Tests.{eqb-true}
+use mir.Val.{boolByte}
 use types.Run.{OneOf, miss}
 use denote.Enum.Declared.{tagOf}
 use Rattle.limits.specs.Limits.{SIGCONT, SIGSTOP}
+use Rattle.lists.proofs.Bools.{split, or-fst-false, or-snd-false, cond-true, cond-false}
 use Rattle.sigset.specs.declared.SigSet.{SigSet}
-use Rattle.sigset.specs.Set.{setOf, ofSignal}
 use Rattle.types.specs.declared.Siginfo.{Siginfo}
 use Rattle.rules.specs.Signals.{stopSignal}
-use Rattle.rules.specs.View.{View, removeProcess, setStopped, setMark, append, discard, targetQueue, queueOf}
-use Rattle.rules.specs.Sending.{fate, infoOf, jobControl, sendChanges}
-use Rattle.rules.specs.Calls.{send}
+use Rattle.rules.specs.View.{View, Change, removeProcess, setStopped, setMark, append, discard, targetQueue, queueOf}
+use Rattle.rules.specs.Store.{Store, view}
+use Rattle.rules.specs.Sending.{Fate, fate, infoOf, jobControl, sendChanges, sendAnswer}
+use Rattle.rules.specs.Calls.{send, changes, answer}
+use Rattle.rules.specs.Fitting.{fitsAll}
+use Rattle.answers.specs.Step.{Lent, decoded, refusalOn}
+use Rattle.effects.proofs.Chain.{first-part-fits}
 use Rattle.sending.specs.Fates.{fateOf}
+use Rattle.sending.specs.JobControl.{controls, rivalsOf}
+use Rattle.sending.specs.Decisions.{sendCall, Decided}
 use Rattle.sending.specs.declared.Fate as declared
 use Rattle.sending.specs.declared.Fate.the-variants as cases
+use Rattle.sending.specs.declared.Decision as decided
+use Rattle.sending.specs.declared.Decision.the-variants as decisions
 use Rattle.sending.proofs.Fate.{the-type}
 
 -- ---- job control, by the signal
 
 module _ (p s : ℕ) where
-  pub lets-run : s ≡ SIGCONT → (x : SigSet) → x ≡ setOf stopSignal → jobControl p s ≡ discard p x ∷ setStopped p 0 ∷ []
-  unfolding jobControl
-  lets-run e x h = rw (eq-eqb s SIGCONT e, h)
+  pub leaves : controls s ≡ false → jobControl p s ≡ []
+  unfolding jobControl controls
+  leaves n =
+      let m = or-snd-false (eqb s SIGCONT) _ n in
+      rw (or-fst-false (eqb s SIGCONT) _ n, or-fst-false (eqb s SIGSTOP) _ m, or-snd-false (eqb s SIGSTOP) _ m)
 
-  module _ (n : s ≡ SIGCONT → ⊥) where
-    pub stops-it : s ≡ SIGSTOP → (x : SigSet) → x ≡ ofSignal SIGCONT → jobControl p s ≡ discard p x ∷ setStopped p 1 ∷ []
-    unfolding jobControl
-    stops-it e x h = rw (ne-eqb s SIGCONT n, eq-eqb s SIGSTOP e, h)
+  -- what comes after the discard: 1 stops the process, 0 lets it run
+  abbrev pub settling : List Change
+  settling = cond (eqb s SIGCONT || eqb s SIGSTOP) (setStopped p (boolByte (eqb s SIGSTOP)) ∷ []) []
 
-    module _ (m : s ≡ SIGSTOP → ⊥) where
-      pub unsettles : stopSignal s ≡ true → (x : SigSet) → x ≡ ofSignal SIGCONT → jobControl p s ≡ discard p x ∷ []
-      unfolding jobControl
-      unsettles e x h = rw (ne-eqb s SIGCONT n, ne-eqb s SIGSTOP m, e, h)
+  -- `x` is what code has of the signals to discard
+  module _ (k : controls s ≡ true) (x : SigSet) (h : x ≡ rivalsOf s) where
+    pub discards-first : jobControl p s ≡ discard p x ∷ settling
+    unfolding jobControl controls rivalsOf
+    discards-first =
+        split (eqb s SIGCONT)
+        (λ a. rw (h, a, ap (λ (n : ℕ). eqb n SIGSTOP) (eqb-true s SIGCONT a)))
+        (λ a.
+        split (eqb s SIGSTOP)
+        (λ b. rw (h, a, b))
+        (λ b.
+        let g : stopSignal s ≡ true = rw (a, b) at k in
+        rw (h, a, b, g)))
 
-      pub leaves : stopSignal s ≡ false → jobControl p s ≡ []
-      unfolding jobControl
-      leaves e = rw (ne-eqb s SIGCONT n, ne-eqb s SIGSTOP m, e)
+    pub settles : (eqb s SIGCONT || eqb s SIGSTOP) ≡ true → jobControl p s ≡ discard p x ∷ setStopped p (boolByte (eqb s SIGSTOP)) ∷ []
+    settles t = discards-first ∙ ap (λ (cs : List Change). discard p x ∷ cs) (cond-true _ _ t)
+
+    pub discards-only : (eqb s SIGCONT || eqb s SIGSTOP) ≡ false → jobControl p s ≡ discard p x ∷ []
+    discards-only n = discards-first ∙ ap (λ (cs : List Change). discard p x ∷ cs) (cond-false _ _ n)
 
 -- ---- the changes, by the fate
 
@@ -59,19 +81,52 @@ module _ (f : declared.Fate) (r : Siginfo) where
   unfolding sendChanges fateOf
   of-keeping e = ap (λ g. sendChanges (fateOf g) r) e
 
--- stopping, dropping and absorbing
-pub of-control : (f : declared.Fate) (r : Siginfo) → OneOf (2 ∷ 3 ∷ 4 ∷ []) (tagOf the-type f) → sendChanges (fateOf f) r ≡ jobControl (r .process) (r .signal)
+-- every fate but testing and killing begins with job control
+pub control-fits : (f : declared.Fate) (r : Siginfo) (st : Store) → OneOf (2 ∷ 3 ∷ 4 ∷ 5 ∷ 6 ∷ []) (tagOf the-type f)
+    → fitsAll (sendChanges (fateOf f) r) st ≡ true → fitsAll (jobControl (r .process) (r .signal)) st ≡ true
 unfolding sendChanges fateOf
-of-control cases.Testing r k = absurd (miss (2 ∷ 3 ∷ 4 ∷ []) 0 tt k)
-of-control cases.Killing r k = absurd (miss (2 ∷ 3 ∷ 4 ∷ []) 1 tt k)
-of-control cases.Stopping r k = refl
-of-control cases.Dropping r k = refl
-of-control cases.Absorbing r k = refl
-of-control cases.Marking r k = absurd (miss (2 ∷ 3 ∷ 4 ∷ []) 5 tt k)
-of-control cases.Keeping r k = absurd (miss (2 ∷ 3 ∷ 4 ∷ []) 6 tt k)
+control-fits cases.Testing r st k h = absurd (miss (2 ∷ 3 ∷ 4 ∷ 5 ∷ 6 ∷ []) 0 tt k)
+control-fits cases.Killing r st k h = absurd (miss (2 ∷ 3 ∷ 4 ∷ 5 ∷ 6 ∷ []) 1 tt k)
+control-fits cases.Stopping r st k h = h
+control-fits cases.Dropping r st k h = h
+control-fits cases.Absorbing r st k h = h
+control-fits cases.Marking r st k h = first-part-fits (jobControl (r .process) (r .signal)) (setMark (queueOf r) (r .signal) ∷ []) st h
+control-fits cases.Keeping r st k h = first-part-fits (jobControl (r .process) (r .signal)) (append r ∷ []) st h
 
--- a send, by the fate and the record that code has
-pub of-send : (v : View) (queued : Bool) (by to t s value : ℕ) (f : declared.Fate) (r : Siginfo) → fateOf f ≡ fate v queued (targetQueue to t) s
-    → r ≡ infoOf v by to t s value → send v queued by to t s value ≡ sendChanges (fateOf f) r
-unfolding send
-of-send v queued by to t s value f r e h = sym (ap₂ sendChanges e h)
+-- stopping, dropping and absorbing: those that neither of the two tests of code names
+pub of-control : (f : declared.Fate) (r : Siginfo) → OneOf (2 ∷ 3 ∷ 4 ∷ 5 ∷ 6 ∷ []) (tagOf the-type f) → OneOf (0 ∷ 1 ∷ 2 ∷ 3 ∷ 4 ∷ []) (tagOf the-type f)
+    → sendChanges (fateOf f) r ≡ jobControl (r .process) (r .signal)
+unfolding sendChanges fateOf
+of-control cases.Testing r k m = absurd (miss (2 ∷ 3 ∷ 4 ∷ 5 ∷ 6 ∷ []) 0 tt k)
+of-control cases.Killing r k m = absurd (miss (2 ∷ 3 ∷ 4 ∷ 5 ∷ 6 ∷ []) 1 tt k)
+of-control cases.Stopping r k m = refl
+of-control cases.Dropping r k m = refl
+of-control cases.Absorbing r k m = refl
+of-control cases.Marking r k m = absurd (miss (0 ∷ 1 ∷ 2 ∷ 3 ∷ 4 ∷ []) 5 tt m)
+of-control cases.Keeping r k m = absurd (miss (0 ∷ 1 ∷ 2 ∷ 3 ∷ 4 ∷ []) 6 tt m)
+
+-- ---- a send, by what is decided of it
+
+module _ (v : View) (by to t s value : ℕ) where
+  -- a plain send has no value
+  pub send-makes : (queued : Bool) → (queued ≡ false → value ≡ 0) → (f : Fate) (r : Siginfo) → f ≡ fate v queued (targetQueue to t) s → r ≡ infoOf v by to t s value
+      → changes v (sendCall queued by to t s value) ≡ sendChanges f r
+  unfolding changes send
+  send-makes true z f r e h = sym (ap₂ sendChanges e h)
+  send-makes false z f r e h = sym (ap₂ sendChanges e (h ∙ ap (infoOf v by to t s) (z refl)))
+
+  pub send-answers : (queued : Bool) (f : Fate) → f ≡ fate v queued (targetQueue to t) s → sendAnswer f ≡ answer v (sendCall queued by to t s value)
+  unfolding answer
+  send-answers true f e = ap sendAnswer e
+  send-answers false f e = ap sendAnswer e
+
+module _ (l : Lent) (queued : Bool) (by to t s value : ℕ) (d : decided.Decision) (h : Decided l queued by to t s value d) where
+  pub when-refused : (n : ℕ) → d ≡ decisions.Refused n → (n ≡ refusalOn (sendCall queued by to t s value) l) × (n ≡ 0 → ⊥)
+  unfolding Decided
+  when-refused n e = subst (Decided l queued by to t s value) e h
+
+  pub when-allowed : (f : declared.Fate) (r : Siginfo) → d ≡ decisions.Allowed f r
+      → (refusalOn (sendCall queued by to t s value) l ≡ 0)
+      × ((fateOf f ≡ fate (view (decoded l)) queued (targetQueue to t) s) × (r ≡ infoOf (view (decoded l)) by to t s value))
+  unfolding Decided
+  when-allowed f r e = subst (Decided l queued by to t s value) e h

@@ -1,15 +1,16 @@
 -- What is decided of a send before anything changes: what absorbs it, its fate, its record, whether there is room. Assumes nothing.
 use Prim.Native.Nat.{ℕ, _+_, _≤_}
 use mathlib.Core.Path.{_≡_, refl, sym, ap, ap₂, _∙_}
-use mathlib.Core.Bool.{Bool, true, false, not, _&&_, _||_}
+use mathlib.Core.Bool.{Bool, true, false, not, _&&_, _||_, cond}
 use mathlib.Core.List.{List, [], _∷_}
 use native.Mathlib.Nat.{le-trans}
-use lib.Dec.{leb}
+use lib.Dec.{eqb, leb}
 use borrow.Author.Tests.{eq-eqb, ne-eqb}
 use types.Run.{OneOf, miss}
 use denote.Enum.Declared.{tagOf}
-use Rattle.limits.specs.Limits.{bufferRecords, recordLimit, SIGKILL, SIGSTOP, SIGTSTP, SIGTTIN, SIGTTOU, siQueue}
+use Rattle.limits.specs.Limits.{bufferRecords, recordLimit, SIGKILL, SIGCONT, SIGSTOP, SIGTSTP, SIGTTIN, SIGTTOU, siQueue}
 use Rattle.lists.specs.Lists.{count}
+use Rattle.lists.proofs.Bools.{and-left}
 use Rattle.lists.proofs.Lists.{count-le-length}
 use Rattle.sigset.specs.declared.SigSet.{SigSet}
 use Rattle.sigset.specs.Set.{Signal, has, setOf, union, ofSignal}
@@ -17,11 +18,10 @@ use Rattle.sigset.proofs.Laws.{has-set, has-of, set-cong}
 use Rattle.types.specs.declared.Action.{Action}
 use Rattle.rules.specs.Types.{Queue}
 use Rattle.rules.specs.Signals.{standard, stopSignal, ignored}
-use Rattle.rules.specs.View.{View, targetQueue, actionOf, theProcess, pendingIn}
+use Rattle.rules.specs.View.{View, actionOf, theProcess, pendingIn}
 use Rattle.rules.specs.Store.{ofProcess, queuedIn, view}
 use Rattle.rules.specs.Sound.{goodUser}
 use Rattle.rules.specs.Sending.{Fate, testing, killing, stopping, dropping, absorbing, marking, keeping, absorbs, fate, infoOf, needsRecord}
-use Rattle.rules.specs.Refusals.{noRoom}
 use Rattle.rules.proofs.Facts.{users-fit}
 use Rattle.queue.specs.Queue.{recordsOf}
 use Rattle.queue.proofs.Buffer.{length-recordsOf}
@@ -29,6 +29,7 @@ use Rattle.sound.specs.Lent.{storeOf, soundTables}
 use Rattle.sound.proofs.Facts.{store-sound}
 use Rattle.view.specs.Named.{processNamed}
 use Rattle.sending.specs.Fates.{fateOf}
+use Rattle.sending.specs.JobControl.{rivalsOf}
 use Rattle.sending.specs.declared.Fate as declared
 use Rattle.sending.specs.declared.Fate.the-variants as cases
 use Rattle.sending.proofs.Fate.{the-type}
@@ -87,7 +88,7 @@ unfolding theProcess view storeOf
 ignored-read ps ts tb pb p s a r e h = h ∙ ap (λ (x : Action). ignored x s) e
 
 -- the first six fates need no record
-pub no-record : (f : declared.Fate) → OneOf (0 ∷ 1 ∷ 2 ∷ 3 ∷ 4 ∷ 5 ∷ []) (tagOf the-type f) → false ≡ needsRecord (fateOf f)
+no-record : (f : declared.Fate) → OneOf (0 ∷ 1 ∷ 2 ∷ 3 ∷ 4 ∷ 5 ∷ []) (tagOf the-type f) → false ≡ needsRecord (fateOf f)
 unfolding needsRecord fateOf
 no-record cases.Testing k = refl
 no-record cases.Killing k = refl
@@ -116,6 +117,14 @@ stops =
     set-cong _ _
     (λ s g. ap₂ (λ (a b : Bool). a || b) (has-of SIGTSTP s g) (has-set _ s g ∙ ap₂ (λ (a b : Bool). a || b) (has-of SIGTTIN s g) (has-of SIGTTOU s g)))
 
+pub rivals-of-cont : (s : ℕ) → s ≡ SIGCONT → setOf stopSignal ≡ rivalsOf s
+unfolding rivalsOf
+rivals-of-cont s e = rw (eq-eqb s SIGCONT e)
+
+pub rivals-of-others : (s : ℕ) → (s ≡ SIGCONT → ⊥) → ofSignal SIGCONT ≡ rivalsOf s
+unfolding rivalsOf
+rivals-of-others s n = rw (ne-eqb s SIGCONT n)
+
 -- ---- room
 
 pub counted : (ps ts tb pb : List ℕ) (p m n : ℕ) → m ≡ count (ofProcess p) (recordsOf tb) → n ≡ count (ofProcess p) (recordsOf pb)
@@ -126,7 +135,25 @@ counted ps ts tb pb p m n e f = sym (ap₂ (λ (a b : ℕ). a + b) e f)
 pub count-fits : (b : List ℕ) (p n : ℕ) → n ≡ count (ofProcess p) (recordsOf b) → n ≤ bufferRecords
 count-fits b p n e = rw e (le-trans (count-le-length (ofProcess p) (recordsOf b)) (length-recordsOf b))
 
-pub room-read : (v : View) (to t s m n : ℕ) (needed : Bool) (f : Fate) → f ≡ fate v true (targetQueue to t) s → needed ≡ needsRecord f → v .queued to ≡ m + n
-    → (needed && leb recordLimit (m + n)) ≡ noRoom v to t s
-unfolding noRoom
-room-read v to t s m n needed f e h k = rw (h, e, k)
+-- a send that is kept, and any other
+module _ (v : View) (to : ℕ) (f : declared.Fate) where
+  pub room-read : f ≡ cases.Keeping → (m n : ℕ) → v .queued to ≡ m + n → leb recordLimit (m + n) ≡ (needsRecord (fateOf f) && leb recordLimit (v .queued to))
+  unfolding needsRecord fateOf
+  room-read e m n k = rw (e, k)
+
+  pub room-unasked : OneOf (0 ∷ 1 ∷ 2 ∷ 3 ∷ 4 ∷ 5 ∷ []) (tagOf the-type f) → false ≡ (needsRecord (fateOf f) && leb recordLimit (v .queued to))
+  room-unasked k = sym (and-left (leb recordLimit (v .queued to)) (sym (no-record f k)))
+
+no-record-either : (b : Bool) (x y : Fate) → needsRecord x ≡ false → needsRecord y ≡ false → needsRecord (cond b x y) ≡ false
+no-record-either true x y e h = e
+no-record-either false x y e h = h
+
+-- a plain send needs no record
+pub plain-no-record : (v : View) (q : Queue) (s : ℕ) → needsRecord (fate v false q s) ≡ false
+unfolding fate needsRecord
+plain-no-record v q s =
+    no-record-either (eqb s 0) testing _ refl
+    (no-record-either (eqb s SIGKILL) killing _ refl
+    (no-record-either (eqb s SIGSTOP) stopping _ refl
+    (no-record-either (ignored (actionOf (theProcess v (q .process)) s) s) dropping _ refl
+    (no-record-either (absorbs v false q s) absorbing _ refl refl))))

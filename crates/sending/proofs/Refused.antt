@@ -1,21 +1,22 @@
 -- The refusals of the two sends, row by row, and what a send has where none applies. Assumes nothing.
 use Prim.Native.Nat.{ℕ, _≤_, _<_}
-use mathlib.Core.Path.{_≡_, refl, sym, ap, _∙_}
-use mathlib.Core.Bool.{Bool, true, false, not, _||_}
+use mathlib.Core.Path.{_≡_, refl, sym, ap, ap₂, _∙_}
+use mathlib.Core.Bool.{Bool, true, false, not, _&&_, _||_}
 use mathlib.Core.List.{List, [], _∷_}
+use lib.Dec.{leb}
 use borrow.Author.Tests.{lt-ltb, le-ltb, ltb-false, not-false}
-use Rattle.limits.specs.Limits.{signals, EPERM, ESRCH, EAGAIN, EFAULT, EINVAL}
+use Rattle.limits.specs.Limits.{signals, recordLimit, EPERM, ESRCH, EAGAIN, EFAULT, EINVAL}
 use Rattle.lists.specs.Lists.{any, All}
-use Rattle.lists.proofs.Bools.{or-fst-false, or-snd-false}
+use Rattle.lists.proofs.Bools.{clash, and-left, or-fst-false, or-snd-false}
+use Rattle.types.specs.declared.Siginfo.{Siginfo}
 use Rattle.rules.specs.Types.{kill, queue}
 use Rattle.rules.specs.View.{View, isProcess, targetQueue, liveProcess, theProcess}
 use Rattle.rules.specs.Store.{view}
-use Rattle.rules.specs.Sending.{maySignal}
-use Rattle.rules.specs.Refusals.{overLast, einval, esrch, eperm, eagain, noProcessLive, badTarget, mayNot, noRoom, rows, isClear, fault, table, refusalOf}
+use Rattle.rules.specs.Sending.{maySignal, Fate, fate, infoOf, sendChanges, needsRecord}
+use Rattle.rules.specs.Refusals.{overLast, einval, esrch, eperm, eagain, noProcessLive, badTarget, mayNot, noRoom, rows, isClear}
 use Rattle.rules.specs.Calls.{send}
-use Rattle.rules.specs.Fitting.{liveQueue, fitsAll}
+use Rattle.rules.specs.Fitting.{fitsAll}
 use Rattle.rules.proofs.Table.{Off}
-use Rattle.rules.proofs.Queues.{target-queue}
 use Rattle.rules.proofs.Fitted.{send-fits}
 use Rattle.tables.specs.Tables.{heldProcesses}
 use Rattle.sound.specs.Lent.{storeOf, soundTables}
@@ -24,6 +25,8 @@ use Rattle.answers.specs.Step.{Lent, lent, decoded, refusalOn, rowsOn}
 use Rattle.answers.proofs.Endings.{isSound, rows-given, accepted-tables-sound, accepted-rows}
 use Rattle.answers.proofs.Rows.{rows-before, refuses-fault, refuses-at, refuses-none}
 use Rattle.view.specs.Named.{processNamed}
+use Rattle.sending.specs.Decisions.{sendCall}
+use Rattle.sending.proofs.Decided.{plain-no-record}
 
 -- ---- a plain send
 
@@ -99,35 +102,10 @@ module _ (l : Lent) (by to t s : ℕ) where
       let k = accepted-rows (kill by to t s) l e in
       allowed-by (accepted-tables-sound (kill by to t s) l refl e) (k .0) (k .1 .0)
 
-  -- what `deliver` asks for
-  pub deliverable : Allowed l by to t s → (queued : Bool) (value : ℕ) → (queued ≡ true → noRoom (view (decoded l)) to t s ≡ false)
-      → (isSound l ≡ true)
-      × ((liveProcess (view (decoded l)) by ≡ true)
-      × ((liveQueue (view (decoded l)) (targetQueue to t) ≡ true)
-      × ((s ≤ signals) × (fitsAll (send (view (decoded l)) queued by to t s value) (decoded l) ≡ true))))
-  unfolding overLast
-  deliverable a queued value n =
-      let st = decoded l in
-      let k = store-sound (l .processes) (l .threads) (l .threadBuffer) (l .processBuffer) (a .sound) in (
-        a .sound,
-        (
-          a .sender,
-          (
-            target-queue (view st) to t (a .target),
-            (a .signal, send-fits st k queued by to t s value (le-ltb signals s (a .signal)) (a .target) n),
-          ),
-        ),
-      )
-
 -- ---- a send with a value: the rows of a plain one, and one more
 
 module _ (l : Lent) (by to t s value : ℕ) where
-  -- the value decides nothing
-  pub any-value : refusalOn (queue by to t s value) l ≡ refusalOn (queue by to t s 0) l
-  unfolding refusalOn refusalOf table fault rows isClear
-  any-value = refl
-
-  pub queue-refused : (n : ℕ) → n ≡ refusalOn (kill by to t s) l → (n ≡ 0 → ⊥) → n ≡ refusalOn (queue by to t s value) l
+  queue-refused : (n : ℕ) → n ≡ refusalOn (kill by to t s) l → (n ≡ 0 → ⊥) → n ≡ refusalOn (queue by to t s value) l
   unfolding rows isClear
   queue-refused n e z =
       let v : View = view (decoded l) in
@@ -142,22 +120,66 @@ module _ (l : Lent) (by to t s value : ℕ) where
     unfolding isClear
     plain-sound = accepted-tables-sound (kill by to t s) l refl e
 
-    pub queue-full : noRoom (view (decoded l)) to t s ≡ true → EAGAIN ≡ refusalOn (queue by to t s value) l
+    queue-full : noRoom (view (decoded l)) to t s ≡ true → EAGAIN ≡ refusalOn (queue by to t s value) l
     unfolding rows isClear
     queue-full h =
         refuses-at (queue by to t s value) l refl plain-sound (rows (view (decoded l)) (kill by to t s)) (eagain (noRoom (view (decoded l)) to t s)) [] refl plain-off h
 
-    pub queue-passes : noRoom (view (decoded l)) to t s ≡ false → 0 ≡ refusalOn (queue by to t s value) l
+    queue-passes : noRoom (view (decoded l)) to t s ≡ false → 0 ≡ refusalOn (queue by to t s value) l
     unfolding rows isClear
     queue-passes h = refuses-none (queue by to t s value) l refl plain-sound (plain-off .0, (plain-off .1 .0, (plain-off .1 .1 .0, (h, tt))))
 
   module _ (e : refusalOn (queue by to t s value) l ≡ 0) where
-    pub queue-allowed : Allowed l by to t s
+    queue-allowed : Allowed l by to t s
     unfolding rows isClear
     queue-allowed =
         let k = accepted-rows (queue by to t s value) l e in
         allowed-by l by to t s (accepted-tables-sound (queue by to t s value) l refl e) (k .0) (k .1 .0)
 
-    pub queue-room : noRoom (view (decoded l)) to t s ≡ false
+    queue-room : noRoom (view (decoded l)) to t s ≡ false
     unfolding rows
     queue-room = accepted-rows (queue by to t s value) l e .1 .1 .1 .0
+
+-- ---- either send
+
+module _ (l : Lent) (by to t s value : ℕ) where
+  pub send-refused : (queued : Bool) (n : ℕ) → n ≡ refusalOn (kill by to t s) l → (n ≡ 0 → ⊥) → n ≡ refusalOn (sendCall queued by to t s value) l
+  send-refused true n e z = queue-refused l by to t s value n e z
+  send-refused false n e z = e
+
+  abbrev isFull : Fate → Bool
+  isFull f = needsRecord f && leb recordLimit (view (decoded l) .queued to)
+
+  -- by the fate and the test that code has
+  module _ (e : refusalOn (kill by to t s) l ≡ 0) (f : Fate) (b : Bool) (i : b ≡ isFull f) where
+    pub send-full : (queued : Bool) → f ≡ fate (view (decoded l)) queued (targetQueue to t) s → b ≡ true → EAGAIN ≡ refusalOn (sendCall queued by to t s value) l
+    unfolding noRoom
+    send-full true h k = queue-full l by to t s value e (ap isFull (sym h) ∙ sym i ∙ k)
+    send-full false h k = clash (ap isFull (sym h) ∙ sym i ∙ k) (and-left _ (plain-no-record (view (decoded l)) (targetQueue to t) s))
+
+    pub send-passes : (queued : Bool) → f ≡ fate (view (decoded l)) queued (targetQueue to t) s → b ≡ false → refusalOn (sendCall queued by to t s value) l ≡ 0
+    unfolding noRoom
+    send-passes true h k = sym (queue-passes l by to t s value e (ap isFull (sym h) ∙ sym i ∙ k))
+    send-passes false h k = e
+
+  send-allowed : (queued : Bool) → refusalOn (sendCall queued by to t s value) l ≡ 0 → Allowed l by to t s
+  send-allowed true e = queue-allowed l by to t s value e
+  send-allowed false e = kill-allowed l by to t s e
+
+  send-room : (queued : Bool) → refusalOn (sendCall queued by to t s value) l ≡ 0 → queued ≡ true → noRoom (view (decoded l)) to t s ≡ false
+  send-room true e k = queue-room l by to t s value e
+  send-room false e k = clash k refl
+
+  -- what `carry_out` asks for, of the fate and the record that code has
+  pub allowed-fits : (queued : Bool) → refusalOn (sendCall queued by to t s value) l ≡ 0 → (f : Fate) (r : Siginfo)
+      → f ≡ fate (view (decoded l)) queued (targetQueue to t) s → r ≡ infoOf (view (decoded l)) by to t s value
+      → (isSound l ≡ true) × (fitsAll (sendChanges f r) (decoded l) ≡ true)
+  unfolding overLast send
+  allowed-fits queued e f r h k =
+      let a = send-allowed queued e in
+      let st = decoded l in (
+        a .sound,
+        ap₂ (λ (g : Fate) (i : Siginfo). fitsAll (sendChanges g i) st) h k
+            ∙ send-fits st (store-sound (l .processes) (l .threads) (l .threadBuffer) (l .processBuffer) (a .sound)) queued by to t s value
+            (le-ltb signals s (a .signal)) (a .target) (send-room queued e),
+      )

@@ -1,1 +1,3 @@
 pub mod Fates
+pub mod JobControl
+pub mod Decisions

@@ -1,21 +1,23 @@
 // Sends: kill, without a value, and queue, with one.
 ghost use mathlib.Core.Path.{_≡_};
-ghost use mathlib.Core.Bool.{true, false};
+ghost use mathlib.Core.Bool.{true, false, _&&_};
+ghost use lib.Dec.{leb};
 ghost use Prim.Native.Nat.{_≤_};
-ghost use Rattle.limits.specs.Limits.{signals};
+ghost use Rattle.limits.specs.Limits.{signals, recordLimit};
 ghost use Rattle.sigset.specs.Set.{setOf};
 ghost use Rattle.rules.specs.Signals.{stopSignal};
 ghost use Rattle.rules.specs.Types as call;
 ghost use Rattle.rules.specs.View.{targetQueue, liveProcess};
 ghost use Rattle.rules.specs.Store.{view, applyAll};
 ghost use Rattle.rules.specs.Sending.{absorbs, fate, infoOf, jobControl, sendChanges, sendAnswer, needsRecord};
-ghost use Rattle.rules.specs.Refusals.{badTarget, overLast, noRoom};
-ghost use Rattle.rules.specs.Calls.{send};
+ghost use Rattle.rules.specs.Refusals.{badTarget};
 ghost use Rattle.rules.specs.Fitting.{liveQueue, fitsAll};
 ghost use Rattle.sound.specs.Lent.{storeOf, soundTables};
 ghost use Rattle.answers.specs.Answers.{answerOf};
 ghost use Rattle.answers.specs.Step.{lent, refusalOn, stepOn};
 ghost use Rattle.sending.specs.Fates.{fateOf};
+ghost use Rattle.sending.specs.JobControl.{controls, rivalsOf};
+ghost use Rattle.sending.specs.Decisions.{sendCall, Decided};
 use answers::Answer;
 use limits::EAGAIN;
 use limits::EFAULT;
@@ -43,6 +45,12 @@ enum Fate {
     Absorbing,
     Marking,
     Keeping,
+}
+
+// A send is refused with an error number, or allowed, with its fate and its record.
+enum Decision {
+    Refused(u32),
+    Allowed(Fate, Siginfo),
 }
 
 // ---- what is decided before anything changes
@@ -142,13 +150,24 @@ fn stop_signals() -> SigSet
     SigSet::union(SigSet::of_signal(SIGTSTP), tty)
 }
 
-fn is_stop_signal(s: u32) -> bool
-    ensures { λ r. ⌜ r ≡ stopSignal s ⌝ }
+// The signals of job control: CONT, STOP and the stop signals.
+fn is_job_control(s: u32) -> bool
+    ensures { λ r. ⌜ r ≡ controls s ⌝ }
 {
-    (s == SIGTSTP) | ((s == SIGTTIN) | (s == SIGTTOU))
+    (s == SIGCONT) | ((s == SIGSTOP) | ((s == SIGTSTP) | ((s == SIGTTIN) | (s == SIGTTOU))))
 }
 
-// Stop signals and CONT discard each other; CONT lets the process run, STOP stops it.
+// What a signal of job control discards: CONT the stop signals, the others CONT.
+fn rivals(s: u32) -> SigSet
+    ensures { λ r. ⌜ r ≡ rivalsOf s ⌝ }
+{
+    if s == SIGCONT {
+        return stop_signals();
+    }
+    SigSet::of_signal(SIGCONT)
+}
+
+// A stop signal stops the process only when it is taken; STOP stops it and CONT lets it run when they are sent.
 fn job_control(
     ps: &mut [u64],
     ts: &mut [u64],
@@ -162,42 +181,35 @@ fn job_control(
     ensures store { λ _. ⌜ storeOf (now (ps .exit)) (now (ts .exit)) (now (tb .exit)) (now (pb .exit)) ≡ applyAll (jobControl process signal) (storeOf (now (ps .entry)) (now (ts .entry)) (now (tb .entry)) (now (pb .entry))) ⌝ }
     ensures sound { λ _. ⌜ soundTables (now (ps .exit)) (now (ts .exit)) (now (tb .exit)) (now (pb .exit)) ≡ true ⌝ }
 {
-    if signal == SIGCONT {
-        effects::discard(ps, ts, tb, pb, process, stop_signals());
-        effects::set_stopped(ps, ts, tb, pb, process, 0);
+    if !is_job_control(signal) {
         return;
     }
-    if signal == SIGSTOP {
-        effects::discard(ps, ts, tb, pb, process, SigSet::of_signal(SIGCONT));
-        effects::set_stopped(ps, ts, tb, pb, process, 1);
-        return;
-    }
-    if is_stop_signal(signal) {
-        effects::discard(ps, ts, tb, pb, process, SigSet::of_signal(SIGCONT));
+    effects::discard(ps, ts, tb, pb, process, rivals(signal));
+    if (signal == SIGCONT) | (signal == SIGSTOP) {
+        effects::set_stopped(ps, ts, tb, pb, process, (signal == SIGSTOP) as u64);
     }
 }
 
+// Job control comes first, whatever becomes pending.
 fn carry_out(ps: &mut [u64], ts: &mut [u64], tb: &mut [u8], pb: &mut [u8], f: Fate, r: Siginfo)
     requires { ⌜ soundTables (now ps) (now ts) (now tb) (now pb) ≡ true ⌝ }
     requires { ⌜ fitsAll (sendChanges (fateOf f) r) (storeOf (now ps) (now ts) (now tb) (now pb)) ≡ true ⌝ }
     ensures store { λ _. ⌜ storeOf (now (ps .exit)) (now (ts .exit)) (now (tb .exit)) (now (pb .exit)) ≡ applyAll (sendChanges (fateOf f) r) (storeOf (now (ps .entry)) (now (ts .entry)) (now (tb .entry)) (now (pb .entry))) ⌝ }
     ensures sound { λ _. ⌜ soundTables (now (ps .exit)) (now (ts .exit)) (now (tb .exit)) (now (pb .exit)) ≡ true ⌝ }
 {
-    let process = r.process;
     match f {
-        Fate::Testing => {}
-        Fate::Killing => effects::remove_process(ps, ts, tb, pb, process),
-        Fate::Stopping | Fate::Dropping | Fate::Absorbing => {
-            job_control(ps, ts, tb, pb, process, r.signal);
+        Fate::Testing => return,
+        Fate::Killing => {
+            effects::remove_process(ps, ts, tb, pb, r.process);
+            return;
         }
-        Fate::Marking => {
-            job_control(ps, ts, tb, pb, process, r.signal);
-            effects::set_mark(ps, ts, tb, pb, process, r.thread, r.signal);
-        }
-        Fate::Keeping => {
-            job_control(ps, ts, tb, pb, process, r.signal);
-            effects::append(ps, ts, tb, pb, r);
-        }
+        _ => {}
+    }
+    job_control(ps, ts, tb, pb, r.process, r.signal);
+    match f {
+        Fate::Marking => effects::set_mark(ps, ts, tb, pb, r.process, r.thread, r.signal),
+        Fate::Keeping => effects::append(ps, ts, tb, pb, r),
+        _ => {}
     }
 }
 
@@ -213,33 +225,6 @@ fn sent(f: Fate) -> Answer
         Fate::Marking => Answer::Marked,
         Fate::Keeping => Answer::Kept,
     }
-}
-
-// One send that is not refused.
-fn deliver(
-    ps: &mut [u64],
-    ts: &mut [u64],
-    tb: &mut [u8],
-    pb: &mut [u8],
-    queued: bool,
-    by: u32,
-    to: u32,
-    thread: u32,
-    signal: u32,
-    value: u64,
-) -> Answer
-    requires { ⌜ soundTables (now ps) (now ts) (now tb) (now pb) ≡ true ⌝ }
-    requires { ⌜ liveProcess (view (storeOf (now ps) (now ts) (now tb) (now pb))) by ≡ true ⌝ }
-    requires { ⌜ liveQueue (view (storeOf (now ps) (now ts) (now tb) (now pb))) (targetQueue to thread) ≡ true ⌝ }
-    requires { ⌜ signal ≤ signals ⌝ }
-    requires { ⌜ fitsAll (send (view (storeOf (now ps) (now ts) (now tb) (now pb))) queued by to thread signal value) (storeOf (now ps) (now ts) (now tb) (now pb)) ≡ true ⌝ }
-    ensures answer { λ r. ⌜ answerOf r ≡ sendAnswer (fate (view (storeOf (now (ps .entry)) (now (ts .entry)) (now (tb .entry)) (now (pb .entry)))) queued (targetQueue to thread) signal) ⌝ }
-    ensures store { λ r. ⌜ storeOf (now (ps .exit)) (now (ts .exit)) (now (tb .exit)) (now (pb .exit)) ≡ applyAll (send (view (storeOf (now (ps .entry)) (now (ts .entry)) (now (tb .entry)) (now (pb .entry)))) queued by to thread signal value) (storeOf (now (ps .entry)) (now (ts .entry)) (now (tb .entry)) (now (pb .entry))) ⌝ }
-{
-    let f = fate_of(ps, ts, tb, pb, queued, to, thread, signal);
-    let r = info(ps, ts, tb, pb, by, to, thread, signal, value);
-    carry_out(ps, ts, tb, pb, f, r);
-    sent(f)
 }
 
 // ---- refusals
@@ -261,6 +246,7 @@ fn is_bad_target(ps: &[u64], ts: &[u64], tb: &[u8], pb: &[u8], to: u32, thread: 
     view::process_of(ts, thread) != to
 }
 
+// A queued send is refused for all of this too.
 fn kill_refusal(
     ps: &[u64],
     ts: &[u64],
@@ -288,59 +274,71 @@ fn kill_refusal(
     0
 }
 
-fn needs_record(f: Fate) -> bool
-    ensures { λ r. ⌜ r ≡ needsRecord (fateOf f) ⌝ }
+// Is the send kept, and has the process all the records that it may have? The buffers are counted only for a send that is kept.
+fn has_no_room(ps: &[u64], ts: &[u64], tb: &[u8], pb: &[u8], f: Fate, to: u32) -> bool
+    requires { ⌜ soundTables (now ps) (now ts) (now tb) (now pb) ≡ true ⌝ }
+    ensures { λ r. ⌜ r ≡ (needsRecord (fateOf f) && leb recordLimit (view (storeOf (now (ps .entry)) (now (ts .entry)) (now (tb .entry)) (now (pb .entry))) .queued to)) ⌝ }
 {
     match f {
-        Fate::Keeping => true,
+        Fate::Keeping => RECORD_LIMIT <= queue::count_of(tb, to) + queue::count_of(pb, to),
         _ => false,
     }
 }
 
-// Would the send be kept, and has the process all the records that it may have?
-fn has_no_room(
+// All is decided before anything changes.
+fn judge(
     ps: &[u64],
     ts: &[u64],
     tb: &[u8],
     pb: &[u8],
-    to: u32,
-    thread: u32,
-    signal: u32,
-) -> bool
-    requires { ⌜ soundTables (now ps) (now ts) (now tb) (now pb) ≡ true ⌝ }
-    requires { ⌜ liveQueue (view (storeOf (now ps) (now ts) (now tb) (now pb))) (targetQueue to thread) ≡ true ⌝ }
-    requires { ⌜ signal ≤ signals ⌝ }
-    ensures { λ r. ⌜ r ≡ noRoom (view (storeOf (now (ps .entry)) (now (ts .entry)) (now (tb .entry)) (now (pb .entry)))) to thread signal ⌝ }
-{
-    let f = fate_of(ps, ts, tb, pb, true, to, thread, signal);
-    let queued = queue::count_of(tb, to) + queue::count_of(pb, to);
-    needs_record(f) & (RECORD_LIMIT <= queued)
-}
-
-// The value decides nothing.
-fn queue_refusal(
-    ps: &[u64],
-    ts: &[u64],
-    tb: &[u8],
-    pb: &[u8],
+    queued: bool,
     by: u32,
     to: u32,
     thread: u32,
     signal: u32,
-) -> u32
-    ensures { λ r. ⌜ r ≡ refusalOn (call.queue by to thread signal 0) (lent (now (ps .entry)) (now (ts .entry)) (now (tb .entry)) (now (pb .entry))) ⌝ }
+    value: u64,
+) -> Decision
+    ensures { λ r. ⌜ Decided (lent (now (ps .entry)) (now (ts .entry)) (now (tb .entry)) (now (pb .entry))) queued by to thread signal value r ⌝ }
 {
     let n = kill_refusal(ps, ts, tb, pb, by, to, thread, signal);
     if n != 0 {
-        return n;
+        return Decision::Refused(n);
     }
-    if has_no_room(ps, ts, tb, pb, to, thread, signal) {
-        return EAGAIN;
+    let f = fate_of(ps, ts, tb, pb, queued, to, thread, signal);
+    if has_no_room(ps, ts, tb, pb, f, to) {
+        return Decision::Refused(EAGAIN);
     }
-    0
+    Decision::Allowed(f, info(ps, ts, tb, pb, by, to, thread, signal, value))
 }
 
 // ---- the calls
+
+// One send, plain or queued; a plain one has no value.
+fn send(
+    ps: &mut [u64],
+    ts: &mut [u64],
+    tb: &mut [u8],
+    pb: &mut [u8],
+    queued: bool,
+    by: u32,
+    to: u32,
+    thread: u32,
+    signal: u32,
+    value: u64,
+) -> Answer
+    requires { ⌜ (queued ≡ false → value ≡ 0) ⌝ }
+    ensures answer { λ r. ⌜ answerOf r ≡ stepOn (sendCall queued by to thread signal value) (lent (now (ps .entry)) (now (ts .entry)) (now (tb .entry)) (now (pb .entry))) .1 ⌝ }
+    ensures tables { λ r. ⌜ lent (now (ps .exit)) (now (ts .exit)) (now (tb .exit)) (now (pb .exit)) ≡ stepOn (sendCall queued by to thread signal value) (lent (now (ps .entry)) (now (ts .entry)) (now (tb .entry)) (now (pb .entry))) .0 ⌝ }
+{
+    let decision = judge(ps, ts, tb, pb, queued, by, to, thread, signal, value);
+    match decision {
+        Decision::Refused(n) => Answer::Refused(n),
+        Decision::Allowed(f, r) => {
+            carry_out(ps, ts, tb, pb, f, r);
+            sent(f)
+        }
+    }
+}
 
 // Sends a signal without a value, to a process or, where it is not 0, to one of its threads.
 pub fn kill(
@@ -356,11 +354,7 @@ pub fn kill(
     ensures answer { λ r. ⌜ answerOf r ≡ stepOn (call.kill by to thread signal) (lent (now (ps .entry)) (now (ts .entry)) (now (tb .entry)) (now (pb .entry))) .1 ⌝ }
     ensures tables { λ r. ⌜ lent (now (ps .exit)) (now (ts .exit)) (now (tb .exit)) (now (pb .exit)) ≡ stepOn (call.kill by to thread signal) (lent (now (ps .entry)) (now (ts .entry)) (now (tb .entry)) (now (pb .entry))) .0 ⌝ }
 {
-    let n = kill_refusal(ps, ts, tb, pb, by, to, thread, signal);
-    if n != 0 {
-        return Answer::Refused(n);
-    }
-    deliver(ps, ts, tb, pb, false, by, to, thread, signal, 0)
+    send(ps, ts, tb, pb, false, by, to, thread, signal, 0)
 }
 
 // Sends a signal with a value.
@@ -378,9 +372,5 @@ pub fn sigqueue(
     ensures answer { λ r. ⌜ answerOf r ≡ stepOn (call.queue by to thread signal value) (lent (now (ps .entry)) (now (ts .entry)) (now (tb .entry)) (now (pb .entry))) .1 ⌝ }
     ensures tables { λ r. ⌜ lent (now (ps .exit)) (now (ts .exit)) (now (tb .exit)) (now (pb .exit)) ≡ stepOn (call.queue by to thread signal value) (lent (now (ps .entry)) (now (ts .entry)) (now (tb .entry)) (now (pb .entry))) .0 ⌝ }
 {
-    let n = queue_refusal(ps, ts, tb, pb, by, to, thread, signal);
-    if n != 0 {
-        return Answer::Refused(n);
-    }
-    deliver(ps, ts, tb, pb, true, by, to, thread, signal, value)
+    send(ps, ts, tb, pb, true, by, to, thread, signal, value)
 }

@@ -49,9 +49,6 @@ action-of-requires c κs =
     let t = a .args .thread in
     (processes-long ps ts tb pb (a .pre .0), (target-process v p t (queue-target v p t (a .pre .1 .0)), (omega (arith, c .before .before .if1 .left), a .pre .1 .1)))
 
-is-ignored-requires : tie.Need-is-ignored-requires
-is-ignored-requires c κs = search needs
-
 returns-4 : tie.Need-returns-4
 unfolding fateOf
 returns-4 c =
@@ -134,7 +131,7 @@ fate-of-spec =
     returns-2
     returns-3
     action-of-requires
-    is-ignored-requires
+    (λ c κs. search needs)
     returns-4
     is-absorbed-requires
     returns-5

@@ -7,21 +7,6 @@ use Rattle.sending.proofs.Decided.{absorbed}
 use Rattle.sending.proofs.is_absorbed.Statement.{statement}
 use Rattle.sending.proofs.is_absorbed.Tie as tie
 
-pending-of-requires : tie.Need-pending-of-requires
-pending-of-requires c κs = search needs
-
-marks-of-requires : tie.Need-marks-of-requires
-marks-of-requires c κs = search needs
-
-is-standard-requires : tie.Need-is-standard-requires
-is-standard-requires c κs = search needs
-
-has-requires : tie.Need-has-requires
-has-requires c κs = search needs
-
-has-requires-2 : tie.Need-has-requires-2
-has-requires-2 c κs = search needs
-
 returns : tie.Need-returns
 returns c =
     let d = c .before .before in
@@ -36,9 +21,9 @@ pub is-absorbed-spec : {M : Type 1} → statement M
 is-absorbed-spec =
     tie.close
     (tie.spec
-    pending-of-requires
-    marks-of-requires
-    is-standard-requires
-    has-requires
-    has-requires-2
+    (λ c κs. search needs)
+    (λ c κs. search needs)
+    (λ c κs. search needs)
+    (λ c κs. search needs)
+    (λ c κs. search needs)
     returns)

@@ -14,9 +14,6 @@ use Rattle.sending.proofs.Refused.{nobody-read, may-read, kill-fault, k
 use Rattle.sending.proofs.kill_refusal.Statement.{statement}
 use Rattle.sending.proofs.kill_refusal.Tie as tie
 
-sound-requires : tie.Need-sound-requires
-sound-requires c κs = search needs
-
 returns : tie.Need-returns
 returns c =
     let d = c .before in
@@ -124,7 +121,7 @@ pub kill-refusal-spec : {M : Type 1} → statement M
 kill-refusal-spec =
     tie.close
     (tie.spec
-    sound-requires
+    (λ c κs. search needs)
     returns
     returns-2
     is-process-requires

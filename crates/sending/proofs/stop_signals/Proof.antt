@@ -6,21 +6,6 @@ use Rattle.sending.proofs.Decided.{stops}
 use Rattle.sending.proofs.stop_signals.Statement.{statement}
 use Rattle.sending.proofs.stop_signals.Tie as tie
 
-of-signal-requires : tie.Need-of-signal-requires
-of-signal-requires c κs = search needs
-
-of-signal-requires-2 : tie.Need-of-signal-requires-2
-of-signal-requires-2 c κs = search needs
-
-union-requires : tie.Need-union-requires
-union-requires c κs = search needs
-
-of-signal-requires-3 : tie.Need-of-signal-requires-3
-of-signal-requires-3 c κs = search needs
-
-union-requires-2 : tie.Need-union-requires-2
-union-requires-2 c κs = search needs
-
 returns : tie.Need-returns
 returns c =
     let d = c .before .before in
@@ -32,9 +17,9 @@ pub stop-signals-spec : {M : Type 1} → statement M
 stop-signals-spec =
     tie.close
     (tie.spec
-    of-signal-requires
-    of-signal-requires-2
-    union-requires
-    of-signal-requires-3
-    union-requires-2
+    (λ c κs. search needs)
+    (λ c κs. search needs)
+    (λ c κs. search needs)
+    (λ c κs. search needs)
+    (λ c κs. search needs)
     returns)
