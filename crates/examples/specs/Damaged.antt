@@ -1,19 +1,20 @@
 -- Soundness, clause by clause: for each part of each clause a store that this clause alone refuses, and stores at the edge that none refuses.
 use Prim.Native.Nat.{ℕ, suc, _-_}
 use mathlib.Core.Path.{_≡_, refl}
-use mathlib.Core.Bool.{Bool, true, not}
+use mathlib.Core.Bool.{Bool, true, not, cond}
 use mathlib.Core.List.{List, [], _∷_, _++_, map}
 use lib.Dec.{eqb}
 use lib.ListN.{take as firsts, replicate}
 use Rattle.limits.specs.Limits.{processPlaces, threadPlaces, bufferRecords, signals, recordLimit, largestId, largestUser, knownFlags, siQueue, sigIgn, saSiginfo, SIGKILL, SIGSTOP, SIGCHLD, EFAULT}
 use Rattle.lists.specs.Lists.{range}
+use Rattle.sigset.specs.declared.SigSet.{SigSet}
 use Rattle.sigset.specs.Set.{bits, empty}
 use Rattle.types.specs.declared.Action.{Action}
 use Rattle.types.specs.declared.Siginfo.{Siginfo}
 use Rattle.types.specs.Values.{defaultAction}
 use Rattle.rules.specs.Types.{Process, Thread, Queue, addProcess, kill, queue, clear, refused, done}
 use Rattle.rules.specs.View.{Change, newProcess, newThread, setStopped, setAction, setMask, setMark, append, processQueue, isProcess}
-use Rattle.rules.specs.Store.{Store, cleared, withAction, amend, onProcesses, onThreads, onBuffer, applyAll}
+use Rattle.rules.specs.Store.{Store, cleared, withAction, amend, remark, isFreeProcess, isFreeThread, onProcesses, onThreads, onBuffer, applyAll}
 use Rattle.rules.specs.Sound.{lengthsRight, freeZero, idsInRange, idsDistinct, fieldsInRange, threadsOwned, processesPeopled, nothingUnmaskable, unmaskableDefault, allFlagsKnown, recordsLaidOut, limitKept, pendingOnce, nothingIgnored}
 use Rattle.rules.specs.Calls.{run, step}
 use Rattle.rules.specs.Computing.{computing}
@@ -90,6 +91,11 @@ infoOf p t s code = record { process = p; thread = t; signal = s; code = code; s
 abbrev info : (thread signal : ℕ) → Siginfo
 info t s = infoOf 100 t s siQueue
 
+-- the sample with these fields, and no process, in the slot behind the records of the process buffer
+abbrev behind : (thread signal code sender uid value : ℕ) → Store
+behind t s code sender uid value =
+    besides (processQueue 100) (record { process = 0; thread = t; signal = s; code = code; sender = sender; uid = uid; value = value })
+
 abbrev threadQueue : Queue
 threadQueue = record { process = 100; thread = 200 }
 
@@ -130,8 +136,9 @@ freePlaces =
     -- a free thread place with a process, with a mask
     ∷ by 1 (newThread (threadOf 0 100) ∷ [])
     ∷ by 1 (newThread (record { id = 0; process = 0; mask = bits 1 }) ∷ [])
-    -- marks in free places
-    ∷ by 1 (setMark (processQueue 0) 1 ∷ [])
+    -- marks in free places of either table
+    ∷ damage 1 (onProcesses (remark (λ (p : Process) (m : SigSet). cond (isFreeProcess p) (bits 1) m)) sample)
+    ∷ damage 1 (onThreads (remark (λ (t : Thread) (m : SigSet). cond (isFreeThread t) (bits 1) m)) sample)
     ∷ []
 
 abbrev ids : List Damage
@@ -186,6 +193,13 @@ records =
     -- the rest of either buffer is not zero
     damage 10 (besides threadQueue (infoOf 0 200 40 siQueue))
     ∷ damage 10 (besides (processQueue 100) (infoOf 0 0 40 siQueue))
+    -- any field of it
+    ∷ damage 10 (behind 1 0 0 0 0 0)
+    ∷ damage 10 (behind 0 1 0 0 0 0)
+    ∷ damage 10 (behind 0 0 1 0 0 0)
+    ∷ damage 10 (behind 0 0 0 1 0 0)
+    ∷ damage 10 (behind 0 0 0 0 1 0)
+    ∷ damage 10 (behind 0 0 0 0 0 1)
     -- another code; a signal that is none, or 9 or 19
     ∷ by 10 (append (infoOf 100 0 40 0) ∷ [])
     ∷ by 10 (append (info 0 0) ∷ [])
