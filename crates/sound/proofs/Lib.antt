@@ -1,5 +1,3 @@
-pub mod Endings
-pub mod PlaceEndings
 pub mod RecordEndings
 pub mod Marks
 pub mod Passes

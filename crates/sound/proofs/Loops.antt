@@ -20,7 +20,7 @@ use Rattle.queue.specs.Queue.{recordsOf}
 use Rattle.queue.proofs.Buffer.{length-recordsOf, record-read}
 use Rattle.tables.specs.Tables.{processesOf, threadsOf, heldProcesses}
 use Rattle.tables.proofs.Words.{length-processesOf, length-threadsOf, length-heldProcesses}
-use Rattle.sound.specs.Check.{placesOk, tallies, seenBy, seenSets, ownQueue, isFresh, bumped, noted, smallCounts, onePlace, processPlace, threadPlace, threadRecordOk, processRecordOk, threadRecordsOk, processRecordsOk}
+use Rattle.places.specs.Check.{placesOk, tallies, seenBy, seenSets, ownQueue, isFresh, bumped, noted, smallCounts, onePlace, processPlace, threadPlace, threadRecordOk, processRecordOk, threadRecordsOk, processRecordsOk}
 use Rattle.sound.proofs.Passes.{tally-bound}
 use Rattle.sound.proofs.Turns as turn
 use Rattle.sound.proofs.Regrouped.{places-one-process, places-one-thread}

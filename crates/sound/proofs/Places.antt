@@ -23,7 +23,7 @@ use Rattle.rules.specs.Sound.{ifLive, ifFree, isLive, processId, threadId, zero
 use Rattle.rules.proofs.Found.{default-is}
 use Rattle.rules.proofs.Unmaskable.{unmasked-empty}
 use Rattle.tables.specs.Tables.{actionTo, headTo, processTo, threadTo}
-use Rattle.sound.specs.Check.{isNought, headOk, actionOk, liveProcessOk, processOk, ownerOf, liveThreadOk, threadOk}
+use Rattle.places.specs.Check.{isNought, headOk, actionOk, liveProcessOk, processOk, ownerOf, liveThreadOk, threadOk}
 
 -- the store of the view that a record is held against
 abbrev pub placesStore : List (Place Process) → List (Place Thread) → Store

@@ -22,7 +22,7 @@ use Rattle.rules.proofs.Aimed.{thread-live, thread-process-live, process-live}
 use Rattle.tables.specs.Tables.{processesOf, threadsOf, heldProcesses, heldThreads, processAt, threadAt, threadTo}
 use Rattle.tables.proofs.Words.{length-heldProcesses, length-heldThreads}
 use Rattle.sound.proofs.Places.{placesStore}
-use Rattle.sound.specs.Check.{isDelivered, isFresh, bumped, noted, placesView, processPlace, threadPlace, threadRecordOk, processRecordOk}
+use Rattle.places.specs.Check.{isDelivered, isFresh, bumped, noted, placesView, processPlace, threadPlace, threadRecordOk, processRecordOk}
 
 -- ---- the shape of the two tests: code, signal, live process, where it is aimed, heard
 

@@ -23,7 +23,7 @@ use Rattle.rules.specs.Sound.{ifLive, ifFree, processId, threadId, zeroThread, 
 use Rattle.rules.proofs.Aimed.{thread-live, thread-owner, process-live, process-own}
 use Rattle.rules.proofs.Signals.{standard-is}
 use Rattle.rules.proofs.Marks.{processWith, threadWith, process-below, thread-below, process-marks, thread-marks}
-use Rattle.sound.specs.Check.{tallies, seenSets, ownQueue, isFresh, once, processPlace, threadPlace, threadRecordOk, processRecordOk, threadRecordGood, processRecordGood, threadRecordsOk, processRecordsOk, withinAt, allWithin}
+use Rattle.places.specs.Check.{tallies, seenSets, ownQueue, isFresh, once, processPlace, threadPlace, threadRecordOk, processRecordOk, threadRecordGood, processRecordGood, threadRecordsOk, processRecordsOk, withinAt, allWithin}
 use Rattle.sound.proofs.Passes.{fresh-marks}
 
 -- ---- a standard signal is pending once

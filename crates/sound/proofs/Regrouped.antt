@@ -17,7 +17,7 @@ use Rattle.rules.specs.Store.{Place, Store, held, freeProcess, freeThread, used
 use Rattle.rules.specs.Sound.{isLive, apart, ifLive, ifFree, processId, threadId, lengthsRight, zeroProcess, zeroThread, goodProcessId, goodThreadId, fieldsFit, belongs, hasThread, processUnmasked, threadUnmasked, killStopDefault, processFlagsKnown, restZero, aimedAtThread, aimedAtProcess, limitKept, isStandard, notTwice, notMarkedToo, recordHeard, processHeard, threadHeard, sound}
 use Rattle.rules.proofs.Ids.{one-held, distinct-held, held-distinct}
 use Rattle.rules.proofs.Parts.{Lengths, lengths-of, Parts, parts, sound-of}
-use Rattle.sound.specs.Check.{processOk, threadOk, processOkAt, threadOkAt, placesOk, recordsOk, checked}
+use Rattle.places.specs.Check.{processOk, threadOk, processOkAt, threadOkAt, placesOk, recordsOk, checked}
 use Rattle.sound.proofs.Places.{placesStore, ProcessRight, ThreadRight, process-right, process-first, process-ok, thread-right, thread-first, thread-ok}
 use Rattle.sound.proofs.Records.{clausesOf, thread-records, process-records, within-limit}
 

@@ -15,7 +15,7 @@ use Rattle.rules.specs.Store.{Place, held, freeProcess, freeThread, view}
 use Rattle.rules.specs.Sound.{aimedAtThread, aimedAtProcess}
 use Rattle.rules.proofs.Aimed.{thread-live, thread-process-live, thread-queue, thread-queue-one, process-live, process-queue, process-queue-one}
 use Rattle.rules.proofs.Marks.{process-below, thread-below}
-use Rattle.sound.specs.Check.{placesView, tallies, bumped, seenSets, ownQueue, isFresh, noted, once, processPlace, threadPlace, threadRecordOk, processRecordOk, threadRecordGood, processRecordGood, threadRecordsOk, processRecordsOk}
+use Rattle.places.specs.Check.{placesView, tallies, bumped, seenSets, ownQueue, isFresh, noted, once, processPlace, threadPlace, threadRecordOk, processRecordOk, threadRecordGood, processRecordGood, threadRecordsOk, processRecordsOk}
 use Rattle.sound.proofs.Places.{placesStore}
 use Rattle.sound.proofs.Passes.{fresh-is, seen-step, tally-step}
 

@@ -16,7 +16,7 @@ use Rattle.queue.proofs.Buffer.{length-slotsOf}
 use Rattle.tables.specs.Tables.{processesOf, threadsOf, heldProcesses}
 use Rattle.tables.proofs.Words.{length-processesOf, length-threadsOf, length-heldProcesses, all-actionsLong}
 use Rattle.sound.specs.Lent.{storeOf, lengthsAre, soundTables}
-use Rattle.sound.specs.Check.{tallies, placesOk, threadRecordsOk, processRecordsOk, allWithin, recordsOk, checked}
+use Rattle.places.specs.Check.{tallies, placesOk, threadRecordsOk, processRecordsOk, allWithin, recordsOk, checked}
 use Rattle.sound.proofs.Passes.{tally-start}
 use Rattle.sound.proofs.Regrouped.{regrouped}
 

@@ -2,8 +2,8 @@ use mathlib.Core.Path.{_≡_, refl, ap, _∙_}
 use lib.ListN.{getD, set}
 use Rattle.sigset.specs.declared.SigSet.{SigSet}
 use Rattle.sigset.specs.Set.{bits, union, ofSignal}
-use Rattle.sound.specs.Check.{bumped, noted}
-use Rattle.sound.proofs.Endings.{stale, fresh}
+use Rattle.places.specs.Check.{bumped, noted}
+use Rattle.places.proofs.Endings.{stale, fresh}
 use borrow.Author.Needs.{needs}
 use Rattle.sound.proofs.admit.Statement.{statement}
 use Rattle.sound.proofs.admit.Tie as tie

@@ -8,7 +8,7 @@ use native.Mathlib.Omega.{arith}
 use Rattle.limits.specs.Limits.{processPlaces}
 use Rattle.lists.specs.Lists.{all, range}
 use Rattle.lists.proofs.Loops.{range-none, range-more, range-fails}
-use Rattle.sound.specs.Check.{withinAt, allWithin}
+use Rattle.places.specs.Check.{withinAt, allWithin}
 use Rattle.sound.proofs.all_within.Statement.{statement}
 use Rattle.sound.proofs.all_within.Tie as tie
 

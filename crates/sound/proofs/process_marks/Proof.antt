@@ -9,7 +9,7 @@ use Rattle.lists.proofs.Loops.{filled, filled-none}
 use Rattle.rules.specs.Store.{freeProcess}
 use Rattle.tables.specs.Tables.{processesOf, headTo}
 use Rattle.tables.proofs.Words.{length-processesOf}
-use Rattle.sound.specs.Check.{seenBy, ownQueue}
+use Rattle.places.specs.Check.{seenBy, ownQueue}
 use Rattle.sound.proofs.Marks.{marks-more, marks-done}
 use Rattle.sound.proofs.process_marks.Statement.{statement}
 use Rattle.sound.proofs.process_marks.Tie as tie

@@ -4,7 +4,7 @@ use Rattle.types.specs.declared.Action.{Action}
 use Rattle.rules.specs.Signals.{ignored}
 use Rattle.rules.proofs.Signals.{nameable-signal}
 use Rattle.tables.specs.Tables.{processAt}
-use Rattle.sound.proofs.Endings.{unnamed, delivered}
+use Rattle.places.proofs.Endings.{unnamed, delivered}
 use borrow.Author.Needs.{needs}
 use Rattle.sound.proofs.record_heard.Statement.{statement}
 use Rattle.sound.proofs.record_heard.Tie as tie

@@ -10,7 +10,7 @@ use Rattle.rules.specs.View.{threadQueue}
 use Rattle.rules.specs.Store.{freeThread}
 use Rattle.tables.specs.Tables.{threadsOf, threadTo}
 use Rattle.tables.proofs.Words.{length-threadsOf}
-use Rattle.sound.specs.Check.{seenBy}
+use Rattle.places.specs.Check.{seenBy}
 use Rattle.sound.proofs.Marks.{marks-more, marks-done}
 use Rattle.sound.proofs.thread_marks.Statement.{statement}
 use Rattle.sound.proofs.thread_marks.Tie as tie

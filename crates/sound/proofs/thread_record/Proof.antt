@@ -1,7 +1,7 @@
 use mathlib.Core.Path.{refl, sym, _∙_}
 use borrow.Author.Tests.{not-true, not-false}
 use Rattle.lists.proofs.Bools.{and-left}
-use Rattle.sound.specs.Check.{processPlace, threadPlace}
+use Rattle.places.specs.Check.{processPlace, threadPlace}
 use Rattle.sound.proofs.RecordEndings.{thread-counted, thread-noted, admitted}
 use borrow.Author.Needs.{needs}
 use Rattle.sound.proofs.thread_record.Statement.{statement}

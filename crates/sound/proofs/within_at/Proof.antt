@@ -1,4 +1,4 @@
-use Rattle.sound.proofs.Endings.{over, room-left}
+use Rattle.places.proofs.Endings.{over, room-left}
 use borrow.Author.Needs.{needs}
 use Rattle.sound.proofs.within_at.Statement.{statement}
 use Rattle.sound.proofs.within_at.Tie as tie
