@@ -1,4 +1,5 @@
--- Soundness, clause by clause: for each part of each clause a store that this clause alone refuses, and stores at the edge that none refuses.
+-- Soundness, clause by clause: for each clause stores that it alone refuses, and stores at the edge that none refuses. Two parts have none of their own, since
+-- they follow from what stands beside them: that a live id is at least 1, and that the thread is live of which a record names the process.
 use Prim.Native.Nat.{ℕ, suc, _-_}
 use mathlib.Core.Path.{_≡_, refl}
 use mathlib.Core.Bool.{Bool, true, not, cond}
@@ -247,7 +248,7 @@ expected d = onlyFails (d .clause)
 abbrev Needed : List Damage → Type 0
 Needed ds = map caught ds ≡ map expected ds
 
--- no clause follows from the others, nor a part of a clause from the rest of it
+-- no clause follows from the others
 pub lengths-needed : Needed lengths
 unfolding verdicts onlyFails sample computing
 lengths-needed = refl
