@@ -7,6 +7,7 @@ use lib.Dec.{eqb}
 use lib.ListN.{replicate}
 use Rattle.limits.specs.Limits.{signals, sigDfl, sigBlock, sigUnblock, saNodefer, SIGKILL, SIGCHLD, SIGSTOP, SIGURG, SIGWINCH}
 use Rattle.lists.specs.Lists.{All, range}
+use Rattle.lists.proofs.Bools.{cond-map}
 use Rattle.sigset.specs.declared.SigSet.{SigSet}
 use Rattle.sigset.specs.Set.{Signal, has, union, without, ofSignal, isUnmaskable, empty}
 use Rattle.sigset.proofs.Laws.{has-empty, has-of, has-union, has-without, has-maskable}
@@ -43,11 +44,6 @@ module _ (v : View) (queued : Bool) (q : Queue) where
 
 -- ---- masks
 
--- one of two sets by a test
-has-cond : (b : Bool) (x y : SigSet) (s : ℕ) → has (cond b x y) s ≡ cond b (has x s) (has y s)
-has-cond true x y s = refl
-has-cond false x y s = refl
-
 -- way 0 adds the set, way 1 removes its members (and is no intersection), way 2 replaces
 pub new-mask-has : (old : SigSet) (way : ℕ) (set : SigSet) (s : ℕ) → Signal s
     → has (newMask old way set) s
@@ -56,9 +52,9 @@ unfolding newMask
 new-mask-has old way set s h =
     has-maskable _ s h
     ∙ ap (λ (b : Bool). b && not (isUnmaskable s))
-    (has-cond (eqb way sigBlock) (union old set) _ s
+    (cond-map (λ (x : SigSet). has x s) (eqb way sigBlock) (union old set) _
     ∙ ap₂ (λ (x y : Bool). cond (eqb way sigBlock) x y) (has-union old set s h)
-    (has-cond (eqb way sigUnblock) (without old set) set s ∙ ap (λ (x : Bool). cond (eqb way sigUnblock) x (has set s)) (has-without old set s h)))
+    (cond-map (λ (x : SigSet). has x s) (eqb way sigUnblock) (without old set) set ∙ ap (λ (x : Bool). cond (eqb way sigUnblock) x (has set s)) (has-without old set s h)))
 
 -- the handler's mask has the signal unless NODEFER is set, whatever the other flags are: RESETHAND does not imply it
 pub handler-mask-has : (old : SigSet) (a : Action) (signal s : ℕ) → Signal s
@@ -69,5 +65,5 @@ handler-mask-has old a signal s h =
     ∙ ap (λ (b : Bool). b && not (isUnmaskable s))
     (has-union _ _ s h
     ∙ ap₂ (λ (x y : Bool). x || y) (has-union old (a .mask) s h)
-    (has-cond (hasFlag a saNodefer) empty (ofSignal signal) s
+    (cond-map (λ (x : SigSet). has x s) (hasFlag a saNodefer) empty (ofSignal signal)
     ∙ ap₂ (λ (x y : Bool). cond (hasFlag a saNodefer) x y) (has-empty s) (has-of signal s h)))
