@@ -1,7 +1,7 @@
 /*
  * Rrezhbuta: a POSIX signal layer over tables that the host lends.
  *
- * Link with target/staticlib/libkernel.a, which `rt staticlib kernel` writes. What each call does, and when it is refused, is in docs/CALLS.md.
+ * Link with target/staticlib/librrezhbuta.a, which `rt staticlib rrezhbuta` writes. What each call does, and when it is refused, is in docs/CALLS.md.
  *
  * Every call checks the whole of the four tables, then does its work or refuses it. It returns 0, or an errno and has then written nothing, neither
  * to a table nor through a pointer that it was given for its result. The layer keeps no state and no pointer between calls. It takes no lock: a host with
@@ -119,14 +119,14 @@ extern "C" {
 #define RREZHBUTA_CALL_END_PROCESS UINT32_C(4)
 #define RREZHBUTA_CALL_END_THREAD UINT32_C(5)
 #define RREZHBUTA_CALL_KILL UINT32_C(6)
-#define RREZHBUTA_CALL_QUEUE UINT32_C(7)
-#define RREZHBUTA_CALL_ACTION UINT32_C(8)
-#define RREZHBUTA_CALL_MASK UINT32_C(9)
-#define RREZHBUTA_CALL_PENDING UINT32_C(10)
+#define RREZHBUTA_CALL_SIGQUEUE UINT32_C(7)
+#define RREZHBUTA_CALL_SIGACTION UINT32_C(8)
+#define RREZHBUTA_CALL_SIGMASK UINT32_C(9)
+#define RREZHBUTA_CALL_SIGPENDING UINT32_C(10)
 #define RREZHBUTA_CALL_LOOK UINT32_C(11)
 #define RREZHBUTA_CALL_WHO UINT32_C(12)
 #define RREZHBUTA_CALL_TAKE UINT32_C(13)
-#define RREZHBUTA_CALL_RETURN UINT32_C(14)
+#define RREZHBUTA_CALL_SIGRETURN UINT32_C(14)
 
 /* The answers: the first of the words that a call writes. */
 #define RREZHBUTA_ANSWER_DONE UINT64_C(1)
@@ -413,7 +413,7 @@ static inline int rrezhbuta_queue(const struct rrezhbuta_tables *tables, uint32_
     const uint32_t narrow[6] = {by, to, thread, signal};
     const uint64_t wide[3] = {value};
     struct rrezhbuta_answer answer;
-    int refusal = rrezhbuta_serve(tables, &answer, RREZHBUTA_CALL_QUEUE, narrow, wide);
+    int refusal = rrezhbuta_serve(tables, &answer, RREZHBUTA_CALL_SIGQUEUE, narrow, wide);
     if (refusal == 0 && sent != NULL)
         *sent = answer.number;
     return refusal;
@@ -428,7 +428,7 @@ static inline int rrezhbuta_action(const struct rrezhbuta_tables *tables, uint32
     const uint32_t narrow[6] = {process, signal, action != NULL};
     const uint64_t wide[3] = {stored->handler, stored->flags, stored->mask};
     struct rrezhbuta_answer answer;
-    int refusal = rrezhbuta_serve(tables, &answer, RREZHBUTA_CALL_ACTION, narrow, wide);
+    int refusal = rrezhbuta_serve(tables, &answer, RREZHBUTA_CALL_SIGACTION, narrow, wide);
     if (refusal == 0 && old != NULL) {
         old->handler = answer.values[RREZHBUTA_ACTION_HANDLER];
         old->flags = answer.values[RREZHBUTA_ACTION_FLAGS];
@@ -443,7 +443,7 @@ static inline int rrezhbuta_mask(const struct rrezhbuta_tables *tables, uint32_t
     const uint32_t narrow[6] = {thread, way, set != NULL};
     const uint64_t wide[3] = {set != NULL ? *set : 0};
     struct rrezhbuta_answer answer;
-    int refusal = rrezhbuta_serve(tables, &answer, RREZHBUTA_CALL_MASK, narrow, wide);
+    int refusal = rrezhbuta_serve(tables, &answer, RREZHBUTA_CALL_SIGMASK, narrow, wide);
     if (refusal == 0 && old != NULL)
         *old = answer.values[0];
     return refusal;
@@ -453,7 +453,7 @@ static inline int rrezhbuta_mask(const struct rrezhbuta_tables *tables, uint32_t
 static inline int rrezhbuta_pending(const struct rrezhbuta_tables *tables, uint32_t thread, uint64_t *set)
 {
     struct rrezhbuta_answer answer;
-    int refusal = rrezhbuta_serve_ids(tables, &answer, RREZHBUTA_CALL_PENDING, thread, 0);
+    int refusal = rrezhbuta_serve_ids(tables, &answer, RREZHBUTA_CALL_SIGPENDING, thread, 0);
     if (refusal == 0)
         *set = answer.values[0];
     return refusal;
@@ -525,7 +525,7 @@ static inline int rrezhbuta_sigreturn(const struct rrezhbuta_tables *tables, uin
     const uint32_t narrow[6] = {thread};
     const uint64_t wide[3] = {mask};
     struct rrezhbuta_answer answer;
-    int refusal = rrezhbuta_serve(tables, &answer, RREZHBUTA_CALL_RETURN, narrow, wide);
+    int refusal = rrezhbuta_serve(tables, &answer, RREZHBUTA_CALL_SIGRETURN, narrow, wide);
     if (refusal == 0 && old != NULL)
         *old = answer.values[0];
     return refusal;

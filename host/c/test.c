@@ -482,11 +482,11 @@ static void the_numbers_of_the_answers(void)
     kill_sent(0, 2);
     CHECK(answered(RREZHBUTA_CALL_WHO, 100, 0, 200) == RREZHBUTA_ANSWER_CAN_TAKE);
     handle(10, 0, 0);
-    CHECK(answered(RREZHBUTA_CALL_ACTION, 100, 10, HANDLER) == RREZHBUTA_ANSWER_OLD_ACTION);
+    CHECK(answered(RREZHBUTA_CALL_SIGACTION, 100, 10, HANDLER) == RREZHBUTA_ANSWER_OLD_ACTION);
     DONE(rrezhbuta_sigreturn(&tables, 200, BIT(2), NULL));
-    CHECK(answered(RREZHBUTA_CALL_PENDING, 200, 0, BIT(2)) == RREZHBUTA_ANSWER_PENDING_SET);
-    CHECK(answered(RREZHBUTA_CALL_MASK, 200, 0, BIT(2)) == RREZHBUTA_ANSWER_OLD_MASK);
-    CHECK(answered(RREZHBUTA_CALL_RETURN, 200, 0, BIT(2)) == RREZHBUTA_ANSWER_OLD_MASK);
+    CHECK(answered(RREZHBUTA_CALL_SIGPENDING, 200, 0, BIT(2)) == RREZHBUTA_ANSWER_PENDING_SET);
+    CHECK(answered(RREZHBUTA_CALL_SIGMASK, 200, 0, BIT(2)) == RREZHBUTA_ANSWER_OLD_MASK);
+    CHECK(answered(RREZHBUTA_CALL_SIGRETURN, 200, 0, BIT(2)) == RREZHBUTA_ANSWER_OLD_MASK);
     CHECK(answered(RREZHBUTA_CALL_END_THREAD, 201, 0, 0) == RREZHBUTA_ANSWER_DONE);
     CHECK(answered(RREZHBUTA_CALL_END_PROCESS, 100, 0, 0) == RREZHBUTA_ANSWER_DONE);
     CHECK(answered(RREZHBUTA_CALL_CLEAR, 0, 0, 0) == RREZHBUTA_ANSWER_DONE);
@@ -495,8 +495,8 @@ static void the_numbers_of_the_answers(void)
 static void the_room_for_the_answer(void)
 {
     start();
-    DONE(numbered(RREZHBUTA_CALL_ACTION, RREZHBUTA_ANSWER_WORDS));
-    for (uint32_t number = RREZHBUTA_CALL_CLEAR; number <= RREZHBUTA_CALL_RETURN; number++) {
+    DONE(numbered(RREZHBUTA_CALL_SIGACTION, RREZHBUTA_ANSWER_WORDS));
+    for (uint32_t number = RREZHBUTA_CALL_CLEAR; number <= RREZHBUTA_CALL_SIGRETURN; number++) {
         REFUSED(RREZHBUTA_EINVAL, (int)numbered(number, RREZHBUTA_ANSWER_WORDS - 1));
         REFUSED(RREZHBUTA_EINVAL, (int)numbered(number, 0));
     }
@@ -506,11 +506,11 @@ static void unknown_calls(void)
 {
     start();
     REFUSED(RREZHBUTA_EINVAL, (int)numbered(0, RREZHBUTA_ANSWER_WORDS));
-    REFUSED(RREZHBUTA_EINVAL, (int)numbered(RREZHBUTA_CALL_RETURN + 1, RREZHBUTA_ANSWER_WORDS));
+    REFUSED(RREZHBUTA_EINVAL, (int)numbered(RREZHBUTA_CALL_SIGRETURN + 1, RREZHBUTA_ANSWER_WORDS));
     store.processes[1].stopped = 2;
     REFUSED(RREZHBUTA_EFAULT, (int)numbered(0, RREZHBUTA_ANSWER_WORDS));
-    REFUSED(RREZHBUTA_EFAULT, (int)numbered(RREZHBUTA_CALL_RETURN + 1, 0));
-    REFUSED(RREZHBUTA_EFAULT, (int)numbered(RREZHBUTA_CALL_ACTION, 0));
+    REFUSED(RREZHBUTA_EFAULT, (int)numbered(RREZHBUTA_CALL_SIGRETURN + 1, 0));
+    REFUSED(RREZHBUTA_EFAULT, (int)numbered(RREZHBUTA_CALL_SIGACTION, 0));
 }
 
 /* every function on the tables as they are lent */

@@ -1,11 +1,11 @@
-//! Links libkernel.a, which `rt staticlib kernel` writes.
+//! Links librrezhbuta.a, which `rt staticlib rrezhbuta` writes.
 
 fn main() {
     let root = std::path::Path::new(env!("CARGO_MANIFEST_DIR")).join("../../target/staticlib");
     println!("cargo:rustc-link-search=native={}", root.display());
-    println!("cargo:rustc-link-lib=static=kernel");
+    println!("cargo:rustc-link-lib=static=rrezhbuta");
     println!(
         "cargo:rerun-if-changed={}",
-        root.join("libkernel.a").display()
+        root.join("librrezhbuta.a").display()
     );
 }

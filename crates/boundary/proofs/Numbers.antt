@@ -7,7 +7,7 @@ use native.Mathlib.Omega.{arith}
 use lib.Dec.{ltb}
 use borrow.Author.Tests.{eq-eqb, ne-eqb, ltb-false, not-true}
 use Rattle.lists.proofs.Bools.{and-fst, and-snd, cond-true, cond-false}
-use Rattle.limits.specs.Limits.{callClear, callReturn}
+use Rattle.limits.specs.Limits.{callClear, callSigreturn}
 use Rattle.boundary.specs.Boundary.{Arguments, whereGiven, isCall, numbered}
 
 module _ {A : Type 0} (n : ℕ) (v : A) where
@@ -23,12 +23,12 @@ module _ {A : Type 0} (n : ℕ) (v : A) where
 pub at-number : (n k : ℕ) (g : Arguments) → n ≡ k → numbered k g ≡ numbered n g
 at-number n k g e = ap (λ (m : ℕ). numbered m g) (sym e)
 
-pub call-bounds : (n : ℕ) → isCall n ≡ true → (callClear ≤ n) × (n ≤ callReturn)
+pub call-bounds : (n : ℕ) → isCall n ≡ true → (callClear ≤ n) × (n ≤ callSigreturn)
 unfolding isCall
 call-bounds n e =
     let low : Bool = ltb n callClear in
-    let high : Bool = ltb callReturn n in
-    (ltb-false n callClear (not-true low (and-fst (not low) (not high) e)), ltb-false callReturn n (not-true high (and-snd (not low) (not high) e)))
+    let high : Bool = ltb callSigreturn n in
+    (ltb-false n callClear (not-true low (and-fst (not low) (not high) e)), ltb-false callSigreturn n (not-true high (and-snd (not low) (not high) e)))
 
 -- n is none of the first k numbers from 1 on
 abbrev pub Passed : ℕ → ℕ → Type 0

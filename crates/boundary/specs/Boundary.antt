@@ -5,7 +5,7 @@ use mathlib.Core.List.{List, [], _∷_, _++_}
 use mathlib.Core.Option.{Option, some, none}
 use lib.Dec.{eqb, ltb}
 use lib.ListN.{getD, drop}
-use Rattle.limits.specs.Limits.{EFAULT, EINVAL, callClear, callReturn, answerDone, answerTested, answerActed, answerDropped, answerAbsorbed, answerMarked, answerKept, answerOldAction, answerOldMask, answerPendingSet, answerNextNothing, answerNextMark, answerNextRecord, answerCanTake, answerNoneCan, answerNothing, answerHandler, answerEnd, answerStop, answerNoAction, answerWords}
+use Rattle.limits.specs.Limits.{EFAULT, EINVAL, callClear, callSigreturn, answerDone, answerTested, answerActed, answerDropped, answerAbsorbed, answerMarked, answerKept, answerOldAction, answerOldMask, answerPendingSet, answerNextNothing, answerNextMark, answerNextRecord, answerCanTake, answerNoneCan, answerNothing, answerHandler, answerEnd, answerStop, answerNoAction, answerWords}
 use Rattle.lists.specs.Lists.{padded}
 use Rattle.sigset.specs.Set.{bits}
 use Rattle.types.specs.declared.Siginfo.{Siginfo}
@@ -55,7 +55,7 @@ callsOf g =
 
 -- numbers go from that of the first call to that of the last
 unfoldable pub isCall : ℕ → Bool
-isCall n = not (ltb n callClear) && not (ltb callReturn n)
+isCall n = not (ltb n callClear) && not (ltb callSigreturn n)
 
 unfoldable pub numbered : ℕ → Arguments → Call
 numbered n g = getD (callsOf g) (n - callClear) clear

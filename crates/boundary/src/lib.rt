@@ -39,7 +39,6 @@ use limits::ANSWER_PENDING_SET;
 use limits::ANSWER_STOP;
 use limits::ANSWER_TESTED;
 use limits::ANSWER_WORDS;
-use limits::CALL_ACTION;
 use limits::CALL_ADD_PROCESS;
 use limits::CALL_ADD_THREAD;
 use limits::CALL_CLEAR;
@@ -47,10 +46,11 @@ use limits::CALL_END_PROCESS;
 use limits::CALL_END_THREAD;
 use limits::CALL_KILL;
 use limits::CALL_LOOK;
-use limits::CALL_MASK;
-use limits::CALL_PENDING;
-use limits::CALL_QUEUE;
-use limits::CALL_RETURN;
+use limits::CALL_SIGACTION;
+use limits::CALL_SIGMASK;
+use limits::CALL_SIGPENDING;
+use limits::CALL_SIGQUEUE;
+use limits::CALL_SIGRETURN;
 use limits::CALL_TAKE;
 use limits::CALL_WHO;
 use limits::EFAULT;
@@ -108,10 +108,10 @@ fn call_of(
         CALL_END_PROCESS => Call::EndProcess(a),
         CALL_END_THREAD => Call::EndThread(a),
         CALL_KILL => Call::Kill(a, b, c, d),
-        CALL_QUEUE => Call::Queue(a, b, c, d, x),
-        CALL_ACTION => Call::Action(a, b, given_action(c, x, y, z)),
-        CALL_MASK => Call::Mask(a, b, given_set(c, x)),
-        CALL_PENDING => Call::Pending(a),
+        CALL_SIGQUEUE => Call::Queue(a, b, c, d, x),
+        CALL_SIGACTION => Call::Action(a, b, given_action(c, x, y, z)),
+        CALL_SIGMASK => Call::Mask(a, b, given_set(c, x)),
+        CALL_SIGPENDING => Call::Pending(a),
         CALL_LOOK => Call::Look(a),
         CALL_WHO => Call::Who(a),
         CALL_TAKE => Call::Take(a),
@@ -244,7 +244,7 @@ fn write(out: &mut [u64], words: [u64; ANSWER_WORDS])
 fn is_accepted(number: u32, room: usize) -> bool
     ensures { λ r. ⌜ r ≡ accepted number room ⌝ }
 {
-    let is_call = !(number < CALL_CLEAR) & !(CALL_RETURN < number);
+    let is_call = !(number < CALL_CLEAR) & !(CALL_SIGRETURN < number);
     is_call & !(room < ANSWER_WORDS)
 }
 

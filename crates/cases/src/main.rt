@@ -3,14 +3,14 @@
 use limits::ANSWER_HANDLER;
 use limits::ANSWER_WORDS;
 use limits::BUFFER_BYTES;
-use limits::CALL_ACTION;
 use limits::CALL_ADD_PROCESS;
 use limits::CALL_CLEAR;
 use limits::CALL_KILL;
-use limits::CALL_MASK;
-use limits::CALL_PENDING;
-use limits::CALL_QUEUE;
-use limits::CALL_RETURN;
+use limits::CALL_SIGACTION;
+use limits::CALL_SIGMASK;
+use limits::CALL_SIGPENDING;
+use limits::CALL_SIGQUEUE;
+use limits::CALL_SIGRETURN;
 use limits::CALL_TAKE;
 use limits::CALL_WHO;
 use limits::PROCESS_TABLE;
@@ -310,22 +310,32 @@ fn call_of(row: Row, saved: u64) -> Call {
         Row::Clear => Call(false, CALL_CLEAR, 0, 0, 0, 0, 0, 0, 0),
         Row::Process(mask) => Call(false, CALL_ADD_PROCESS, PID, UID, UID, UID, mask, 0, 0),
         Row::Handler(s, flags, mask) => {
-            Call(false, CALL_ACTION, PID, s, GIVEN, 0, HANDLER, flags, mask)
+            Call(
+                false,
+                CALL_SIGACTION,
+                PID,
+                s,
+                GIVEN,
+                0,
+                HANDLER,
+                flags,
+                mask,
+            )
         }
-        Row::Fill(s, value) => Call(false, CALL_QUEUE, PID, PID, 0, s, value, 0, 0),
+        Row::Fill(s, value) => Call(false, CALL_SIGQUEUE, PID, PID, 0, s, value, 0, 0),
         Row::Raise(s) => Call(false, CALL_KILL, PID, PID, 0, s, 0, 0, 0),
         Row::Enter => Call(false, CALL_TAKE, TID, 0, 0, 0, 0, 0, 0),
-        Row::Unblock => Call(false, CALL_MASK, TID, SIG_SETMASK, GIVEN, 0, 0, 0, 0),
-        Row::Mask(way, set) => Call(true, CALL_MASK, TID, way, GIVEN, 0, set, 0, 0),
-        Row::NoSet(way) => Call(true, CALL_MASK, TID, way, 0, 0, 0, 0, 0),
+        Row::Unblock => Call(false, CALL_SIGMASK, TID, SIG_SETMASK, GIVEN, 0, 0, 0, 0),
+        Row::Mask(way, set) => Call(true, CALL_SIGMASK, TID, way, GIVEN, 0, set, 0, 0),
+        Row::NoSet(way) => Call(true, CALL_SIGMASK, TID, way, 0, 0, 0, 0, 0),
         Row::Kill(t, s) => Call(true, CALL_KILL, PID, PID, t, s, 0, 0, 0),
-        Row::Queue(t, s, value) => Call(true, CALL_QUEUE, PID, PID, t, s, value, 0, 0),
+        Row::Queue(t, s, value) => Call(true, CALL_SIGQUEUE, PID, PID, t, s, value, 0, 0),
         Row::Take => Call(true, CALL_TAKE, TID, 0, 0, 0, 0, 0, 0),
-        Row::Pending => Call(true, CALL_PENDING, TID, 0, 0, 0, 0, 0, 0),
+        Row::Pending => Call(true, CALL_SIGPENDING, TID, 0, 0, 0, 0, 0, 0),
         Row::Who => Call(true, CALL_WHO, PID, 0, 0, 0, 0, 0, 0),
-        Row::Enquire(s) => Call(true, CALL_ACTION, PID, s, 0, 0, 0, 0, 0),
+        Row::Enquire(s) => Call(true, CALL_SIGACTION, PID, s, 0, 0, 0, 0, 0),
         // the one that is left
-        _ => Call(false, CALL_RETURN, TID, 0, 0, 0, saved, 0, 0),
+        _ => Call(false, CALL_SIGRETURN, TID, 0, 0, 0, saved, 0, 0),
     }
 }
 

@@ -236,17 +236,17 @@ callEndThread = 5
 abbrev pub callKill : ℕ
 callKill = 6
 
-abbrev pub callQueue : ℕ
-callQueue = 7
+abbrev pub callSigqueue : ℕ
+callSigqueue = 7
 
-abbrev pub callAction : ℕ
-callAction = 8
+abbrev pub callSigaction : ℕ
+callSigaction = 8
 
-abbrev pub callMask : ℕ
-callMask = 9
+abbrev pub callSigmask : ℕ
+callSigmask = 9
 
-abbrev pub callPending : ℕ
-callPending = 10
+abbrev pub callSigpending : ℕ
+callSigpending = 10
 
 abbrev pub callLook : ℕ
 callLook = 11
@@ -257,8 +257,8 @@ callWho = 12
 abbrev pub callTake : ℕ
 callTake = 13
 
-abbrev pub callReturn : ℕ
-callReturn = 14
+abbrev pub callSigreturn : ℕ
+callSigreturn = 14
 
 -- ---- the answers there: the first word of each, and the words of the longest
 

@@ -164,13 +164,13 @@ pub const CALL_END_THREAD: u32 = 5;
 
 pub const CALL_KILL: u32 = 6;
 
-pub const CALL_QUEUE: u32 = 7;
+pub const CALL_SIGQUEUE: u32 = 7;
 
-pub const CALL_ACTION: u32 = 8;
+pub const CALL_SIGACTION: u32 = 8;
 
-pub const CALL_MASK: u32 = 9;
+pub const CALL_SIGMASK: u32 = 9;
 
-pub const CALL_PENDING: u32 = 10;
+pub const CALL_SIGPENDING: u32 = 10;
 
 pub const CALL_LOOK: u32 = 11;
 
@@ -178,7 +178,7 @@ pub const CALL_WHO: u32 = 12;
 
 pub const CALL_TAKE: u32 = 13;
 
-pub const CALL_RETURN: u32 = 14;
+pub const CALL_SIGRETURN: u32 = 14;
 
 // ---- the answers there: the first word of each, and the words of the longest
 

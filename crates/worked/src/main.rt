@@ -2,16 +2,16 @@
 // answer, and what the tables then say, read from their words and bytes. host/ledger reads it.
 use limits::ANSWER_WORDS;
 use limits::BUFFER_BYTES;
-use limits::CALL_ACTION;
 use limits::CALL_ADD_PROCESS;
 use limits::CALL_ADD_THREAD;
 use limits::CALL_CLEAR;
 use limits::CALL_KILL;
 use limits::CALL_LOOK;
-use limits::CALL_MASK;
-use limits::CALL_PENDING;
-use limits::CALL_QUEUE;
-use limits::CALL_RETURN;
+use limits::CALL_SIGACTION;
+use limits::CALL_SIGMASK;
+use limits::CALL_SIGPENDING;
+use limits::CALL_SIGQUEUE;
+use limits::CALL_SIGRETURN;
 use limits::CALL_TAKE;
 use limits::CALL_WHO;
 use limits::PROCESS_TABLE;
@@ -133,16 +133,16 @@ fn call_of(row: Row) -> Call {
         }
         Row::AddThread(creator, id) => Call(CALL_ADD_THREAD, creator, id, 0, 0, 0, 0, 0, 0, 0),
         Row::Kill(by, to, t, s) => Call(CALL_KILL, by, to, t, s, 0, 0, 0, 0, 0),
-        Row::Queue(by, to, t, s, value) => Call(CALL_QUEUE, by, to, t, s, 0, 0, value, 0, 0),
+        Row::Queue(by, to, t, s, value) => Call(CALL_SIGQUEUE, by, to, t, s, 0, 0, value, 0, 0),
         Row::Action(p, s, handler, flags) => {
-            Call(CALL_ACTION, p, s, GIVEN, 0, 0, 0, handler, flags, 0)
+            Call(CALL_SIGACTION, p, s, GIVEN, 0, 0, 0, handler, flags, 0)
         }
-        Row::Mask(t, way, set) => Call(CALL_MASK, t, way, GIVEN, 0, 0, 0, set, 0, 0),
-        Row::Pending(t) => Call(CALL_PENDING, t, 0, 0, 0, 0, 0, 0, 0, 0),
+        Row::Mask(t, way, set) => Call(CALL_SIGMASK, t, way, GIVEN, 0, 0, 0, set, 0, 0),
+        Row::Pending(t) => Call(CALL_SIGPENDING, t, 0, 0, 0, 0, 0, 0, 0, 0),
         Row::Look(t) => Call(CALL_LOOK, t, 0, 0, 0, 0, 0, 0, 0, 0),
         Row::Who(p) => Call(CALL_WHO, p, 0, 0, 0, 0, 0, 0, 0, 0),
         Row::Take(t) => Call(CALL_TAKE, t, 0, 0, 0, 0, 0, 0, 0, 0),
-        Row::Return(t, mask) => Call(CALL_RETURN, t, 0, 0, 0, 0, 0, mask, 0, 0),
+        Row::Return(t, mask) => Call(CALL_SIGRETURN, t, 0, 0, 0, 0, 0, mask, 0, 0),
     }
 }
 

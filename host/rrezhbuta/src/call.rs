@@ -186,18 +186,18 @@ impl Call {
                 thread,
                 signal,
                 value,
-            } => numbers(CALL_QUEUE, [by, to, thread, signal], [value]),
+            } => numbers(CALL_SIGQUEUE, [by, to, thread, signal], [value]),
             Call::Action {
                 process,
                 signal,
                 new,
             } => action_numbers(process, signal, new),
             Call::Mask { thread, way, set } => mask_numbers(thread, way, set),
-            Call::Pending { thread } => numbers(CALL_PENDING, [thread], []),
+            Call::Pending { thread } => numbers(CALL_SIGPENDING, [thread], []),
             Call::Look { thread } => numbers(CALL_LOOK, [thread], []),
             Call::Who { process } => numbers(CALL_WHO, [process], []),
             Call::Take { thread } => numbers(CALL_TAKE, [thread], []),
-            Call::Return { thread, mask } => numbers(CALL_RETURN, [thread], [mask.0]),
+            Call::Return { thread, mask } => numbers(CALL_SIGRETURN, [thread], [mask.0]),
         }
     }
 }
@@ -206,11 +206,11 @@ impl Call {
 fn action_numbers(process: u32, signal: u32, new: Option<Action>) -> Numbers {
     let action = new.unwrap_or_default();
     let wide = [action.handler, action.flags, action.mask.0];
-    numbers(CALL_ACTION, [process, signal, new.is_some() as u32], wide)
+    numbers(CALL_SIGACTION, [process, signal, new.is_some() as u32], wide)
 }
 
 /// The third number says whether a set is given.
 fn mask_numbers(thread: u32, way: u32, set: Option<SigSet>) -> Numbers {
     let given = set.is_some() as u32;
-    numbers(CALL_MASK, [thread, way, given], [set.unwrap_or_default().0])
+    numbers(CALL_SIGMASK, [thread, way, given], [set.unwrap_or_default().0])
 }

@@ -2,7 +2,7 @@
 use mathlib.Core.Path.{_≡_, ap, _∙_}
 use native.Mathlib.Omega.{arith}
 use borrow.Author.Needs.{needs}
-use Rattle.limits.specs.Limits.{callClear, callAddProcess, callAddThread, callEndProcess, callEndThread, callKill, callQueue, callAction, callMask, callPending, callLook, callWho, callTake, callReturn}
+use Rattle.limits.specs.Limits.{callClear, callAddProcess, callAddThread, callEndProcess, callEndThread, callKill, callSigqueue, callSigaction, callSigmask, callSigpending, callLook, callWho, callTake, callSigreturn}
 use Rattle.rules.specs.Types.{action, mask}
 use Rattle.calls.specs.Calls.{callOf}
 use Rattle.boundary.specs.Boundary.{arguments, callsOf, numbered}
@@ -50,25 +50,25 @@ returns-7 : tie.Need-returns-7
 unfolding callOf numbered callsOf
 returns-7 c =
     let a = c .before .args in
-    at-number (a .number) callQueue (arguments (a .a) (a .b) (a .c) (a .d) (a .e) (a .f) (a .x) (a .y) (a .z)) (c .match .keys7)
+    at-number (a .number) callSigqueue (arguments (a .a) (a .b) (a .c) (a .d) (a .e) (a .f) (a .x) (a .y) (a .z)) (c .match .keys7)
 
 returns-8 : tie.Need-returns-8
 unfolding callOf numbered callsOf
 returns-8 c =
     let a = c .before .before .args in
-    ap (action (a .a) (a .b)) (c .given-action .ensures) ∙ at-number (a .number) callAction (arguments (a .a) (a .b) (a .c) (a .d) (a .e) (a .f) (a .x) (a .y) (a .z)) (c .before .match .keys8)
+    ap (action (a .a) (a .b)) (c .given-action .ensures) ∙ at-number (a .number) callSigaction (arguments (a .a) (a .b) (a .c) (a .d) (a .e) (a .f) (a .x) (a .y) (a .z)) (c .before .match .keys8)
 
 returns-9 : tie.Need-returns-9
 unfolding callOf numbered callsOf
 returns-9 c =
     let a = c .before .before .args in
-    ap (mask (a .a) (a .b)) (c .given-set .ensures) ∙ at-number (a .number) callMask (arguments (a .a) (a .b) (a .c) (a .d) (a .e) (a .f) (a .x) (a .y) (a .z)) (c .before .match .keys9)
+    ap (mask (a .a) (a .b)) (c .given-set .ensures) ∙ at-number (a .number) callSigmask (arguments (a .a) (a .b) (a .c) (a .d) (a .e) (a .f) (a .x) (a .y) (a .z)) (c .before .match .keys9)
 
 returns-10 : tie.Need-returns-10
 unfolding callOf numbered callsOf
 returns-10 c =
     let a = c .before .args in
-    at-number (a .number) callPending (arguments (a .a) (a .b) (a .c) (a .d) (a .e) (a .f) (a .x) (a .y) (a .z)) (c .match .keys10)
+    at-number (a .number) callSigpending (arguments (a .a) (a .b) (a .c) (a .d) (a .e) (a .f) (a .x) (a .y) (a .z)) (c .match .keys10)
 
 returns-11 : tie.Need-returns-11
 unfolding callOf numbered callsOf
@@ -93,8 +93,8 @@ unfolding callOf numbered callsOf
 returns-14 c =
     let a = c .before .args in
     let b = call-bounds (a .number) (c .before .pre) in
-    let last : a .number ≡ callReturn = omega (arith, b .1, past (a .number) callTake (c .match .rest) (b .0)) in
-    at-number (a .number) callReturn (arguments (a .a) (a .b) (a .c) (a .d) (a .e) (a .f) (a .x) (a .y) (a .z)) last
+    let last : a .number ≡ callSigreturn = omega (arith, b .1, past (a .number) callTake (c .match .rest) (b .0)) in
+    at-number (a .number) callSigreturn (arguments (a .a) (a .b) (a .c) (a .d) (a .e) (a .f) (a .x) (a .y) (a .z)) last
 
 pub call-of-spec : {M : Type 1} → statement M
 call-of-spec =

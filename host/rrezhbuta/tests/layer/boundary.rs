@@ -27,14 +27,14 @@ fn refused(tables: &mut Tables<'_>, room: usize, numbers: &Numbers, errno: u32) 
 
 #[test]
 fn an_unknown_number_is_einval() {
-    for number in [0, CALL_RETURN + 1, u32::MAX] {
+    for number in [0, CALL_SIGRETURN + 1, u32::MAX] {
         refused(&mut two(), ANSWER_WORDS, &numbered(number), EINVAL);
     }
 }
 
 #[test]
 fn no_room_for_the_answer_is_einval() {
-    for number in CALL_CLEAR..=CALL_RETURN {
+    for number in CALL_CLEAR..=CALL_SIGRETURN {
         for room in [0, 1, ANSWER_WORDS - 1] {
             refused(&mut two(), room, &numbered(number), EINVAL);
         }
@@ -46,7 +46,7 @@ fn efault_goes_before_einval() {
     let mut tables = two();
     tables.processes_mut()[PROCESS_STOPPED] = 2;
     refused(&mut tables, ANSWER_WORDS, &numbered(0), EFAULT);
-    for number in CALL_ADD_PROCESS..=CALL_RETURN {
+    for number in CALL_ADD_PROCESS..=CALL_SIGRETURN {
         refused(&mut tables, 0, &numbered(number), EFAULT);
         refused(&mut tables, ANSWER_WORDS, &numbered(number), EFAULT);
     }
@@ -66,7 +66,7 @@ fn a_refused_call_writes_nothing() {
 #[test]
 fn an_answer_has_zeros_behind_it_and_the_rest_stays() {
     let mut answer = [OLD; ANSWER_WORDS + 3];
-    let ask = numbered(CALL_ACTION);
+    let ask = numbered(CALL_SIGACTION);
     let mut tables = two();
     tables.set_action(100, 10, handler(4, 2048)).unwrap();
     assert_eq!(call(&mut tables, &mut answer, &ask), 0);
