@@ -11,12 +11,14 @@ use Rattle.limits.specs.Limits.{signals, EFAULT, EINVAL, ESRCH}
 use Rattle.lists.proofs.Bools.{or-fst-false, or-snd-false}
 use Rattle.siginfo.specs.Bytes.{Bytes}
 use Rattle.types.specs.declared.Action.{Action}
-use Rattle.rules.specs.Types.{action, oldAction}
+use Rattle.types.specs.declared.Reply.the-variants.{OldAction}
+use Rattle.types.specs.declared.Answer.the-variants as answers
+use Rattle.rules.specs.Types.{action}
 use Rattle.rules.specs.View.{liveProcess, actionOf}
 use Rattle.rules.specs.Store.{view, applyAll}
 use Rattle.rules.specs.Refusals.{overLast, badAction, noProcessLive, rows, isClear, einval, esrch}
 use Rattle.rules.specs.Actions.{stored, storeChanges, actionChanges}
-use Rattle.rules.specs.Calls.{changes, answer}
+use Rattle.rules.specs.Calls.{changes, reply}
 use Rattle.rules.specs.Fitting.{fitsAll}
 use Rattle.rules.proofs.SendFits.{action-fits}
 use Rattle.sound.proofs.Facts.{store-sound}
@@ -76,15 +78,15 @@ module _ (l : Lent) (p s : ℕ) (new : Option Action) where
 
     -- by the action that was read
     module _ (old : Action) (o : old ≡ actionOf (processNamed (l .processes) p) s) where
-      answered : oldAction old ≡ answer (view (decoded l)) (action p s new)
-      unfolding answer
-      answered = ap oldAction (o ∙ ap (λ x. actionOf x s) (process-named (l .processes) (l .threads) (l .threadBuffer) (l .processBuffer) p))
+      answered : OldAction old ≡ reply (view (decoded l)) (action p s new)
+      unfolding reply
+      answered = ap OldAction (o ∙ ap (λ x. actionOf x s) (process-named (l .processes) (l .threads) (l .threadBuffer) (l .processBuffer) p))
 
       -- without a new action
       pub action-kept : new ≡ none → Bytes (l .threadBuffer) → Bytes (l .processBuffer)
-          → (oldAction old ≡ stepOn (action p s new) l .1) × (l ≡ stepOn (action p s new) l .0)
+          → (answers.Accepted (OldAction old) ≡ stepOn (action p s new) l .1) × (l ≡ stepOn (action p s new) l .0)
       unfolding changes actionChanges
-      action-kept n bt bp = same-ends (action p s new) l e (oldAction old) answered bt bp (ap (actionChanges p s) n)
+      action-kept n bt bp = same-ends (action p s new) l e (OldAction old) answered bt bp (ap (actionChanges p s) n)
 
     -- with one, as the code makes it ready
     module _ (a g : Action) (n : new ≡ some a) (h : g ≡ stored a) where
@@ -101,7 +103,7 @@ module _ (l : Lent) (p s : ℕ) (new : Option Action) where
 
       pub action-stored : (old : Action) → old ≡ actionOf (processNamed (l .processes) p) s
           → (m : Lent) → AsLong l m → Bytes (m .threadBuffer) → Bytes (m .processBuffer) → decoded m ≡ applyAll (storeChanges p s g) (decoded l)
-          → (oldAction old ≡ stepOn (action p s new) l .1) × (m ≡ stepOn (action p s new) l .0)
+          → (answers.Accepted (OldAction old) ≡ stepOn (action p s new) l .1) × (m ≡ stepOn (action p s new) l .0)
       unfolding changes
       action-stored old o m k bt bp d =
-          accepted-ends (action p s new) l e (oldAction old) (answered old o) m k bt bp (made (actionChanges p s new) (decoded l) (storeChanges p s g) these (decoded m) d)
+          accepted-ends (action p s new) l e (OldAction old) (answered old o) m k bt bp (made (actionChanges p s new) (decoded l) (storeChanges p s g) these (decoded m) d)

@@ -5,10 +5,8 @@ ghost use Rattle.rules.specs.Types as call;
 ghost use Rattle.rules.specs.Store.{view};
 ghost use Rattle.rules.specs.Actions.{stored};
 ghost use Rattle.rules.specs.Refusals.{badAction};
-ghost use Rattle.answers.specs.Answers.{answerOf};
 ghost use Rattle.answers.specs.Step.{lent, refusalOn, stepOn};
 ghost use Rattle.actions.specs.Given.{newAction};
-use answers::Answer;
 use limits::EFAULT;
 use limits::EINVAL;
 use limits::ESRCH;
@@ -18,6 +16,8 @@ use limits::SIGNALS;
 use limits::SIGSTOP;
 use sigset::SigSet;
 use types::Action;
+use types::Answer;
+use types::Reply;
 
 // A new action, or none: then the call enquires.
 pub enum GivenAction {
@@ -80,7 +80,7 @@ pub fn sigaction(
     signal: u32,
     new: GivenAction,
 ) -> Answer
-    ensures answer { λ r. ⌜ answerOf r ≡ stepOn (call.action process signal (newAction new)) (lent (now (ps .entry)) (now (ts .entry)) (now (tb .entry)) (now (pb .entry))) .1 ⌝ }
+    ensures answer { λ r. ⌜ r ≡ stepOn (call.action process signal (newAction new)) (lent (now (ps .entry)) (now (ts .entry)) (now (tb .entry)) (now (pb .entry))) .1 ⌝ }
     ensures tables { λ r. ⌜ lent (now (ps .exit)) (now (ts .exit)) (now (tb .exit)) (now (pb .exit)) ≡ stepOn (call.action process signal (newAction new)) (lent (now (ps .entry)) (now (ts .entry)) (now (tb .entry)) (now (pb .entry))) .0 ⌝ }
 {
     let n = action_refusal(ps, ts, tb, pb, process, signal, new);
@@ -89,10 +89,10 @@ pub fn sigaction(
     }
     let old = view::action_of(ps, process, signal);
     match new {
-        GivenAction::NoAction => Answer::OldAction(old),
+        GivenAction::NoAction => Answer::Accepted(Reply::OldAction(old)),
         GivenAction::Action(a) => {
             effects::store_action(ps, ts, tb, pb, process, signal, stored_of(a));
-            Answer::OldAction(old)
+            Answer::Accepted(Reply::OldAction(old))
         }
     }
 }

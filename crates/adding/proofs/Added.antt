@@ -17,7 +17,7 @@ use Rattle.rules.specs.Store.{isFreeProcess, isFreeThread, fill, view, apply, a
 use Rattle.rules.specs.Sound.{goodId}
 use Rattle.rules.specs.Adding.{addedProcess, addProcessChanges, addThreadChanges}
 use Rattle.rules.specs.Refusals.{rows, isClear, fault, table, refusalOf, noThreadLive, noProcessPlace, noThreadPlace}
-use Rattle.rules.specs.Calls.{changes, answer}
+use Rattle.rules.specs.Calls.{changes, reply}
 use Rattle.rules.proofs.RefusalTable.{Off}
 use Rattle.tables.specs.Tables.{processesOf, threadsOf, heldProcesses, heldThreads}
 use Rattle.sound.specs.Lent.{storeOf, soundTables}
@@ -25,8 +25,8 @@ use Rattle.effects.proofs.Places.{with-all}
 use Rattle.sound.proofs.Facts.{right-processes, right-threads, threads-long}
 use Rattle.effects.specs.Effects.{threadOf}
 use Rattle.view.specs.Named.{threadNamed}
-use Rattle.answers.specs.declared.Answer.the-variants.{Refused, Done}
-use Rattle.answers.specs.Answers.{answerOf}
+use Rattle.types.specs.declared.Reply.the-variants.{Done}
+use Rattle.types.specs.declared.Answer.the-variants.{Refused, Accepted}
 use Rattle.answers.specs.Step.{Lent, lent, refusalOn, stepOn}
 use Rattle.view.proofs.Live.{owner-known}
 use Rattle.answers.proofs.Endings.{longAs, accepted-long, accepted-rows, accepted-tables-sound, refused-ends, accepted-ends}
@@ -65,7 +65,7 @@ module _ (ps ts tb pb : List ℕ) (id thread n : ℕ) (r : n ≡ refusalOn (addP
     number : n ≡ refusalOn call (lent ps ts tb pb)
     number = r ∙ undecided id real effective saved session thread mask (lent ps ts tb pb)
 
-    pub process-refused : (n ≡ 0 → ⊥) → (answerOf (Refused n) ≡ stepOn call (lent ps ts tb pb) .1) × (lent ps ts tb pb ≡ stepOn call (lent ps ts tb pb) .0)
+    pub process-refused : (n ≡ 0 → ⊥) → (Refused n ≡ stepOn call (lent ps ts tb pb) .1) × (lent ps ts tb pb ≡ stepOn call (lent ps ts tb pb) .0)
     process-refused = refused-ends call (lent ps ts tb pb) n number
 
     module _ (ps′ ts′ : List ℕ) (given : SigSet) (g : given ≡ maskable mask)
@@ -79,17 +79,17 @@ module _ (ps ts tb pb : List ℕ) (id thread n : ℕ) (r : n ≡ refusalOn (addP
           with-all ps′ ts′ tb pb p f refl refl
 
       pub process-added : n ≡ 0 → length ps′ ≡ length ps → length ts′ ≡ length ts → Bytes tb → Bytes pb
-          → (answerOf Done ≡ stepOn call (lent ps ts tb pb) .1) × (lent ps′ ts′ tb pb ≡ stepOn call (lent ps ts tb pb) .0)
-      unfolding answerOf answer
+          → (Accepted Done ≡ stepOn call (lent ps ts tb pb) .1) × (lent ps′ ts′ tb pb ≡ stepOn call (lent ps ts tb pb) .0)
+      unfolding reply
       process-added z lp lt bt bp =
-          accepted-ends call (lent ps ts tb pb) (sym number ∙ z) (answerOf Done) refl (lent ps′ ts′ tb pb)
+          accepted-ends call (lent ps ts tb pb) (sym number ∙ z) Done refl (lent ps′ ts′ tb pb)
           (record { processes = lp; threads = lt; threadBuffer = refl; processBuffer = refl }) bt bp process-made
 
 -- ---- a thread
 
 module _ (ps ts tb pb : List ℕ) (creator id n : ℕ) (r : n ≡ refusalOn (addThread creator id) (lent ps ts tb pb)) where
   pub thread-refused : (n ≡ 0 → ⊥)
-      → (answerOf (Refused n) ≡ stepOn (addThread creator id) (lent ps ts tb pb) .1) × (lent ps ts tb pb ≡ stepOn (addThread creator id) (lent ps ts tb pb) .0)
+      → (Refused n ≡ stepOn (addThread creator id) (lent ps ts tb pb) .1) × (lent ps ts tb pb ≡ stepOn (addThread creator id) (lent ps ts tb pb) .0)
   thread-refused = refused-ends (addThread creator id) (lent ps ts tb pb) n r
 
   module _ (z : n ≡ 0) where
@@ -121,8 +121,8 @@ module _ (ps ts tb pb : List ℕ) (creator id n : ℕ) (r : n ≡ refusalOn (add
           with-all ps ts′ tb pb refl f refl refl
 
       pub thread-added : length ts′ ≡ length ts → Bytes tb → Bytes pb
-          → (answerOf Done ≡ stepOn (addThread creator id) (lent ps ts tb pb) .1) × (lent ps ts′ tb pb ≡ stepOn (addThread creator id) (lent ps ts tb pb) .0)
-      unfolding answerOf answer
+          → (Accepted Done ≡ stepOn (addThread creator id) (lent ps ts tb pb) .1) × (lent ps ts′ tb pb ≡ stepOn (addThread creator id) (lent ps ts tb pb) .0)
+      unfolding reply
       thread-added lt bt bp =
-          accepted-ends (addThread creator id) (lent ps ts tb pb) (sym r ∙ z) (answerOf Done) refl (lent ps ts′ tb pb)
+          accepted-ends (addThread creator id) (lent ps ts tb pb) (sym r ∙ z) Done refl (lent ps ts′ tb pb)
           (record { processes = refl; threads = lt; threadBuffer = refl; processBuffer = refl }) bt bp thread-made

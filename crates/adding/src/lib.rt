@@ -3,15 +3,15 @@ ghost use mathlib.Core.Path.{_≡_};
 ghost use Rattle.sigset.specs.Set.{empty};
 ghost use Rattle.rules.specs.Types as call;
 ghost use Rattle.rules.specs.Store.{view};
-ghost use Rattle.answers.specs.Answers.{answerOf};
 ghost use Rattle.answers.specs.Step.{lent, refusalOn, stepOn};
-use answers::Answer;
 use limits::EAGAIN;
 use limits::EEXIST;
 use limits::EFAULT;
 use limits::EINVAL;
 use limits::ESRCH;
 use sigset::SigSet;
+use types::Answer;
+use types::Reply;
 
 // The user ids, the session id and the mask decide nothing.
 fn add_process_refusal(ps: &[u64], ts: &[u64], tb: &[u8], pb: &[u8], id: u32, thread: u32) -> u32
@@ -46,7 +46,7 @@ pub fn add_process(
     thread: u32,
     mask: SigSet,
 ) -> Answer
-    ensures answer { λ r. ⌜ answerOf r ≡ stepOn (call.addProcess id real effective saved session thread mask) (lent (now (ps .entry)) (now (ts .entry)) (now (tb .entry)) (now (pb .entry))) .1 ⌝ }
+    ensures answer { λ r. ⌜ r ≡ stepOn (call.addProcess id real effective saved session thread mask) (lent (now (ps .entry)) (now (ts .entry)) (now (tb .entry)) (now (pb .entry))) .1 ⌝ }
     ensures tables { λ r. ⌜ lent (now (ps .exit)) (now (ts .exit)) (now (tb .exit)) (now (pb .exit)) ≡ stepOn (call.addProcess id real effective saved session thread mask) (lent (now (ps .entry)) (now (ts .entry)) (now (tb .entry)) (now (pb .entry))) .0 ⌝ }
 {
     let n = add_process_refusal(ps, ts, tb, pb, id, thread);
@@ -55,7 +55,7 @@ pub fn add_process(
     }
     effects::new_process(ps, id, real, effective, saved, session);
     effects::new_thread(ts, thread, id, SigSet::maskable(mask));
-    Answer::Done
+    Answer::Accepted(Reply::Done)
 }
 
 fn add_thread_refusal(ps: &[u64], ts: &[u64], tb: &[u8], pb: &[u8], creator: u32, id: u32) -> u32
@@ -88,7 +88,7 @@ pub fn add_thread(
     creator: u32,
     id: u32,
 ) -> Answer
-    ensures answer { λ r. ⌜ answerOf r ≡ stepOn (call.addThread creator id) (lent (now (ps .entry)) (now (ts .entry)) (now (tb .entry)) (now (pb .entry))) .1 ⌝ }
+    ensures answer { λ r. ⌜ r ≡ stepOn (call.addThread creator id) (lent (now (ps .entry)) (now (ts .entry)) (now (tb .entry)) (now (pb .entry))) .1 ⌝ }
     ensures tables { λ r. ⌜ lent (now (ps .exit)) (now (ts .exit)) (now (tb .exit)) (now (pb .exit)) ≡ stepOn (call.addThread creator id) (lent (now (ps .entry)) (now (ts .entry)) (now (tb .entry)) (now (pb .entry))) .0 ⌝ }
 {
     let n = add_thread_refusal(ps, ts, tb, pb, creator, id);
@@ -98,5 +98,5 @@ pub fn add_thread(
     let process = view::process_of(ts, creator);
     let mask = view::mask_of(ts, creator);
     effects::new_thread(ts, id, process, mask);
-    Answer::Done
+    Answer::Accepted(Reply::Done)
 }

@@ -9,22 +9,22 @@ use Rattle.limits.specs.Limits.{EFAULT}
 use Rattle.lists.specs.Lists.{All}
 use Rattle.lists.proofs.Bools.{split, clash, and-both}
 use Rattle.siginfo.specs.Bytes.{Bytes}
-use Rattle.rules.specs.Types.{Call, Answer, refused}
+use Rattle.types.specs.declared.Reply.{Reply}
+use Rattle.types.specs.declared.Answer.the-variants.{Refused, Accepted}
+use Rattle.rules.specs.Types.{Call}
 use Rattle.rules.specs.View.{Change}
 use Rattle.rules.specs.Store.{view, applyAll}
 use Rattle.rules.specs.Sound.{sound, lengthsRight}
 use Rattle.rules.specs.Refusals.{Row, refusal, rows, isClear, fault, table, refusalOf}
-use Rattle.rules.specs.Calls.{changes, answer, stages, runStages, finish, step, isRefused}
+use Rattle.rules.specs.Calls.{changes, reply, stages, runStages, finish, step, isRefused}
 use Rattle.rules.proofs.RefusalTable.{Off, accepted-off, accepted-sound}
-use Rattle.rules.proofs.Refused.{accepted-answers, refused-number}
+use Rattle.rules.proofs.Refused.{refused-number}
 use Rattle.rules.proofs.ClausesByTable.{lengths-by}
 use Rattle.tables.specs.Tables.{processesOf, threadsOf, processWordsOf, threadWordsOf}
 use Rattle.tables.proofs.Words.{length-processesOf, length-threadsOf, all-actionsLong, words-back, thread-words-back}
 use Rattle.queue.proofs.Buffer.{length-slotsOf, buffer-is}
 use Rattle.sound.specs.Lent.{storeOf, lengthsAre, soundTables}
 use Rattle.sound.proofs.Facts.{as-long, right-processes, right-threads, right-thread-buffer, right-process-buffer}
-use Rattle.answers.specs.declared.Answer.the-variants.{Refused}
-use Rattle.answers.specs.Answers.{answerOf}
 use Rattle.answers.specs.Step.{Lent, lent, decoded, encoded, refusalOn, rowsOn, committed, stepOn}
 
 abbrev pub longAs : Lent → Bool
@@ -97,32 +97,32 @@ module _ (c : Call) (l : Lent) where
   -- ---- refused
 
   module _ (n : (refusalOn c l ≡ 0 → ⊥)) where
-    refused-step : stepOn c l ≡ (l, refused (refusalOn c l))
+    refused-step : stepOn c l ≡ (l, Refused (refusalOn c l))
     unfolding stepOn committed refusalOn isRefused
     refused-step =
         split (longAs l)
         (λ a.
         let r : refusalOn c l ≡ refusalOf (decoded l) c = ap (λ (b : Bool). cond b (refusalOf (decoded l) c) EFAULT) a in
-        let s : step c (decoded l) .1 ≡ refused (refusalOf (decoded l) c) = refused-number c (decoded l) (λ z. n (r ∙ z)) in
+        let s : step c (decoded l) .1 ≡ Refused (refusalOf (decoded l) c) = refused-number c (decoded l) (λ z. n (r ∙ z)) in
         rw (a, s))
         (λ a. rw a)
 
     pub refused-tables : l ≡ stepOn c l .0
     refused-tables = sym (ap (λ x. x .0) refused-step)
 
-    pub refused-answer : refused (refusalOn c l) ≡ stepOn c l .1
+    pub refused-answer : Refused (refusalOn c l) ≡ stepOn c l .1
     refused-answer = sym (ap (λ x. x .1) refused-step)
 
   -- ---- accepted
 
   module _ (e : refusalOn c l ≡ 0) where
-    step-is : step c (decoded l) ≡ (applyAll (changes (view (decoded l)) c) (decoded l), answer (view (decoded l)) c)
+    step-is : step c (decoded l) ≡ (applyAll (changes (view (decoded l)) c) (decoded l), Accepted (reply (view (decoded l)) c))
     unfolding step finish stages runStages
     step-is = ap (λ (n : ℕ). finish n c (decoded l)) (accepted-rules e)
 
-    pub accepted-step : stepOn c l ≡ (encoded (applyAll (changes (view (decoded l)) c) (decoded l)), answer (view (decoded l)) c)
-    unfolding stepOn committed
-    accepted-step = rw (accepted-long e, step-is, accepted-answers (view (decoded l)) c)
+    pub accepted-step : stepOn c l ≡ (encoded (applyAll (changes (view (decoded l)) c) (decoded l)), Accepted (reply (view (decoded l)) c))
+    unfolding stepOn committed isRefused
+    accepted-step = rw (accepted-long e, step-is)
 
     -- the tables after it, from what they say
     pub tables-after : (m : Lent) → longAs m ≡ true → Bytes (m .threadBuffer) → Bytes (m .processBuffer)
@@ -135,8 +135,8 @@ module _ (c : Call) (l : Lent) where
     tables-same bt bp h = tables-after l (accepted-long e) bt bp (sym (ap (λ (cs : List Change). applyAll cs (decoded l)) h))
 
     -- of a call that only answers, all there is to show
-    pub answer-after : (a : Answer) → a ≡ answer (view (decoded l)) c → a ≡ stepOn c l .1
-    answer-after a h = h ∙ sym (ap (λ x. x .1) accepted-step)
+    pub answer-after : (a : Reply) → a ≡ reply (view (decoded l)) c → Accepted a ≡ stepOn c l .1
+    answer-after a h = ap Accepted h ∙ sym (ap (λ x. x .1) accepted-step)
 
 -- ---- both, the answer and the tables
 
@@ -154,16 +154,15 @@ long-after l m s =
 
 module _ (c : Call) (l : Lent) where
   -- by the number that code has of the refusal
-  pub refused-ends : (n : ℕ) → n ≡ refusalOn c l → (n ≡ 0 → ⊥) → (answerOf (Refused n) ≡ stepOn c l .1) × (l ≡ stepOn c l .0)
-  unfolding answerOf
+  pub refused-ends : (n : ℕ) → n ≡ refusalOn c l → (n ≡ 0 → ⊥) → (Refused n ≡ stepOn c l .1) × (l ≡ stepOn c l .0)
   refused-ends n r z =
       let k : refusalOn c l ≡ 0 → ⊥ = λ e. z (r ∙ e) in
-      (ap refused r ∙ refused-answer c l k, refused-tables c l k)
+      (ap Refused r ∙ refused-answer c l k, refused-tables c l k)
 
-  module _ (e : refusalOn c l ≡ 0) (a : Answer) (h : a ≡ answer (view (decoded l)) c) where
-    pub same-ends : Bytes (l .threadBuffer) → Bytes (l .processBuffer) → changes (view (decoded l)) c ≡ [] → (a ≡ stepOn c l .1) × (l ≡ stepOn c l .0)
+  module _ (e : refusalOn c l ≡ 0) (a : Reply) (h : a ≡ reply (view (decoded l)) c) where
+    pub same-ends : Bytes (l .threadBuffer) → Bytes (l .processBuffer) → changes (view (decoded l)) c ≡ [] → (Accepted a ≡ stepOn c l .1) × (l ≡ stepOn c l .0)
     same-ends bt bp k = (answer-after c l e a h, tables-same c l e bt bp k)
 
     pub accepted-ends : (m : Lent) → AsLong l m → Bytes (m .threadBuffer) → Bytes (m .processBuffer)
-        → decoded m ≡ applyAll (changes (view (decoded l)) c) (decoded l) → (a ≡ stepOn c l .1) × (m ≡ stepOn c l .0)
+        → decoded m ≡ applyAll (changes (view (decoded l)) c) (decoded l) → (Accepted a ≡ stepOn c l .1) × (m ≡ stepOn c l .0)
     accepted-ends m s bt bp k = (answer-after c l e a h, tables-after c l e m (long-after l m s (accepted-long c l e)) bt bp k)

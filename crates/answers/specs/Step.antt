@@ -4,7 +4,9 @@ use mathlib.Core.Bool.{cond}
 use mathlib.Core.List.{List}
 use Rattle.limits.specs.Limits.{EFAULT}
 use Rattle.siginfo.specs.Bytes.{slotBytes}
-use Rattle.rules.specs.Types.{Call, Answer, refused}
+use Rattle.types.specs.declared.Answer.{Answer}
+use Rattle.types.specs.declared.Answer.the-variants.{Refused}
+use Rattle.rules.specs.Types.{Call}
 use Rattle.rules.specs.Store.{Store}
 use Rattle.rules.specs.Refusals.{Row, refusal, refusalOf}
 use Rattle.rules.specs.Calls.{step, isRefused}
@@ -45,4 +47,4 @@ committed l r = (cond (isRefused (r .1)) l (encoded (r .0)), r .1)
 -- one call: the tables after it, and its answer
 unfoldable pub stepOn : Call → Lent → Lent × Answer
 stepOn c l =
-    cond (lengthsAre (l .processes) (l .threads) (l .threadBuffer) (l .processBuffer)) (committed l (step c (decoded l))) (l, refused EFAULT)
+    cond (lengthsAre (l .processes) (l .threads) (l .threadBuffer) (l .processBuffer)) (committed l (step c (decoded l))) (l, Refused EFAULT)

@@ -10,7 +10,9 @@ use borrow.Author.Tests.{eq-eqb, ne-eqb, ltb-false, not-true}
 use Rattle.limits.specs.Limits.{EFAULT, EINVAL, callClear, answerWords}
 use Rattle.lists.specs.Lists.{padded}
 use Rattle.lists.proofs.Bools.{and-fst, and-snd, cond-true, cond-false}
-use Rattle.rules.specs.Types.{Call, Answer, refused}
+use Rattle.types.specs.declared.Answer.{Answer}
+use Rattle.types.specs.declared.Answer.the-variants.{Refused}
+use Rattle.rules.specs.Types.{Call}
 use Rattle.sound.specs.Lent.{lengthsAre, soundTables}
 use Rattle.answers.specs.Step.{Lent, stepOn}
 use Rattle.boundary.specs.Boundary.{Arguments, isCall, numbered, wordsOf, errnoOf, written, usable, accepted, serveOn}
@@ -49,7 +51,7 @@ kept-words : (a : Answer) (out : List ℕ) → (errnoOf a ≡ 0 → ⊥) → out
 unfolding written
 kept-words a out f = sym (cond-false (padded 0 answerWords (wordsOf a) ++ drop answerWords out) out (ne-eqb (errnoOf a) 0 f))
 
-no-errno : (b : Bool) → errnoOf (refused (cond b EINVAL EFAULT)) ≡ 0 → ⊥
+no-errno : (b : Bool) → errnoOf (Refused (cond b EINVAL EFAULT)) ≡ 0 → ⊥
 unfolding errnoOf
 no-errno true e = omega (arith, e)
 no-errno false e = omega (arith, e)
@@ -66,13 +68,13 @@ module _ (n : ℕ) (g : Arguments) (room : ℕ) (l : Lent) (out : List ℕ) wher
   pub turned-away : accepted n room ≡ false → (r : ℕ) → r ≡ cond (usable n l) EINVAL EFAULT → Ends r l out
   unfolding serveOn errnoOf
   turned-away f r e =
-      ends (l, refused (cond (usable n l) EINVAL EFAULT)) (cond-false (stepOn (numbered n g) l) (l, refused (cond (usable n l) EINVAL EFAULT)) f) r l out e refl
-      (kept-words (refused (cond (usable n l) EINVAL EFAULT)) out (no-errno (usable n l)))
+      ends (l, Refused (cond (usable n l) EINVAL EFAULT)) (cond-false (stepOn (numbered n g) l) (l, Refused (cond (usable n l) EINVAL EFAULT)) f) r l out e refl
+      (kept-words (Refused (cond (usable n l) EINVAL EFAULT)) out (no-errno (usable n l)))
 
   module _ (t : accepted n room ≡ true) (c : Call) (e : c ≡ numbered n g) (a : Answer) (m : Lent) (h : a ≡ stepOn c l .1) (k : m ≡ stepOn c l .0) where
     is-step : serveOn n g room l ≡ stepOn c l
     unfolding serveOn
-    is-step = cond-true (stepOn (numbered n g) l) (l, refused (cond (usable n l) EINVAL EFAULT)) t ∙ ap (λ (x : Call). stepOn x l) (sym e)
+    is-step = cond-true (stepOn (numbered n g) l) (l, Refused (cond (usable n l) EINVAL EFAULT)) t ∙ ap (λ (x : Call). stepOn x l) (sym e)
 
     pub step-refused : (r : ℕ) → r ≡ errnoOf a → (r ≡ 0 → ⊥) → Ends r m out
     step-refused r i f =

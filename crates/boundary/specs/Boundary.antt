@@ -9,7 +9,17 @@ use Rattle.limits.specs.Limits.{EFAULT, EINVAL, callClear, callSigreturn, answe
 use Rattle.lists.specs.Lists.{padded}
 use Rattle.sigset.specs.Set.{bits}
 use Rattle.types.specs.declared.Siginfo.{Siginfo}
-use Rattle.rules.specs.Types.{Call, clear, addProcess, addThread, endProcess, endThread, kill, queue, action, mask, pending, look, who, take, return, Next, noNext, nextMark, nextRecord, Answer, refused, done, tested, acted, dropped, absorbed, marked, kept, oldAction, oldMask, pendingSet, looked, canTake, noneCan, nothing, handler, end, stop, noAction}
+use Rattle.types.specs.declared.Sent.{Sent}
+use Rattle.types.specs.declared.Sent.the-variants as sent
+use Rattle.types.specs.declared.Next.{Next}
+use Rattle.types.specs.declared.Next.the-variants as next
+use Rattle.types.specs.declared.Taken.{Taken}
+use Rattle.types.specs.declared.Taken.the-variants as taken
+use Rattle.types.specs.declared.Reply.{Reply}
+use Rattle.types.specs.declared.Reply.the-variants as reply
+use Rattle.types.specs.declared.Answer.{Answer}
+use Rattle.types.specs.declared.Answer.the-variants.{Refused, Accepted}
+use Rattle.rules.specs.Types.{Call, clear, addProcess, addThread, endProcess, endThread, kill, queue, action, mask, pending, look, who, take, return}
 use Rattle.sound.specs.Lent.{lengthsAre, soundTables}
 use Rattle.answers.specs.Step.{Lent, stepOn}
 
@@ -67,54 +77,48 @@ unfoldable pub infoWords : Siginfo → List ℕ
 infoWords r =
     r .process ∷ r .thread ∷ r .signal ∷ r .code ∷ r .sender ∷ r .uid ∷ r .value ∷ []
 
-unfoldable pub nextWords : Next → List ℕ
-nextWords noNext = answerNextNothing ∷ []
-nextWords (nextMark q s) = answerNextMark ∷ q .process ∷ q .thread ∷ s ∷ []
-nextWords (nextRecord q s r) = answerNextRecord ∷ infoWords r
+-- ---- the number of each answer, and its values
 
--- the number of each answer, and its values; a refusal has none
+unfoldable pub sentWord : Sent → ℕ
+sentWord sent.Tested = answerTested
+sentWord sent.Acted = answerActed
+sentWord sent.Dropped = answerDropped
+sentWord sent.Absorbed = answerAbsorbed
+sentWord sent.Marked = answerMarked
+sentWord sent.Kept = answerKept
+
+unfoldable pub nextWords : Next → List ℕ
+nextWords next.Nothing = answerNextNothing ∷ []
+nextWords (next.Mark process thread s) = answerNextMark ∷ process ∷ thread ∷ s ∷ []
+nextWords (next.Record r) = answerNextRecord ∷ infoWords r
+
+unfoldable pub takenWords : Taken → List ℕ
+takenWords taken.Nothing = answerNothing ∷ []
+takenWords (taken.Handler n s r flags saved) = answerHandler ∷ n ∷ s ∷ flags ∷ saved .0 ∷ infoWords r
+takenWords (taken.End s) = answerEnd ∷ s ∷ []
+takenWords (taken.Stop s) = answerStop ∷ s ∷ []
+takenWords (taken.NoAction s) = answerNoAction ∷ s ∷ []
+
+unfoldable pub replyWords : Reply → List ℕ
+replyWords reply.Done = answerDone ∷ []
+replyWords (reply.Sent x) = sentWord x ∷ []
+replyWords (reply.OldAction a) = answerOldAction ∷ a .handler ∷ a .flags ∷ a .mask .0 ∷ []
+replyWords (reply.OldMask m) = answerOldMask ∷ m .0 ∷ []
+replyWords (reply.PendingSet m) = answerPendingSet ∷ m .0 ∷ []
+replyWords (reply.Looked x) = nextWords x
+replyWords (reply.CanTake t) = answerCanTake ∷ t ∷ []
+replyWords reply.NoneCan = answerNoneCan ∷ []
+replyWords (reply.Taken x) = takenWords x
+
+-- a refusal has none
 unfoldable pub wordsOf : Answer → List ℕ
-wordsOf (refused n) = []
-wordsOf done = answerDone ∷ []
-wordsOf tested = answerTested ∷ []
-wordsOf acted = answerActed ∷ []
-wordsOf dropped = answerDropped ∷ []
-wordsOf absorbed = answerAbsorbed ∷ []
-wordsOf marked = answerMarked ∷ []
-wordsOf kept = answerKept ∷ []
-wordsOf (oldAction a) = answerOldAction ∷ a .handler ∷ a .flags ∷ a .mask .0 ∷ []
-wordsOf (oldMask m) = answerOldMask ∷ m .0 ∷ []
-wordsOf (pendingSet m) = answerPendingSet ∷ m .0 ∷ []
-wordsOf (looked n) = nextWords n
-wordsOf (canTake t) = answerCanTake ∷ t ∷ []
-wordsOf noneCan = answerNoneCan ∷ []
-wordsOf nothing = answerNothing ∷ []
-wordsOf (handler n s r flags saved) = answerHandler ∷ n ∷ s ∷ flags ∷ saved .0 ∷ infoWords r
-wordsOf (end s) = answerEnd ∷ s ∷ []
-wordsOf (stop s) = answerStop ∷ s ∷ []
-wordsOf (noAction s) = answerNoAction ∷ s ∷ []
+wordsOf (Refused n) = []
+wordsOf (Accepted r) = replyWords r
 
 -- what is returned: the errno of a refusal, else 0
 unfoldable pub errnoOf : Answer → ℕ
-errnoOf (refused n) = n
-errnoOf done = 0
-errnoOf tested = 0
-errnoOf acted = 0
-errnoOf dropped = 0
-errnoOf absorbed = 0
-errnoOf marked = 0
-errnoOf kept = 0
-errnoOf (oldAction a) = 0
-errnoOf (oldMask m) = 0
-errnoOf (pendingSet m) = 0
-errnoOf (looked n) = 0
-errnoOf (canTake t) = 0
-errnoOf noneCan = 0
-errnoOf nothing = 0
-errnoOf (handler n s r flags saved) = 0
-errnoOf (end s) = 0
-errnoOf (stop s) = 0
-errnoOf (noAction s) = 0
+errnoOf (Refused n) = n
+errnoOf (Accepted r) = 0
 
 -- the lent words after a call: the answer's from the first on, with zeros up to the longest answer's; "Every refusal writes nothing"
 unfoldable pub written : Answer → List ℕ → List ℕ
@@ -135,4 +139,4 @@ accepted n room = isCall n && not (ltb room answerWords)
 
 -- errno 22 where there is not, after 14; else the call
 unfoldable pub serveOn : (number : ℕ) → Arguments → (room : ℕ) → Lent → Lent × Answer
-serveOn n g room l = cond (accepted n room) (stepOn (numbered n g) l) (l, refused (cond (usable n l) EINVAL EFAULT))
+serveOn n g room l = cond (accepted n room) (stepOn (numbered n g) l) (l, Refused (cond (usable n l) EINVAL EFAULT))

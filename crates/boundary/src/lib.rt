@@ -5,18 +5,14 @@ ghost use mathlib.Core.List.{[], _∷_, _++_};
 ghost use Prim.Native.Nat.{_≤_};
 ghost use lib.ListN.{length, drop};
 ghost use Rattle.limits.specs.Limits.{EFAULT, EINVAL, answerWords};
-ghost use Rattle.rules.specs.Types as answer;
 ghost use Rattle.lists.specs.Lists.{padded};
 ghost use Rattle.sigset.specs.Set.{bits};
-ghost use Rattle.answers.specs.Answers.{answerOf, nextOf};
 ghost use Rattle.answers.specs.Step.{lent};
 ghost use Rattle.actions.specs.Given.{newAction};
 ghost use Rattle.masks.specs.Given.{newSet};
 ghost use Rattle.calls.specs.Calls.{callOf};
-ghost use Rattle.boundary.specs.Boundary.{arguments, whereGiven, isCall, numbered, accepted, usable, nextWords, wordsOf, errnoOf, written, serveOn};
+ghost use Rattle.boundary.specs.Boundary.{arguments, whereGiven, isCall, numbered, accepted, usable, sentWord, nextWords, takenWords, replyWords, wordsOf, errnoOf, written, serveOn};
 use actions::GivenAction;
-use answers::Answer;
-use answers::Next;
 use calls::Call;
 use limits::ANSWER_ABSORBED;
 use limits::ANSWER_ACTED;
@@ -58,7 +54,12 @@ use limits::EINVAL;
 use masks::GivenSet;
 use sigset::SigSet;
 use types::Action;
+use types::Answer;
+use types::Next;
+use types::Reply;
+use types::Sent;
 use types::Siginfo;
+use types::Taken;
 
 // ---- the call
 
@@ -123,11 +124,11 @@ fn call_of(
 
 // What is returned: the errno of a refusal, else 0.
 fn errno_of(answer: Answer) -> u32
-    ensures { λ r. ⌜ r ≡ errnoOf (answerOf answer) ⌝ }
+    ensures { λ r. ⌜ r ≡ errnoOf answer ⌝ }
 {
     match answer {
         Answer::Refused(n) => n,
-        _ => 0,
+        Answer::Accepted(_) => 0,
     }
 }
 
@@ -138,9 +139,23 @@ fn short(number: u64, a: u64, b: u64, c: u64) -> [u64; ANSWER_WORDS]
     [number, a, b, c, 0, 0, 0, 0, 0, 0, 0, 0]
 }
 
+// What a send answers.
+fn sent_word(sent: Sent) -> u64
+    ensures { λ r. ⌜ r ≡ sentWord sent ⌝ }
+{
+    match sent {
+        Sent::Tested => ANSWER_TESTED,
+        Sent::Acted => ANSWER_ACTED,
+        Sent::Dropped => ANSWER_DROPPED,
+        Sent::Absorbed => ANSWER_ABSORBED,
+        Sent::Marked => ANSWER_MARKED,
+        Sent::Kept => ANSWER_KEPT,
+    }
+}
+
 // What a look found.
 fn next_words(next: Next) -> [u64; ANSWER_WORDS]
-    ensures { λ r. ⌜ r ≡ padded 0 answerWords (nextWords (nextOf next)) ⌝ }
+    ensures { λ r. ⌜ r ≡ padded 0 answerWords (nextWords next) ⌝ }
 {
     match next {
         Next::Nothing => short(ANSWER_NEXT_NOTHING, 0, 0, 0),
@@ -177,7 +192,7 @@ fn handler_words(
     flags: u64,
     saved: SigSet,
 ) -> [u64; ANSWER_WORDS]
-    ensures { λ w. ⌜ w ≡ padded 0 answerWords (wordsOf (answer.handler handler signal r flags saved)) ⌝ }
+    ensures { λ w. ⌜ w ≡ padded 0 answerWords (takenWords (Taken.Handler handler signal r flags saved)) ⌝ }
 {
     [
         ANSWER_HANDLER,
@@ -195,35 +210,47 @@ fn handler_words(
     ]
 }
 
-// The words of an answer, with zeros behind.
-fn words_of(answer: Answer) -> [u64; ANSWER_WORDS]
-    ensures { λ r. ⌜ r ≡ padded 0 answerWords (wordsOf (answerOf answer)) ⌝ }
+// What a take answers.
+fn taken_words(taken: Taken) -> [u64; ANSWER_WORDS]
+    ensures { λ r. ⌜ r ≡ padded 0 answerWords (takenWords taken) ⌝ }
 {
-    match answer {
-        Answer::Refused(_) => [0; ANSWER_WORDS],
-        Answer::Done => short(ANSWER_DONE, 0, 0, 0),
-        Answer::Tested => short(ANSWER_TESTED, 0, 0, 0),
-        Answer::Acted => short(ANSWER_ACTED, 0, 0, 0),
-        Answer::Dropped => short(ANSWER_DROPPED, 0, 0, 0),
-        Answer::Absorbed => short(ANSWER_ABSORBED, 0, 0, 0),
-        Answer::Marked => short(ANSWER_MARKED, 0, 0, 0),
-        Answer::Kept => short(ANSWER_KEPT, 0, 0, 0),
-        Answer::OldAction(a) => {
+    match taken {
+        Taken::Nothing => short(ANSWER_NOTHING, 0, 0, 0),
+        Taken::Handler(handler, signal, r, flags, saved) => {
+            handler_words(handler, signal, r, flags, saved)
+        }
+        Taken::End(signal) => short(ANSWER_END, signal as u64, 0, 0),
+        Taken::Stop(signal) => short(ANSWER_STOP, signal as u64, 0, 0),
+        Taken::NoAction(signal) => short(ANSWER_NO_ACTION, signal as u64, 0, 0),
+    }
+}
+
+fn reply_words(reply: Reply) -> [u64; ANSWER_WORDS]
+    ensures { λ r. ⌜ r ≡ padded 0 answerWords (replyWords reply) ⌝ }
+{
+    match reply {
+        Reply::Done => short(ANSWER_DONE, 0, 0, 0),
+        Reply::Sent(sent) => short(sent_word(sent), 0, 0, 0),
+        Reply::OldAction(a) => {
             let mask = a.mask;
             short(ANSWER_OLD_ACTION, a.handler, a.flags, mask.0)
         }
-        Answer::OldMask(m) => short(ANSWER_OLD_MASK, m.0, 0, 0),
-        Answer::PendingSet(m) => short(ANSWER_PENDING_SET, m.0, 0, 0),
-        Answer::Looked(next) => next_words(next),
-        Answer::CanTake(thread) => short(ANSWER_CAN_TAKE, thread as u64, 0, 0),
-        Answer::NoneCan => short(ANSWER_NONE_CAN, 0, 0, 0),
-        Answer::Nothing => short(ANSWER_NOTHING, 0, 0, 0),
-        Answer::Handler(handler, signal, r, flags, saved) => {
-            handler_words(handler, signal, r, flags, saved)
-        }
-        Answer::End(signal) => short(ANSWER_END, signal as u64, 0, 0),
-        Answer::Stop(signal) => short(ANSWER_STOP, signal as u64, 0, 0),
-        Answer::NoAction(signal) => short(ANSWER_NO_ACTION, signal as u64, 0, 0),
+        Reply::OldMask(m) => short(ANSWER_OLD_MASK, m.0, 0, 0),
+        Reply::PendingSet(m) => short(ANSWER_PENDING_SET, m.0, 0, 0),
+        Reply::Looked(next) => next_words(next),
+        Reply::CanTake(thread) => short(ANSWER_CAN_TAKE, thread as u64, 0, 0),
+        Reply::NoneCan => short(ANSWER_NONE_CAN, 0, 0, 0),
+        Reply::Taken(taken) => taken_words(taken),
+    }
+}
+
+// The words of an answer, with zeros behind.
+fn words_of(answer: Answer) -> [u64; ANSWER_WORDS]
+    ensures { λ r. ⌜ r ≡ padded 0 answerWords (wordsOf answer) ⌝ }
+{
+    match answer {
+        Answer::Refused(_) => [0; ANSWER_WORDS],
+        Answer::Accepted(reply) => reply_words(reply),
     }
 }
 

@@ -11,9 +11,9 @@ use Rattle.rules.specs.Types.{clear}
 use Rattle.rules.specs.View.{forget}
 use Rattle.rules.specs.Store.{apply, applyAll}
 use Rattle.rules.specs.Refusals.{refusal, rows, isClear, fault, table, refusalOf}
-use Rattle.rules.specs.Calls.{changes, answer}
-use Rattle.answers.specs.declared.Answer.the-variants.{Refused, Done}
-use Rattle.answers.specs.Answers.{answerOf}
+use Rattle.rules.specs.Calls.{changes, reply}
+use Rattle.types.specs.declared.Reply.the-variants.{Done}
+use Rattle.types.specs.declared.Answer.the-variants.{Refused, Accepted}
 use Rattle.answers.specs.Step.{Lent, decoded, refusalOn, stepOn}
 use Rattle.answers.proofs.Endings.{longAs, AsLong, places-right, refused-ends, accepted-ends}
 
@@ -23,7 +23,7 @@ unfolding refusalOn refusalOf table refusal fault rows isClear
 clear-refusal l = rw (places-right l)
 
 module _ (l : Lent) (b : Bool) (e : b ≡ longAs l) where
-  pub clear-refused : not b ≡ true → (answerOf (Refused EFAULT) ≡ stepOn clear l .1) × (l ≡ stepOn clear l .0)
+  pub clear-refused : not b ≡ true → (Refused EFAULT ≡ stepOn clear l .1) × (l ≡ stepOn clear l .0)
   clear-refused f =
       refused-ends clear l EFAULT (sym (ap (λ (x : Bool). cond x 0 EFAULT) (sym e ∙ not-true b f)) ∙ clear-refusal l)
       (λ z. clash (ap (λ (n : ℕ). eqb n 0) z) refl)
@@ -32,7 +32,7 @@ module _ (l : Lent) (b : Bool) (e : b ≡ longAs l) where
   clear-long f = sym e ∙ not-false b f
 
   pub clear-done : not b ≡ false → (m : Lent) → AsLong l m → Bytes (m .threadBuffer) → Bytes (m .processBuffer) → decoded m ≡ apply forget (decoded l)
-      → (answerOf Done ≡ stepOn clear l .1) × (m ≡ stepOn clear l .0)
-  unfolding answerOf answer changes applyAll
+      → (Accepted Done ≡ stepOn clear l .1) × (m ≡ stepOn clear l .0)
+  unfolding reply changes applyAll
   clear-done f m s bt bp h =
-      accepted-ends clear l (sym (clear-refusal l) ∙ ap (λ (x : Bool). cond x 0 EFAULT) (clear-long f)) (answerOf Done) refl m s bt bp h
+      accepted-ends clear l (sym (clear-refusal l) ∙ ap (λ (x : Bool). cond x 0 EFAULT) (clear-long f)) Done refl m s bt bp h

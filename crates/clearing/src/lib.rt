@@ -2,13 +2,13 @@
 ghost use mathlib.Core.Path.{_≡_};
 ghost use Rattle.rules.specs.Types as call;
 ghost use Rattle.sound.specs.Lent.{lengthsAre};
-ghost use Rattle.answers.specs.Answers.{answerOf};
 ghost use Rattle.answers.specs.Step.{lent, stepOn};
-use answers::Answer;
 use limits::BUFFER_BYTES;
 use limits::EFAULT;
 use limits::PROCESS_TABLE;
 use limits::THREAD_TABLE;
+use types::Answer;
+use types::Reply;
 
 pub fn lengths_are(ps: &[u64], ts: &[u64], tb: &[u8], pb: &[u8]) -> bool
     ensures { λ r. ⌜ r ≡ lengthsAre (now (ps .entry)) (now (ts .entry)) (now (tb .entry)) (now (pb .entry)) ⌝ }
@@ -19,12 +19,12 @@ pub fn lengths_are(ps: &[u64], ts: &[u64], tb: &[u8], pb: &[u8]) -> bool
 
 // Clears the whole store, sound or not.
 pub fn clear(ps: &mut [u64], ts: &mut [u64], tb: &mut [u8], pb: &mut [u8]) -> Answer
-    ensures answer { λ r. ⌜ answerOf r ≡ stepOn (call.clear) (lent (now (ps .entry)) (now (ts .entry)) (now (tb .entry)) (now (pb .entry))) .1 ⌝ }
+    ensures answer { λ r. ⌜ r ≡ stepOn (call.clear) (lent (now (ps .entry)) (now (ts .entry)) (now (tb .entry)) (now (pb .entry))) .1 ⌝ }
     ensures tables { λ r. ⌜ lent (now (ps .exit)) (now (ts .exit)) (now (tb .exit)) (now (pb .exit)) ≡ stepOn (call.clear) (lent (now (ps .entry)) (now (ts .entry)) (now (tb .entry)) (now (pb .entry))) .0 ⌝ }
 {
     if !lengths_are(ps, ts, tb, pb) {
         return Answer::Refused(EFAULT);
     }
     effects::forget(ps, ts, tb, pb);
-    Answer::Done
+    Answer::Accepted(Reply::Done)
 }

@@ -10,7 +10,7 @@ use Rattle.rules.specs.View.{Change, removeProcess, removeThread, liveThread, t
 use Rattle.rules.specs.Store.{Store, view, apply, applyAll}
 use Rattle.rules.specs.Adding.{otherThread, endThreadChanges}
 use Rattle.rules.specs.Refusals.{rows, isClear, esrch, noProcessLive, noThreadLive}
-use Rattle.rules.specs.Calls.{changes, answer}
+use Rattle.rules.specs.Calls.{changes, reply}
 use Rattle.rules.specs.Fitting.{fits}
 use Rattle.rules.proofs.Marks.{the-thread-id}
 use Rattle.rules.proofs.TakeFits.{end-thread-fits}
@@ -19,8 +19,8 @@ use Rattle.sound.specs.Lent.{storeOf, soundTables}
 use Rattle.sound.proofs.Facts.{store-sound}
 use Rattle.effects.proofs.Chain.{one-made, made, starts}
 use Rattle.view.specs.Named.{threadNamed}
-use Rattle.answers.specs.declared.Answer.the-variants.{Refused, Done}
-use Rattle.answers.specs.Answers.{answerOf}
+use Rattle.types.specs.declared.Reply.the-variants.{Done}
+use Rattle.types.specs.declared.Answer.the-variants.{Refused, Accepted}
 use Rattle.answers.specs.Step.{Lent, lent, decoded, refusalOn, rowsOn, stepOn}
 use Rattle.answers.proofs.Endings.{AsLong, rows-given, refused-ends, accepted-ends}
 use Rattle.answers.proofs.Rows.{live-process, live-thread}
@@ -36,7 +36,7 @@ module _ (ps ts tb pb : List ℕ) (id n : ℕ) (r : n ≡ rowsOn (esrch (noProce
   process-number = r ∙ sym (rows-given (endProcess id) (lent ps ts tb pb) refl)
 
   pub process-kept : (n ≡ 0 → ⊥)
-      → (answerOf (Refused n) ≡ stepOn (endProcess id) (lent ps ts tb pb) .1) × (lent ps ts tb pb ≡ stepOn (endProcess id) (lent ps ts tb pb) .0)
+      → (Refused n ≡ stepOn (endProcess id) (lent ps ts tb pb) .1) × (lent ps ts tb pb ≡ stepOn (endProcess id) (lent ps ts tb pb) .0)
   process-kept = refused-ends (endProcess id) (lent ps ts tb pb) n process-number
 
   module _ (z : n ≡ 0) where
@@ -46,9 +46,9 @@ module _ (ps ts tb pb : List ℕ) (id n : ℕ) (r : n ≡ rowsOn (esrch (noProce
 
     pub process-ended : (m : Lent) → AsLong (lent ps ts tb pb) m → Bytes (m .threadBuffer) → Bytes (m .processBuffer)
         → decoded m ≡ apply (removeProcess id) (storeOf ps ts tb pb)
-        → (answerOf Done ≡ stepOn (endProcess id) (lent ps ts tb pb) .1) × (m ≡ stepOn (endProcess id) (lent ps ts tb pb) .0)
-    unfolding answerOf answer changes applyAll
-    process-ended = accepted-ends (endProcess id) (lent ps ts tb pb) (sym process-number ∙ z) (answerOf Done) refl
+        → (Accepted Done ≡ stepOn (endProcess id) (lent ps ts tb pb) .1) × (m ≡ stepOn (endProcess id) (lent ps ts tb pb) .0)
+    unfolding reply changes applyAll
+    process-ended = accepted-ends (endProcess id) (lent ps ts tb pb) (sym process-number ∙ z) Done refl
 
 -- ---- a thread
 
@@ -102,7 +102,7 @@ module _ (ps ts tb pb : List ℕ) (id n : ℕ) (r : n ≡ rowsOn (esrch (noThrea
   thread-number = r ∙ sym (rows-given (endThread id) (lent ps ts tb pb) refl)
 
   pub thread-kept : (n ≡ 0 → ⊥)
-      → (answerOf (Refused n) ≡ stepOn (endThread id) (lent ps ts tb pb) .1) × (lent ps ts tb pb ≡ stepOn (endThread id) (lent ps ts tb pb) .0)
+      → (Refused n ≡ stepOn (endThread id) (lent ps ts tb pb) .1) × (lent ps ts tb pb ≡ stepOn (endThread id) (lent ps ts tb pb) .0)
   thread-kept = refused-ends (endThread id) (lent ps ts tb pb) n thread-number
 
   module _ (z : n ≡ 0) where
@@ -111,6 +111,6 @@ module _ (ps ts tb pb : List ℕ) (id n : ℕ) (r : n ≡ rowsOn (esrch (noThrea
 
     pub thread-ended : (m : Lent) → AsLong (lent ps ts tb pb) m → Bytes (m .threadBuffer) → Bytes (m .processBuffer)
         → decoded m ≡ applyAll (endThreadChanges (view (storeOf ps ts tb pb)) (theThread (view (storeOf ps ts tb pb)) id)) (storeOf ps ts tb pb)
-        → (answerOf Done ≡ stepOn (endThread id) (lent ps ts tb pb) .1) × (m ≡ stepOn (endThread id) (lent ps ts tb pb) .0)
-    unfolding answerOf answer changes
-    thread-ended = accepted-ends (endThread id) (lent ps ts tb pb) (sym thread-number ∙ z) (answerOf Done) refl
+        → (Accepted Done ≡ stepOn (endThread id) (lent ps ts tb pb) .1) × (m ≡ stepOn (endThread id) (lent ps ts tb pb) .0)
+    unfolding reply changes
+    thread-ended = accepted-ends (endThread id) (lent ps ts tb pb) (sym thread-number ∙ z) Done refl

@@ -12,17 +12,17 @@ ghost use Rattle.rules.specs.Store.{view, applyAll};
 ghost use Rattle.rules.specs.Adding.{endThreadChanges};
 ghost use Rattle.tables.specs.Tables.{heldThreads};
 ghost use Rattle.sound.specs.Lent.{storeOf, soundTables};
-ghost use Rattle.answers.specs.Answers.{answerOf};
 ghost use Rattle.answers.specs.Step.{lent, stepOn};
 ghost use Rattle.ending.specs.Others.{isOther};
-use answers::Answer;
 use limits::THREAD_ID;
 use limits::THREAD_PLACES;
 use limits::THREAD_PROCESS;
+use types::Answer;
+use types::Reply;
 
 // Ends a process, as KILL does.
 pub fn end_process(ps: &mut [u64], ts: &mut [u64], tb: &mut [u8], pb: &mut [u8], id: u32) -> Answer
-    ensures answer { λ r. ⌜ answerOf r ≡ stepOn (call.endProcess id) (lent (now (ps .entry)) (now (ts .entry)) (now (tb .entry)) (now (pb .entry))) .1 ⌝ }
+    ensures answer { λ r. ⌜ r ≡ stepOn (call.endProcess id) (lent (now (ps .entry)) (now (ts .entry)) (now (tb .entry)) (now (pb .entry))) .1 ⌝ }
     ensures tables { λ r. ⌜ lent (now (ps .exit)) (now (ts .exit)) (now (tb .exit)) (now (pb .exit)) ≡ stepOn (call.endProcess id) (lent (now (ps .entry)) (now (ts .entry)) (now (tb .entry)) (now (pb .entry))) .0 ⌝ }
 {
     let n = view::process_refusal(ps, ts, tb, pb, id);
@@ -30,7 +30,7 @@ pub fn end_process(ps: &mut [u64], ts: &mut [u64], tb: &mut [u8], pb: &mut [u8],
         return Answer::Refused(n);
     }
     effects::remove_process(ps, ts, tb, pb, id);
-    Answer::Done
+    Answer::Accepted(Reply::Done)
 }
 
 // Is the thread in a place one of the process, and another one?
@@ -74,7 +74,7 @@ fn remove(ps: &mut [u64], ts: &mut [u64], tb: &mut [u8], pb: &mut [u8], thread: 
 
 // Ends a thread; the last one of a process ends the process.
 pub fn end_thread(ps: &mut [u64], ts: &mut [u64], tb: &mut [u8], pb: &mut [u8], id: u32) -> Answer
-    ensures answer { λ r. ⌜ answerOf r ≡ stepOn (call.endThread id) (lent (now (ps .entry)) (now (ts .entry)) (now (tb .entry)) (now (pb .entry))) .1 ⌝ }
+    ensures answer { λ r. ⌜ r ≡ stepOn (call.endThread id) (lent (now (ps .entry)) (now (ts .entry)) (now (tb .entry)) (now (pb .entry))) .1 ⌝ }
     ensures tables { λ r. ⌜ lent (now (ps .exit)) (now (ts .exit)) (now (tb .exit)) (now (pb .exit)) ≡ stepOn (call.endThread id) (lent (now (ps .entry)) (now (ts .entry)) (now (tb .entry)) (now (pb .entry))) .0 ⌝ }
 {
     let n = view::thread_refusal(ps, ts, tb, pb, id);
@@ -82,5 +82,5 @@ pub fn end_thread(ps: &mut [u64], ts: &mut [u64], tb: &mut [u8], pb: &mut [u8], 
         return Answer::Refused(n);
     }
     remove(ps, ts, tb, pb, id);
-    Answer::Done
+    Answer::Accepted(Reply::Done)
 }

@@ -12,13 +12,15 @@ use Rattle.sigset.specs.Set.{bits, empty, ofSignal}
 use Rattle.types.specs.declared.Action.{Action}
 use Rattle.types.specs.declared.Siginfo.{Siginfo}
 use Rattle.types.specs.Values.{defaultAction}
-use Rattle.rules.specs.Types.{Call, addProcess, addThread, endProcess, endThread, kill, queue, action, mask, pending, look, who, take, return, Answer, refused, done, tested, acted, dropped, marked, kept, oldAction, oldMask, pendingSet, nothing, handler}
+use Rattle.types.specs.declared.Answer.{Answer}
+use Rattle.rules.specs.Types.{Call, addProcess, addThread, endProcess, endThread, kill, queue, action, mask, pending, look, who, take, return}
 use Rattle.rules.specs.Store.{Store, cleared}
 use Rattle.rules.specs.Calls.{run}
 use Rattle.rules.specs.Machine.{machine}
 use Rattle.rules.specs.Computing.{computing}
 use Rattle.rules.proofs.Cleared.{sound-cleared}
 use Rattle.rules.proofs.QuickRuns.{quickComputing, quickRun, same-run}
+use Rattle.examples.specs.Words.{refused, done, tested, acted, dropped, marked, kept, oldAction, oldMask, pendingSet, nothing, handler}
 
 pub answers : List Call → List Answer
 answers cs = run cs cleared .1

@@ -13,13 +13,14 @@ use Rattle.sigset.specs.Set.{bits, empty}
 use Rattle.types.specs.declared.Action.{Action}
 use Rattle.types.specs.declared.Siginfo.{Siginfo}
 use Rattle.types.specs.Values.{defaultAction}
-use Rattle.rules.specs.Types.{Process, Thread, Queue, addProcess, kill, queue, clear, refused, done}
+use Rattle.rules.specs.Types.{Process, Thread, Queue, addProcess, kill, queue, clear}
 use Rattle.rules.specs.View.{Change, newProcess, newThread, setStopped, setAction, setMask, setMark, append, processQueue, isProcess}
 use Rattle.rules.specs.Store.{Store, cleared, withAction, amend, mapMarks, isFreeProcess, isFreeThread, onProcesses, onThreads, onBuffer, applyAll}
 use Rattle.rules.specs.Sound.{lengthsRight, freeZero, idsInRange, idsDistinct, fieldsInRange, threadsOwned, processesHaveThreads, nothingUnmaskable, unmaskableDefault, allFlagsKnown, recordsLaidOut, limitKept, pendingOnce, nothingIgnored}
 use Rattle.rules.specs.Calls.{run, step}
 use Rattle.rules.specs.Computing.{computing}
 use Rattle.examples.specs.Cases.{times}
+use Rattle.examples.specs.Words.{refused, done}
 
 -- what each clause says of a store, in the order of `sound`
 unfoldable pub verdicts : Store → List Bool

@@ -9,7 +9,8 @@ use Rattle.limits.specs.Limits.{recordLimit}
 use Rattle.lists.specs.Lists.{All, all}
 use Rattle.sigset.specs.Set.{bits, empty}
 use Rattle.types.specs.Values.{defaultAction}
-use Rattle.rules.specs.Types.{Call, clear, addProcess, addThread, endProcess, endThread, kill, queue, action, mask, pending, look, who, take, return, noNext, nextMark, nextRecord, Answer, refused, done, tested, acted, dropped, absorbed, marked, kept, oldAction, oldMask, pendingSet, looked, canTake, noneCan, nothing, handler, end, stop, noAction}
+use Rattle.types.specs.declared.Answer.{Answer}
+use Rattle.rules.specs.Types.{Call, clear, addProcess, addThread, endProcess, endThread, kill, queue, action, mask, pending, look, who, take, return}
 use Rattle.rules.specs.Store.{Store, cleared}
 use Rattle.rules.specs.Calls.{run, Part, emptyPart, processSlot, lookPart}
 use Rattle.rules.specs.Machine.{machine}
@@ -18,6 +19,7 @@ use Rattle.rules.proofs.Cleared.{sound-cleared}
 use Rattle.rules.proofs.StaysSound.{run-sound}
 use Rattle.rules.proofs.QuickRuns.{quickComputing, quickRun, same-run, quickPart, same-part}
 use Rattle.examples.specs.Cases.{Case, Holds, holds, times}
+use Rattle.examples.specs.Words.{refused, done, tested, acted, dropped, absorbed, marked, kept, oldAction, oldMask, pendingSet, canTake, noneCan, nothing, handler, end, stop, noAction, lookedNothing, lookedMark, lookedRecord}
 
 abbrev called : Call × Answer → Call
 called x = x .0
@@ -123,13 +125,13 @@ story =
     -- pending thread=201 → pending set 0
     ∷ (pending 201, pendingSet empty)
     -- look thread=200 → looked mark of 18 in queue 100 0
-    ∷ (look 200, looked (nextMark (record { process = 100; thread = 0 }) 18))
+    ∷ (look 200, lookedMark 100 0 18)
     -- take thread=200 → no action 18
     ∷ (take 200, noAction 18)
     -- look thread=200 → looked nothing
-    ∷ (look 200, looked noNext)
+    ∷ (look 200, lookedNothing)
     -- look thread=201 → looked record (100 0 40 -1 100 1000 7)
-    ∷ (look 201, looked (nextRecord (record { process = 100; thread = 0 }) 40 (record { process = 100; thread = 0; signal = 40; code = 4294967295; sender = 100; uid = 1000; value = 7 })))
+    ∷ (look 201, lookedRecord (record { process = 100; thread = 0; signal = 40; code = 4294967295; sender = 100; uid = 1000; value = 7 }))
     -- look thread=202 → refused 3
     ∷ (look 202, refused 3)
     -- who process=100 → can take 201

@@ -9,14 +9,14 @@ use borrow.Author.Tests.{eqb-true, eq-eqb, leb-true, le-leb, not-true}
 use Rattle.limits.specs.Limits.{recordLimit, EAGAIN, EFAULT}
 use Rattle.lists.specs.Lists.{All}
 use Rattle.lists.proofs.Bools.{split, clash, same-test, cond-false}
-use Rattle.rules.specs.Types.{Call, clear, addProcess, addThread, endProcess, endThread, kill, queue, action, mask, pending, look, who, take, return, Answer, refused, done, tested, acted, dropped, absorbed, marked, kept, oldAction, oldMask, pendingSet, looked, canTake, noneCan, nothing, handler, end, stop, noAction}
+use Rattle.types.specs.declared.Answer.the-variants.{Refused, Accepted}
+use Rattle.rules.specs.Types.{Call, clear, addProcess, addThread, endProcess, endThread, kill, queue, action, mask, pending, look, who, take, return}
 use Rattle.rules.specs.View.{View, targetQueue}
 use Rattle.rules.specs.Store.{Store, view}
 use Rattle.rules.specs.Sending.{generation, needsRecord}
 use Rattle.rules.specs.Refusals.{Row, refusal, rows, table, refusalOf, noRoom, einval, esrch, eperm, eagain}
-use Rattle.rules.specs.Calls.{answer, finish, step, isRefused}
+use Rattle.rules.specs.Calls.{reply, finish, step, isRefused}
 use Rattle.rules.proofs.Facts.{within-limit}
-use Rattle.rules.proofs.Refused.{accepted-answers}
 use Rattle.rules.proofs.RefusalTable.{given-passes, no-fault}
 use Rattle.history.specs.Ledger.{Ledger, ledgerView, ledgerRefusal, ledgerAnswer, ofProcess, pendingWhere}
 use Rattle.history.specs.History.{isRefusedWith}
@@ -30,41 +30,18 @@ module _ (st : Store) (k : Ledger) (h : Holds st k) (c : Call) where
   unfolding refusalOf table refusal ledgerRefusal
   same-refusal = cond-false _ _ (no-fault c st (h .isSound)) ∙ ap (λ (v : View). refusal (rows v c)) (same-view st k h)
 
-  finished : (n : ℕ) → finish n c st .1 ≡ cond (eqb n 0) (answer (view st) c) (refused n)
+  finished : (n : ℕ) → finish n c st .1 ≡ cond (eqb n 0) (Accepted (reply (view st) c)) (Refused n)
   unfolding finish
   finished zero = refl
-  finished (suc n) = sym (cond-false (answer (view st) c) (refused (suc n)) (eqb·suc-zero n))
+  finished (suc n) = sym (cond-false (Accepted (reply (view st) c)) (Refused (suc n)) (eqb·suc-zero n))
 
   pub same-answer : step c st .1 ≡ ledgerAnswer k c
   unfolding step ledgerAnswer
   same-answer =
       finished (refusalOf st c)
-      ∙ ap₂ (λ (n : ℕ) (v : View). cond (eqb n 0) (answer v c) (refused n)) same-refusal (same-view st k h)
+      ∙ ap₂ (λ (n : ℕ) (v : View). cond (eqb n 0) (Accepted (reply v c)) (Refused n)) same-refusal (same-view st k h)
 
 -- ---- refusals by number
-
--- an accepted answer is no refusal
-not-refused : (n : ℕ) (a : Answer) → isRefused a ≡ false → isRefusedWith n a ≡ false
-unfolding isRefused isRefusedWith
-not-refused n (refused m) e = clash refl e
-not-refused n done e = refl
-not-refused n tested e = refl
-not-refused n acted e = refl
-not-refused n dropped e = refl
-not-refused n absorbed e = refl
-not-refused n marked e = refl
-not-refused n kept e = refl
-not-refused n (oldAction a) e = refl
-not-refused n (oldMask m) e = refl
-not-refused n (pendingSet m) e = refl
-not-refused n (looked x) e = refl
-not-refused n (canTake t) e = refl
-not-refused n noneCan e = refl
-not-refused n nothing e = refl
-not-refused n (handler x s r flags saved) e = refl
-not-refused n (end s) e = refl
-not-refused n (stop s) e = refl
-not-refused n (noAction s) e = refl
 
 module _ (k : Ledger) (c : Call) where
   -- what the ledger refuses with a number other than 0
@@ -72,7 +49,7 @@ module _ (k : Ledger) (c : Call) where
   unfolding ledgerAnswer isRefusedWith
   refused-with n z =
       split (eqb (ledgerRefusal k c) 0)
-      (λ e. rw e (not-refused n (answer (ledgerView k) c) (accepted-answers (ledgerView k) c) ∙ sym (ap (λ m. eqb m n) (eqb-true (ledgerRefusal k c) 0 e) ∙ z)))
+      (λ e. rw e (sym (ap (λ m. eqb m n) (eqb-true (ledgerRefusal k c) 0 e) ∙ z)))
       (λ e. rw e)
 
 abbrev notFault : ℕ → Bool

@@ -9,7 +9,8 @@ use Rattle.limits.specs.Limits.{EAGAIN, EFAULT}
 use Rattle.lists.specs.Lists.{all}
 use Rattle.lists.proofs.Bools.{and-fst, and-snd}
 use Rattle.types.specs.declared.Siginfo.{Siginfo}
-use Rattle.rules.specs.Types.{Queue, Call, queue, take, Answer, nextRecord}
+use Rattle.types.specs.declared.Answer.{Answer}
+use Rattle.rules.specs.Types.{Queue, Call, queue, take, nextRecord}
 use Rattle.rules.specs.View.{liveThread, theThread}
 use Rattle.rules.specs.Taking.{next}
 use Rattle.rules.specs.Asking.{yieldsOne}

@@ -16,7 +16,8 @@ use Rattle.types.specs.declared.Siginfo.{Siginfo}
 use Rattle.types.specs.Values.{noSiginfo}
 use Rattle.siginfo.specs.Bytes.{Fits, encode, bytesOf, slots, slotBytes}
 use Rattle.siginfo.proofs.Slots.{slots-slotBytes, length-slotBytes}
-use Rattle.rules.specs.Types.{Call, clear, refused}
+use Rattle.types.specs.declared.Answer.the-variants.{Refused}
+use Rattle.rules.specs.Types.{Call, clear}
 use Rattle.rules.specs.Store.{Store, freeProcess, freeThread, cleared, apply, applyAll}
 use Rattle.rules.specs.Sound.{actionsLong, sound}
 use Rattle.rules.specs.Refusals.{refusal, rows, isClear, fault, table, refusalOf}
@@ -79,7 +80,7 @@ module _ (c : Call) (l : Lent) (h : longAs l ≡ true) where
   -- tables of the right lengths: nothing but the rules decides
   on-long : stepOn c l ≡ committed l (step c (decoded l))
   unfolding stepOn
-  on-long = cond-true (committed l (step c (decoded l))) (l, refused EFAULT) h
+  on-long = cond-true (committed l (step c (decoded l))) (l, Refused EFAULT) h
 
   pub answer-on : stepOn c l .1 ≡ step c (decoded l) .1
   unfolding committed

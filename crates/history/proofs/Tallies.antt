@@ -10,19 +10,21 @@ use Rattle.limits.specs.Limits.{sigDfl}
 use Rattle.lists.proofs.Bools.{split, clash, and-left, and-right, cond-true, cond-false}
 use Rattle.types.specs.declared.Action.{Action}
 use Rattle.types.specs.declared.Siginfo.{Siginfo}
-use Rattle.rules.specs.Types.{Thread, Queue, Next, noNext, nextMark, nextRecord, Call, clear, addProcess, addThread, endProcess, endThread, kill, queue, action, mask, pending, look, who, take, return, Answer, refused}
+use Rattle.types.specs.declared.Reply.the-variants.{Taken}
+use Rattle.types.specs.declared.Answer.{Answer}
+use Rattle.types.specs.declared.Answer.the-variants.{Refused, Accepted}
+use Rattle.rules.specs.Types.{Thread, Queue, Next, noNext, nextMark, nextRecord, Call, clear, addProcess, addThread, endProcess, endThread, kill, queue, action, mask, pending, look, who, take, return}
 use Rattle.rules.specs.View.{View, targetQueue, liveThread, theThread, threadAction}
 use Rattle.rules.specs.Signals.{Outcome, ignores, stops, continues, ends, outcome}
 use Rattle.rules.specs.Sending.{Generation, testing, killing, stopping, dropping, absorbing, marking, keeping, generation, sendAnswer, needsRecord}
 use Rattle.rules.specs.Taking.{whoAnswer, taker, next, markInfo, outcomeAnswer, delivered, takeAnswer}
-use Rattle.rules.specs.Asking.{MayTake, hasOffer, yieldsOne, takenBy}
+use Rattle.rules.specs.Asking.{MayTake, hasOffer, onReply, onAccepted, yieldsOne, takenBy}
 use Rattle.rules.specs.Refusals.{refusal, rows, noThreadLive}
-use Rattle.rules.specs.Calls.{answer, changes, stages, isRefused}
+use Rattle.rules.specs.Calls.{reply, changes, stages, isRefused}
 use Rattle.rules.proofs.Asking.{delivered-yields, asking-yields, next-record}
 use Rattle.rules.proofs.CallChanges.{Keeps, queued, plain-send, needs-keeping, keeping-needs}
-use Rattle.rules.proofs.Refused.{accepted-answers}
 use Rattle.history.specs.Ledger.{Ledger, isAt, oneOf, ledgerView, ledgerRefusal, ledgerAnswer, noteAll, noteStages, enter}
-use Rattle.history.specs.History.{isKept, keepsAt, isSendAt, isSend, takesAt, takesOne}
+use Rattle.history.specs.History.{isKept, isKeptSend, keepsAt, isSendAt, isSend, takesAt, takesOne}
 use Rattle.history.proofs.Counting.{kept, taken, Steady, kept-steady, taken-steady, kept-one, kept-total, taken-one, taken-total}
 
 -- ---- accepted or refused, as the ledger has it
@@ -33,16 +35,16 @@ module _ (k : Ledger) (c : Call) where
   then = enter (record { call = c; refused = isRefused (ledgerAnswer k c) }) k
 
   module _ (e : eqb (ledgerRefusal k c) 0 ≡ true) where
-    pub accepted-answer : ledgerAnswer k c ≡ answer (ledgerView k) c
+    pub accepted-answer : ledgerAnswer k c ≡ Accepted (reply (ledgerView k) c)
     unfolding ledgerAnswer
     accepted-answer = cond-true _ _ e
 
     pub accepted-then : then ≡ noteAll (changes (ledgerView k) c) k
-    unfolding enter stages noteStages
-    accepted-then = cond-false k _ (ap isRefused accepted-answer ∙ accepted-answers (ledgerView k) c)
+    unfolding enter stages noteStages isRefused
+    accepted-then = cond-false k _ (ap isRefused accepted-answer)
 
   module _ (e : eqb (ledgerRefusal k c) 0 ≡ false) where
-    refused-answer : ledgerAnswer k c ≡ refused (ledgerRefusal k c)
+    refused-answer : ledgerAnswer k c ≡ Refused (ledgerRefusal k c)
     unfolding ledgerAnswer
     refused-answer = cond-false _ _ e
 
@@ -51,16 +53,16 @@ module _ (k : Ledger) (c : Call) where
     refused-then = cond-true k _ (ap isRefused refused-answer)
 
   -- what holds of an accepted call, and of a refusal that leaves the ledger alone
-  by-answer : (P : Answer → Ledger → Type 0) → P (answer (ledgerView k) c) (noteAll (changes (ledgerView k) c) k) → ((n : ℕ) → P (refused n) k) → P (ledgerAnswer k c) then
+  by-answer : (P : Answer → Ledger → Type 0) → P (Accepted (reply (ledgerView k) c)) (noteAll (changes (ledgerView k) c) k) → ((n : ℕ) → P (Refused n) k) → P (ledgerAnswer k c) then
   by-answer P h g =
       split (eqb (ledgerRefusal k c) 0)
-      (λ e. subst (λ (a : Answer). P a then) (sym (accepted-answer e)) (subst (P (answer (ledgerView k) c)) (sym (accepted-then e)) h))
-      (λ e. subst (λ (a : Answer). P a then) (sym (refused-answer e)) (subst (P (refused (ledgerRefusal k c))) (sym (refused-then e)) (g (ledgerRefusal k c))))
+      (λ e. subst (λ (a : Answer). P a then) (sym (accepted-answer e)) (subst (P (Accepted (reply (ledgerView k) c))) (sym (accepted-then e)) h))
+      (λ e. subst (λ (a : Answer). P a then) (sym (refused-answer e)) (subst (P (Refused (ledgerRefusal k c))) (sym (refused-then e)) (g (ledgerRefusal k c))))
 
 -- ---- which call is answered "kept"
 
-kept-generation : (f : Generation) → isKept (sendAnswer f) ≡ needsRecord f
-unfolding sendAnswer isKept needsRecord
+kept-generation : (f : Generation) → isKeptSend (sendAnswer f) ≡ needsRecord f
+unfolding sendAnswer isKeptSend needsRecord
 kept-generation testing = refl
 kept-generation killing = refl
 kept-generation stopping = refl
@@ -69,25 +71,8 @@ kept-generation absorbing = refl
 kept-generation marking = refl
 kept-generation keeping = refl
 
-kept-outcome : (o : Outcome) (s : ℕ) → isKept (outcomeAnswer o s) ≡ false
-unfolding outcomeAnswer isKept
-kept-outcome ignores s = refl
-kept-outcome stops s = refl
-kept-outcome continues s = refl
-kept-outcome ends s = refl
-
-kept-delivered : (t : Thread) (a : Action) (r : Siginfo) → isKept (delivered t a r) ≡ false
-unfolding delivered isKept
-kept-delivered t a r = split (eqb (a .handler) sigDfl) (λ e. rw e (kept-outcome (outcome (r .signal)) (r .signal))) (λ e. rw e)
-
-kept-taken : (v : View) (t : Thread) (n : Next) → isKept (takeAnswer v t n) ≡ false
-unfolding takeAnswer isKept
-kept-taken v t noNext = refl
-kept-taken v t (nextMark q s) = kept-delivered t (threadAction v t s) (markInfo q s)
-kept-taken v t (nextRecord q s r) = kept-delivered t (threadAction v t s) r
-
-kept-who : (v : View) (o : Option Thread) → isKept (whoAnswer v o) ≡ false
-unfolding whoAnswer isKept
+kept-who : (v : View) (o : Option Thread) → isKept (Accepted (whoAnswer v o)) ≡ false
+unfolding whoAnswer onAccepted onReply
 kept-who v none = refl
 kept-who v (some t) = refl
 
@@ -108,8 +93,8 @@ keepsOne v (who p) = false
 keepsOne v (take t) = false
 keepsOne v (return t saved) = false
 
-kept-call : (v : View) (c : Call) → isKept (answer v c) ≡ keepsOne v c
-unfolding answer keepsOne taker isKept
+kept-call : (v : View) (c : Call) → isKept (Accepted (reply v c)) ≡ keepsOne v c
+unfolding reply keepsOne taker onAccepted onReply
 kept-call v clear = refl
 kept-call v (addProcess id real effective saved session thread m) = refl
 kept-call v (addThread creator id) = refl
@@ -122,7 +107,7 @@ kept-call v (mask t way set) = refl
 kept-call v (pending t) = refl
 kept-call v (look t) = refl
 kept-call v (who p) = kept-who v _
-kept-call v (take t) = kept-taken v (theThread v t) (next v (theThread v t))
+kept-call v (take t) = refl
 kept-call v (return t saved) = refl
 
 -- ---- one more, or none
@@ -187,13 +172,13 @@ module _ (k : Ledger) (c : Call) where
   kept-counted q s =
       by-answer k c (λ (a : Answer) (x : Ledger). x .lines q s .counts .kept ≡ k .lines q s .counts .kept + cond (isKept a && keepsAt c q s) 1 0)
       (kept-at k (ledgerView k) c q s ∙ ap (λ (b : Bool). k .lines q s .counts .kept + cond (b && keepsAt c q s) 1 0) (sym (kept-call (ledgerView k) c)))
-      (λ n. unfold isKept in omega arith)
+      (λ n. unfold onAccepted in omega arith)
 
   pub kept-in-total : then k c .total .kept ≡ k .total .kept + cond (isKept (ledgerAnswer k c)) 1 0
   kept-in-total =
       by-answer k c (λ (a : Answer) (x : Ledger). x .total .kept ≡ k .total .kept + cond (isKept a) 1 0)
       (kept-in-all k (ledgerView k) c ∙ ap (λ (b : Bool). k .total .kept + cond b 1 0) (sym (kept-call (ledgerView k) c)))
-      (λ n. unfold isKept in omega arith)
+      (λ n. unfold onAccepted in omega arith)
 
 -- ---- taken
 
@@ -244,17 +229,19 @@ module _ (k : Ledger) (t : ℕ) (q : Queue) (s : ℕ) (r : Siginfo) (e : next (l
   one-there : oneOf (k .lines q s .sends) ≡ 1
   one-there = ap oneOf taken-oldest
 
-  pub taken-answer : answer v (take t) ≡ delivered (theThread v t) (threadAction v (theThread v t) s) r
-  unfolding answer takeAnswer
-  taken-answer = ap (takeAnswer v (theThread v t)) e
+  pub taken-answer : Accepted (reply v (take t))
+      ≡ Accepted (Taken (delivered (theThread v t) (threadAction v (theThread v t) s) r))
+  unfolding reply takeAnswer
+  taken-answer = ap (λ n. Accepted (Taken (takeAnswer v (theThread v t) n))) e
 
-  taken-yields : yieldsOne (answer v (take t)) ≡ true
+  taken-yields : yieldsOne (Accepted (reply v (take t))) ≡ true
+  unfolding onAccepted onReply
   taken-yields = ap yieldsOne taken-answer ∙ delivered-yields v (theThread v t) (threadAction v (theThread v t) s) r
 
-  took-at : (q′ : Queue) (s′ : ℕ) → noteAll (changes v (take t)) k .lines q′ s′ .counts .taken ≡ k .lines q′ s′ .counts .taken + cond (yieldsOne (answer v (take t)) && isAt q s q′ s′) 1 0
+  took-at : (q′ : Queue) (s′ : ℕ) → noteAll (changes v (take t)) k .lines q′ s′ .counts .taken ≡ k .lines q′ s′ .counts .taken + cond (yieldsOne (Accepted (reply v (take t))) && isAt q s q′ s′) 1 0
   took-at q′ s′ = taken-one k v t q s r e one-there q′ s′ ∙ ap (λ (b : Bool). k .lines q′ s′ .counts .taken + cond (b && isAt q s q′ s′) 1 0) (sym taken-yields)
 
-  took-in-all : noteAll (changes v (take t)) k .total .taken ≡ k .total .taken + cond (yieldsOne (answer v (take t)) && true) 1 0
+  took-in-all : noteAll (changes v (take t)) k .total .taken ≡ k .total .taken + cond (yieldsOne (Accepted (reply v (take t))) && true) 1 0
   took-in-all = taken-total k v t q s r e one-there ∙ ap (λ (b : Bool). k .total .taken + cond (b && true) 1 0) (sym taken-yields)
 
 module _ (k : Ledger) (c : Call) where
@@ -262,17 +249,17 @@ module _ (k : Ledger) (c : Call) where
   seen = ledgerView k
 
   TakenAt : Queue → ℕ → Next → Call → Type 0
-  TakenAt q s n x = noteAll (changes seen x) k .lines q s .counts .taken ≡ k .lines q s .counts .taken + cond (yieldsOne (answer seen x) && isSendAt n q s) 1 0
+  TakenAt q s n x = noteAll (changes seen x) k .lines q s .counts .taken ≡ k .lines q s .counts .taken + cond (yieldsOne (Accepted (reply seen x)) && isSendAt n q s) 1 0
 
   TakenInAll : Next → Call → Type 0
-  TakenInAll n x = noteAll (changes seen x) k .total .taken ≡ k .total .taken + cond (yieldsOne (answer seen x) && isSend n) 1 0
+  TakenInAll n x = noteAll (changes seen x) k .total .taken ≡ k .total .taken + cond (yieldsOne (Accepted (reply seen x)) && isSend n) 1 0
 
   module _ (no : (q : Queue) (s : ℕ) (r : Siginfo) → takenBy seen c ≡ nextRecord q s r → ⊥) (b : Bool) (z : b ≡ false) where
-    none-at : (q : Queue) (s : ℕ) → noteAll (changes seen c) k .lines q s .counts .taken ≡ k .lines q s .counts .taken + cond (yieldsOne (answer seen c) && b) 1 0
-    none-at q s = more _ _ (yieldsOne (answer seen c) && b) (λ y. clash y (and-right (yieldsOne (answer seen c)) z)) (λ _. taken-steady k seen c no .lines q s)
+    none-at : (q : Queue) (s : ℕ) → noteAll (changes seen c) k .lines q s .counts .taken ≡ k .lines q s .counts .taken + cond (yieldsOne (Accepted (reply seen c)) && b) 1 0
+    none-at q s = more _ _ (yieldsOne (Accepted (reply seen c)) && b) (λ y. clash y (and-right (yieldsOne (Accepted (reply seen c))) z)) (λ _. taken-steady k seen c no .lines q s)
 
-    none-in-all : noteAll (changes seen c) k .total .taken ≡ k .total .taken + cond (yieldsOne (answer seen c) && b) 1 0
-    none-in-all = more _ _ (yieldsOne (answer seen c) && b) (λ y. clash y (and-right (yieldsOne (answer seen c)) z)) (λ _. taken-steady k seen c no .total)
+    none-in-all : noteAll (changes seen c) k .total .taken ≡ k .total .taken + cond (yieldsOne (Accepted (reply seen c)) && b) 1 0
+    none-in-all = more _ _ (yieldsOne (Accepted (reply seen c)) && b) (λ y. clash y (and-right (yieldsOne (Accepted (reply seen c))) z)) (λ _. taken-steady k seen c no .total)
 
   taken-at : (q : Queue) (s : ℕ) (n : Next) → takenBy seen c ≡ n → TakenAt q s n c
   unfolding TakenAt isSendAt
@@ -291,14 +278,14 @@ module _ (k : Ledger) (c : Call) where
   taken-counted q s =
       by-answer k c (λ (a : Answer) (x : Ledger). x .lines q s .counts .taken ≡ k .lines q s .counts .taken + cond (yieldsOne a && takesAt k c q s) 1 0)
       (taken-at q s (takenBy seen c) refl)
-      (λ n. unfold yieldsOne in omega arith)
+      (λ n. unfold onAccepted in omega arith)
 
   pub taken-in-total : then k c .total .taken ≡ k .total .taken + cond (yieldsOne (ledgerAnswer k c) && takesOne k c) 1 0
   unfolding TakenInAll
   taken-in-total =
       by-answer k c (λ (a : Answer) (x : Ledger). x .total .taken ≡ k .total .taken + cond (yieldsOne a && takesOne k c) 1 0)
       (taken-in-all (takenBy seen c) refl)
-      (λ n. unfold yieldsOne in omega arith)
+      (λ n. unfold onAccepted in omega arith)
 
 -- ---- a take of a live thread is accepted
 
@@ -308,5 +295,5 @@ module _ (k : Ledger) (t : ℕ) (l : liveThread (ledgerView k) t ≡ true) where
   take-accepted = rw l
 
   pub asked : yieldsOne (ledgerAnswer k (take t)) ≡ hasOffer (ledgerView k) (theThread (ledgerView k) t)
-  unfolding answer
+  unfolding reply onAccepted onReply
   asked = ap yieldsOne (accepted-answer k (take t) take-accepted) ∙ asking-yields (ledgerView k) (theThread (ledgerView k) t)

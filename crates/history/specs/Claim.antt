@@ -10,7 +10,10 @@ use lib.ListN.{length, drop}
 use Rattle.limits.specs.Limits.{recordLimit, EAGAIN, EFAULT}
 use Rattle.lists.specs.Lists.{all, keep}
 use Rattle.types.specs.declared.Siginfo.{Siginfo}
-use Rattle.rules.specs.Types.{Thread, Queue, Call, kill, queue, take, Answer, nextRecord}
+use Rattle.types.specs.declared.Reply.the-variants.{Taken}
+use Rattle.types.specs.declared.Answer.{Answer}
+use Rattle.types.specs.declared.Answer.the-variants.{Accepted}
+use Rattle.rules.specs.Types.{Thread, Queue, Call, kill, queue, take, nextRecord}
 use Rattle.rules.specs.View.{View, inQueue, targetQueue, liveThread, theThread, threadAction}
 use Rattle.rules.specs.Store.{held, used, recordsFor, markIn}
 use Rattle.rules.specs.Sending.{generation, needsRecord}
@@ -51,7 +54,7 @@ module _ (l : Lent) (k : Ledger) where
     pub allowed : MayTake seen (thread t) q s
     -- "A take removes the oldest send .. and answers by it."
     pub oldest : k .lines q s .sends ≡ r ∷ tail (k .lines q s .sends)
-    pub answers : answered (take t) ≡ delivered (thread t) (threadAction seen (thread t) s) r
+    pub answers : answered (take t) ≡ Accepted (Taken (delivered (thread t) (threadAction seen (thread t) s) r))
     -- "Each taken record went once": it is gone from its list, and the others with it where what the take sets off empties that
     pub gone : (after (take t) .lines q s .sends ≡ tail (k .lines q s .sends)) ⊎ (after (take t) .lines q s .sends ≡ [])
 

@@ -6,10 +6,14 @@ use lib.Dec.{eqb}
 use lib.ListN.{replicate}
 use Rattle.limits.specs.Limits.{processTable, threadTable, bufferBytes}
 use Rattle.siginfo.specs.Bytes.{bytesOf}
-use Rattle.rules.specs.Types.{Queue, Next, noNext, nextMark, nextRecord, Call, clear, addProcess, addThread, endProcess, endThread, kill, queue, action, mask, pending, look, who, take, return, Answer, refused, done, tested, acted, dropped, absorbed, marked, kept, oldAction, oldMask, pendingSet, looked, canTake, noneCan, nothing, handler, end, stop, noAction}
+use Rattle.types.specs.declared.Sent.{Sent}
+use Rattle.types.specs.declared.Sent.the-variants.{Tested, Acted, Dropped, Absorbed, Marked, Kept}
+use Rattle.types.specs.declared.Answer.{Answer}
+use Rattle.types.specs.declared.Answer.the-variants.{Refused, Accepted}
+use Rattle.rules.specs.Types.{Queue, Next, noNext, nextMark, nextRecord, Call, clear, addProcess, addThread, endProcess, endThread, kill, queue, action, mask, pending, look, who, take, return}
 use Rattle.rules.specs.View.{targetQueue, theThread}
 use Rattle.rules.specs.Taking.{next}
-use Rattle.rules.specs.Asking.{takenBy}
+use Rattle.rules.specs.Asking.{onAccepted, takenBy}
 use Rattle.rules.specs.Calls.{isRefused}
 use Rattle.answers.specs.Step.{Lent, lent, stepOn}
 use Rattle.history.specs.Ledger.{Ledger, Entry, isAt, ledgerView, ledgerRefusal, emptyLedger, enterAll}
@@ -39,46 +43,20 @@ ledgerAfter cs = enterAll (entriesOf cs clearedTables) emptyLedger
 
 -- refused with this number
 unfoldable pub isRefusedWith : ℕ → Answer → Bool
-isRefusedWith n (refused m) = eqb m n
-isRefusedWith n done = false
-isRefusedWith n tested = false
-isRefusedWith n acted = false
-isRefusedWith n dropped = false
-isRefusedWith n absorbed = false
-isRefusedWith n marked = false
-isRefusedWith n kept = false
-isRefusedWith n (oldAction a) = false
-isRefusedWith n (oldMask m) = false
-isRefusedWith n (pendingSet m) = false
-isRefusedWith n (looked x) = false
-isRefusedWith n (canTake t) = false
-isRefusedWith n noneCan = false
-isRefusedWith n nothing = false
-isRefusedWith n (handler h s r flags saved) = false
-isRefusedWith n (end s) = false
-isRefusedWith n (stop s) = false
-isRefusedWith n (noAction s) = false
+isRefusedWith n (Refused m) = eqb m n
+isRefusedWith n (Accepted r) = false
 
-unfoldable pub isKept : Answer → Bool
-isKept (refused n) = false
-isKept done = false
-isKept tested = false
-isKept acted = false
-isKept dropped = false
-isKept absorbed = false
-isKept marked = false
-isKept kept = true
-isKept (oldAction a) = false
-isKept (oldMask m) = false
-isKept (pendingSet m) = false
-isKept (looked n) = false
-isKept (canTake t) = false
-isKept noneCan = false
-isKept nothing = false
-isKept (handler n s r flags saved) = false
-isKept (end s) = false
-isKept (stop s) = false
-isKept (noAction s) = false
+-- the record of a send is kept
+unfoldable pub isKeptSend : Sent → Bool
+isKeptSend Tested = false
+isKeptSend Acted = false
+isKeptSend Dropped = false
+isKeptSend Absorbed = false
+isKeptSend Marked = false
+isKeptSend Kept = true
+
+abbrev pub isKept : Answer → Bool
+isKept = onAccepted isKeptSend (λ _. false)
 
 -- the call is a queued send of that signal to that queue
 unfoldable pub keepsAt : Call → Queue → ℕ → Bool

@@ -9,11 +9,13 @@ use Rattle.lists.specs.Lists.{change, keep, range, replaceFirst, sum}
 use Rattle.sigset.specs.declared.SigSet.{SigSet}
 use Rattle.sigset.specs.Set.{has}
 use Rattle.types.specs.declared.Siginfo.{Siginfo}
-use Rattle.rules.specs.Types.{Process, Thread, Queue, Call, Answer, noProcess, noThread, refused}
+use Rattle.types.specs.declared.Answer.{Answer}
+use Rattle.types.specs.declared.Answer.the-variants.{Refused, Accepted}
+use Rattle.rules.specs.Types.{Process, Thread, Queue, Call, noProcess, noThread}
 use Rattle.rules.specs.View.{View, Stage, Change, forget, newProcess, newThread, removeProcess, removeThread, setStopped, setAction, setMask, setMark, clearMark, append, dropOldest, discard, isProcess, isThread, belongsTo, sameQueue, processQueue, threadQueue, inQueue}
 use Rattle.rules.specs.Store.{withStopped, withAction, withMask, isFreeProcess, isFreeThread}
 use Rattle.rules.specs.Refusals.{refusal, rows}
-use Rattle.rules.specs.Calls.{answer, stages}
+use Rattle.rules.specs.Calls.{reply, stages}
 
 -- ---- what it holds
 
@@ -93,7 +95,7 @@ ledgerRefusal l c = refusal (rows (ledgerView l) c)
 
 -- what it says that a call answers
 unfoldable pub ledgerAnswer : Ledger → Call → Answer
-ledgerAnswer l c = cond (eqb (ledgerRefusal l c) 0) (answer (ledgerView l) c) (refused (ledgerRefusal l c))
+ledgerAnswer l c = cond (eqb (ledgerRefusal l c) 0) (Accepted (reply (ledgerView l) c)) (Refused (ledgerRefusal l c))
 
 -- ---- one line changed
 

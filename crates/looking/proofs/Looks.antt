@@ -11,20 +11,22 @@ use Rattle.lists.specs.Lists.{find}
 use Rattle.lists.proofs.Bools.{split}
 use Rattle.lists.proofs.Loops.{find-le}
 use Rattle.types.specs.declared.Siginfo.{Siginfo}
-use Rattle.rules.specs.Types.{Next, looked, look}
+use Rattle.types.specs.declared.Reply.the-variants.{Looked}
+use Rattle.rules.specs.Types.{Next, look, told}
 use Rattle.rules.specs.View.{queueOf, inQueue, liveThread, theThread}
 use Rattle.rules.specs.Store.{recordsFor, view}
 use Rattle.rules.specs.Taking.{next}
 use Rattle.rules.specs.Refusals.{esrch, isClear, noThreadLive, rows, refusalOf}
-use Rattle.rules.specs.Calls.{partOf, slotOf, lookPart, answer}
+use Rattle.rules.specs.Calls.{partOf, slotOf, lookPart, reply}
 use Rattle.queue.specs.Queue.{recordsOf}
 use Rattle.queue.proofs.Buffer.{length-recordsOf}
 use Rattle.sound.specs.Lent.{storeOf, soundTables}
-use Rattle.answers.specs.declared.Next as declared
-use Rattle.answers.specs.declared.Next.the-variants as case
-use Rattle.answers.specs.declared.Answer.the-variants as said
-use Rattle.answers.specs.Answers.{nextOf, answerOf}
+use Rattle.types.specs.declared.Next as declared
+use Rattle.types.specs.declared.Next.the-variants as case
+use Rattle.types.specs.declared.Answer.the-variants as said
+use Rattle.answers.specs.Answers.{nextOf}
 use Rattle.answers.specs.Step.{Lent, lent, decoded, refusalOn, rowsOn, stepOn}
+use Rattle.answers.proofs.Told.{told-next}
 use Rattle.answers.proofs.Endings.{longAs, rows-given, accepted-long, accepted-rules, answer-after, refused-ends}
 use Rattle.answers.proofs.Rows.{live-thread}
 use Rattle.looking.specs.Looks.{slotNumber, lookSlot}
@@ -52,7 +54,7 @@ module _ (ps ts tb pb : List ℕ) (t n : ℕ) (e : n ≡ rowsOn (esrch (noThread
   unfolding isClear rows
   look-refusal = e ∙ sym (rows-given (look t) (lent ps ts tb pb) refl)
 
-  pub look-refused : (n ≡ 0 → ⊥) → answerOf (said.Refused n) ≡ stepOn (look t) (lent ps ts tb pb) .1
+  pub look-refused : (n ≡ 0 → ⊥) → said.Refused n ≡ stepOn (look t) (lent ps ts tb pb) .1
   look-refused z = refused-ends (look t) (lent ps ts tb pb) n look-refusal z .0
 
   pub slot-refused : (n ≡ 0 → ⊥) → 0 ≡ lookSlot t (lent ps ts tb pb)
@@ -67,9 +69,9 @@ module _ (ps ts tb pb : List ℕ) (t n : ℕ) (e : n ≡ rowsOn (esrch (noThread
 
     -- what is next, as it was found
     module _ (r : declared.Next) (f : nextOf r ≡ next (view (storeOf ps ts tb pb)) (theThread (view (storeOf ps ts tb pb)) t)) where
-      pub look-answered : answerOf (said.Looked r) ≡ stepOn (look t) (lent ps ts tb pb) .1
-      unfolding answerOf answer
-      look-answered = answer-after (look t) (lent ps ts tb pb) (sym look-refusal ∙ z) (looked (nextOf r)) (ap looked f)
+      pub look-answered : said.Accepted (Looked r) ≡ stepOn (look t) (lent ps ts tb pb) .1
+      unfolding reply
+      look-answered = answer-after (look t) (lent ps ts tb pb) (sym look-refusal ∙ z) (Looked r) (ap Looked (told-next r f))
 
       slot-of-next : slotNumber (partOf (storeOf ps ts tb pb) (nextOf r)) ≡ lookSlot t (lent ps ts tb pb)
       slot-of-next =

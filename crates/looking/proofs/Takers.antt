@@ -12,14 +12,15 @@ use Rattle.lists.proofs.Bools.{split, clash, and-fst, and-snd, and-both, and-le
 use Rattle.lists.proofs.Lists.{All-at, first-none}
 use Rattle.lists.proofs.Loops.{all-at, any-here, find-at, first-find}
 use Rattle.lists.proofs.Finds.{found-inside, found-any, absent-any}
-use Rattle.rules.specs.Types.{Thread, noThread, who, canTake, noneCan}
+use Rattle.types.specs.declared.Reply.the-variants.{CanTake, NoneCan}
+use Rattle.rules.specs.Types.{Thread, noThread, who}
 use Rattle.rules.specs.View.{View, isThread, belongsTo, liveThread, theThread}
 use Rattle.rules.specs.Store.{Place, freeThread, view}
 use Rattle.rules.specs.Sound.{ifFree, isLive, zeroThread}
 use Rattle.rules.specs.Sound as sounds
 use Rattle.rules.specs.Taking.{nextSignal, canTakeSome, whoAnswer, taker}
 use Rattle.rules.specs.Refusals.{esrch, isClear, noProcessLive, rows}
-use Rattle.rules.specs.Calls.{answer}
+use Rattle.rules.specs.Calls.{reply}
 use Rattle.rules.proofs.Facts.{thread-id}
 use Rattle.rules.proofs.Marks.{free-of-nobody}
 use Rattle.rules.proofs.FoundByKey.{own-thread}
@@ -29,8 +30,7 @@ use Rattle.tables.proofs.Words.{length-threadsOf, length-heldThreads}
 use Rattle.tables.proofs.Places.{held-at}
 use Rattle.sound.specs.Lent.{storeOf, soundTables}
 use Rattle.sound.proofs.Facts.{store-sound}
-use Rattle.answers.specs.declared.Answer.the-variants as said
-use Rattle.answers.specs.Answers.{answerOf}
+use Rattle.types.specs.declared.Answer.the-variants as said
 use Rattle.answers.specs.Step.{lent, refusalOn, rowsOn, stepOn}
 use Rattle.answers.proofs.Endings.{rows-given, answer-after, refused-ends}
 use Rattle.answers.proofs.Rows.{live-process}
@@ -136,7 +136,7 @@ module _ (ps ts tb pb : List ℕ) (p n : ℕ) (e : n ≡ rowsOn (esrch (noProces
   unfolding isClear rows
   who-refusal = e ∙ sym (rows-given (who p) (lent ps ts tb pb) refl)
 
-  pub who-refused : (n ≡ 0 → ⊥) → answerOf (said.Refused n) ≡ stepOn (who p) (lent ps ts tb pb) .1
+  pub who-refused : (n ≡ 0 → ⊥) → said.Refused n ≡ stepOn (who p) (lent ps ts tb pb) .1
   who-refused z = refused-ends (who p) (lent ps ts tb pb) n who-refusal z .0
 
   module _ (z : n ≡ 0) where
@@ -144,10 +144,10 @@ module _ (ps ts tb pb : List ℕ) (p n : ℕ) (e : n ≡ rowsOn (esrch (noProces
     who-sound = live-process (lent ps ts tb pb) p n e z .0
 
     module _ (place : ℕ) (f : place ≡ find (canTakeSome (view (storeOf ps ts tb pb)) p) (heldThreads ts)) where
-      pub who-none : place ≡ threadPlaces → answerOf said.NoneCan ≡ stepOn (who p) (lent ps ts tb pb) .1
-      unfolding answerOf answer taker whoAnswer view storeOf
+      pub who-none : place ≡ threadPlaces → said.Accepted NoneCan ≡ stepOn (who p) (lent ps ts tb pb) .1
+      unfolding reply taker whoAnswer view storeOf
       who-none y =
-          answer-after (who p) (lent ps ts tb pb) (sym who-refusal ∙ z) noneCan
+          answer-after (who p) (lent ps ts tb pb) (sym who-refusal ∙ z) NoneCan
           (sym (ap (whoAnswer (view (storeOf ps ts tb pb))) (first-none (canTakeSome (view (storeOf ps ts tb pb)) p) (heldThreads ts)
           (absent-any (canTakeSome (view (storeOf ps ts tb pb)) p) noThread (heldThreads ts) threadPlaces place (length-heldThreads ts) f y))))
 
@@ -165,10 +165,10 @@ module _ (ps ts tb pb : List ℕ) (p n : ℕ) (e : n ≡ rowsOn (esrch (noProces
           pub who-fits : w ≤ largestId
           who-fits = id-small ps ts tb pb who-sound place p who-inside who-owns w i
 
-          pub who-takes : answerOf (said.CanTake w) ≡ stepOn (who p) (lent ps ts tb pb) .1
-          unfolding answerOf answer taker whoAnswer view storeOf
+          pub who-takes : said.Accepted (CanTake w) ≡ stepOn (who p) (lent ps ts tb pb) .1
+          unfolding reply taker whoAnswer view storeOf
           who-takes =
-              answer-after (who p) (lent ps ts tb pb) (sym who-refusal ∙ z) (canTake w)
-              (ap canTake (i ∙ ap (λ (k : ℕ). threadIn ts k .id) f)
+              answer-after (who p) (lent ps ts tb pb) (sym who-refusal ∙ z) (CanTake w)
+              (ap CanTake (i ∙ ap (λ (k : ℕ). threadIn ts k .id) f)
               ∙ sym (ap (whoAnswer (view (storeOf ps ts tb pb))) (first-find (canTakeSome (view (storeOf ps ts tb pb)) p) noThread (heldThreads ts)
               (found-any (canTakeSome (view (storeOf ps ts tb pb)) p) noThread (heldThreads ts) threadPlaces place (length-heldThreads ts) f y))))

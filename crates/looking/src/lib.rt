@@ -12,16 +12,16 @@ ghost use Rattle.rules.specs.Store.{view};
 ghost use Rattle.rules.specs.Taking.{canTakeSome};
 ghost use Rattle.tables.specs.Tables.{heldThreads};
 ghost use Rattle.sound.specs.Lent.{storeOf, soundTables};
-ghost use Rattle.answers.specs.Answers.{answerOf};
 ghost use Rattle.answers.specs.Step.{lent, stepOn};
 ghost use Rattle.looking.specs.Looks.{lookSlot, lookBytes};
-use answers::Answer;
-use answers::Next;
 use limits::BUFFER_RECORDS;
 use limits::RECORD_BYTES;
 use limits::THREAD_ID;
 use limits::THREAD_PLACES;
 use limits::THREAD_PROCESS;
+use types::Answer;
+use types::Next;
+use types::Reply;
 
 // ---- the look
 
@@ -70,13 +70,13 @@ pub fn look_part<'a>(ps: &[u64], ts: &[u64], tb: &'a [u8], pb: &'a [u8], thread:
 
 // What the look found, or its errno.
 pub fn look(ps: &[u64], ts: &[u64], tb: &[u8], pb: &[u8], thread: u32) -> Answer
-    ensures { λ r. ⌜ answerOf r ≡ stepOn (call.look thread) (lent (now (ps .entry)) (now (ts .entry)) (now (tb .entry)) (now (pb .entry))) .1 ⌝ }
+    ensures { λ r. ⌜ r ≡ stepOn (call.look thread) (lent (now (ps .entry)) (now (ts .entry)) (now (tb .entry)) (now (pb .entry))) .1 ⌝ }
 {
     let n = view::thread_refusal(ps, ts, tb, pb, thread);
     if n != 0 {
         return Answer::Refused(n);
     }
-    Answer::Looked(next::next_of(ps, ts, tb, pb, thread))
+    Answer::Accepted(Reply::Looked(next::next_of(ps, ts, tb, pb, thread)))
 }
 
 // ---- who can take
@@ -114,7 +114,7 @@ fn taker_place(ps: &[u64], ts: &[u64], tb: &[u8], pb: &[u8], process: u32) -> us
 
 // Names the live thread of a process in the lowest place that can take something, or says that none can.
 pub fn who(ps: &[u64], ts: &[u64], tb: &[u8], pb: &[u8], process: u32) -> Answer
-    ensures { λ r. ⌜ answerOf r ≡ stepOn (call.who process) (lent (now (ps .entry)) (now (ts .entry)) (now (tb .entry)) (now (pb .entry))) .1 ⌝ }
+    ensures { λ r. ⌜ r ≡ stepOn (call.who process) (lent (now (ps .entry)) (now (ts .entry)) (now (tb .entry)) (now (pb .entry))) .1 ⌝ }
 {
     let n = view::process_refusal(ps, ts, tb, pb, process);
     if n != 0 {
@@ -122,7 +122,8 @@ pub fn who(ps: &[u64], ts: &[u64], tb: &[u8], pb: &[u8], process: u32) -> Answer
     }
     let place = taker_place(ps, ts, tb, pb, process);
     if place == THREAD_PLACES {
-        return Answer::NoneCan;
+        return Answer::Accepted(Reply::NoneCan);
     }
-    Answer::CanTake(tables::thread_field_at(ts, place, THREAD_ID) as u32)
+    let taker = tables::thread_field_at(ts, place, THREAD_ID) as u32;
+    Answer::Accepted(Reply::CanTake(taker))
 }

@@ -10,12 +10,14 @@ use Rattle.limits.specs.Limits.{sigBlock, sigUnblock, sigSetmask, EFAULT, EINVA
 use Rattle.sigset.specs.declared.SigSet.{SigSet}
 use Rattle.sigset.specs.Set.{union, without, maskable}
 use Rattle.siginfo.specs.Bytes.{Bytes}
-use Rattle.rules.specs.Types.{Thread, mask, return, oldMask, refused}
+use Rattle.types.specs.declared.Reply.the-variants.{OldMask}
+use Rattle.types.specs.declared.Answer.the-variants.{Refused, Accepted}
+use Rattle.rules.specs.Types.{Thread, mask, return}
 use Rattle.rules.specs.View.{setMask, liveThread, theThread}
 use Rattle.rules.specs.Store.{Store, view, apply}
 use Rattle.rules.specs.Actions.{newMask, maskChanges}
 use Rattle.rules.specs.Refusals.{badWay, noThreadLive, refusal, rows, isClear, fault, table, refusalOf, einval, esrch}
-use Rattle.rules.specs.Calls.{changes, answer, stages, runStages, finish, step}
+use Rattle.rules.specs.Calls.{changes, reply, stages, runStages, finish, step}
 use Rattle.rules.specs.Fitting.{fits}
 use Rattle.rules.proofs.SendFits.{mask-fits}
 use Rattle.answers.specs.Step.{Lent, decoded, refusalOn, committed, stepOn}
@@ -79,15 +81,15 @@ module _ (l : Lent) (t way : ℕ) (set : Option SigSet) where
       its-mask : old ≡ theThread (view (decoded l)) t .mask
       its-mask = o ∙ ap (λ (x : Thread). x .mask) (thread-named (l .processes) (l .threads) (l .threadBuffer) (l .processBuffer) t)
 
-      answered : oldMask old ≡ answer (view (decoded l)) (mask t way set)
-      unfolding answer
-      answered = ap oldMask its-mask
+      answered : OldMask old ≡ reply (view (decoded l)) (mask t way set)
+      unfolding reply
+      answered = ap OldMask its-mask
 
       -- without a set
       pub mask-kept : set ≡ none → Bytes (l .threadBuffer) → Bytes (l .processBuffer)
-          → (oldMask old ≡ stepOn (mask t way set) l .1) × (l ≡ stepOn (mask t way set) l .0)
+          → (Accepted (OldMask old) ≡ stepOn (mask t way set) l .1) × (l ≡ stepOn (mask t way set) l .0)
       unfolding changes maskChanges
-      mask-kept n bt bp = same-ends (mask t way set) l e (oldMask old) answered bt bp (ap (maskChanges (view (decoded l)) t way) n)
+      mask-kept n bt bp = same-ends (mask t way set) l e (OldMask old) answered bt bp (ap (maskChanges (view (decoded l)) t way) n)
 
       -- with a set, the new mask as code makes it
       module _ (given m : SigSet) (n : set ≡ some given) (h : m ≡ newMask old way given) where
@@ -101,16 +103,16 @@ module _ (l : Lent) (t way : ℕ) (set : Option SigSet) where
         mask-ready = starts (maskChanges (view (decoded l)) t way set) (decoded l) (mask-fits (decoded l) t way set mask-live) (setMask t m) [] these
 
         pub mask-stored : (r : Lent) → AsLong l r → Bytes (r .threadBuffer) → Bytes (r .processBuffer) → decoded r ≡ apply (setMask t m) (decoded l)
-            → (oldMask old ≡ stepOn (mask t way set) l .1) × (r ≡ stepOn (mask t way set) l .0)
+            → (Accepted (OldMask old) ≡ stepOn (mask t way set) l .1) × (r ≡ stepOn (mask t way set) l .0)
         unfolding changes
         mask-stored r k bt bp d =
-            accepted-ends (mask t way set) l e (oldMask old) answered r k bt bp
+            accepted-ends (mask t way set) l e (OldMask old) answered r k bt bp
             (made (maskChanges (view (decoded l)) t way set) (decoded l) (setMask t m ∷ []) these (decoded r) (one-made (setMask t m) (decoded l) (decoded r) d))
 
 -- ---- "Return from a handler is way 2 with the saved mask."
 
 finish-is : (n : ℕ) (st : Store) (t : ℕ) (m : SigSet) → finish n (mask t sigSetmask (some m)) st ≡ finish n (return t m) st
-unfolding finish stages runStages changes answer
+unfolding finish stages runStages changes reply
 finish-is zero st t m = refl
 finish-is (suc n) st t m = refl
 
@@ -121,5 +123,5 @@ refusal-is st t m = refl
 pub return-is : (l : Lent) (t : ℕ) (m : SigSet) → stepOn (mask t sigSetmask (some m)) l ≡ stepOn (return t m) l
 unfolding stepOn step
 return-is l t m =
-    ap (λ r. cond (longAs l) (committed l r) (l, refused EFAULT))
+    ap (λ r. cond (longAs l) (committed l r) (l, Refused EFAULT))
     (ap (λ (n : ℕ). finish n (mask t sigSetmask (some m)) (decoded l)) (refusal-is (decoded l) t m) ∙ finish-is (refusalOf (decoded l) (return t m)) (decoded l) t m)

@@ -6,12 +6,14 @@ use mathlib.Core.List.{List, [], _∷_}
 use Rattle.sigset.specs.declared.SigSet.{SigSet}
 use Rattle.sigset.specs.Set.{has, setOf, union, intersect}
 use Rattle.sigset.proofs.Laws.{set-cong}
-use Rattle.rules.specs.Types.{Thread, pending, pendingSet}
+use Rattle.types.specs.declared.Reply.the-variants.{PendingSet}
+use Rattle.types.specs.declared.Answer.the-variants.{Accepted}
+use Rattle.rules.specs.Types.{Thread, pending}
 use Rattle.rules.specs.View.{targetQueue, liveThread, theThread, pendingIn, pendingFor}
 use Rattle.rules.specs.Store.{view}
 use Rattle.rules.specs.Actions.{blockedPending}
 use Rattle.rules.specs.Refusals.{noThreadLive, rows, isClear, esrch}
-use Rattle.rules.specs.Calls.{answer}
+use Rattle.rules.specs.Calls.{reply}
 use Rattle.sound.specs.Lent.{storeOf}
 use Rattle.answers.specs.Step.{Lent, decoded, refusalOn, rowsOn, stepOn}
 use Rattle.answers.proofs.Endings.{rows-given, answer-after}
@@ -41,6 +43,6 @@ module _ (l : Lent) (t n : ℕ) (h : n ≡ rowsOn (esrch (noThreadLive (view (de
   unfolding rows isClear
   pending-refusal = h ∙ sym (rows-given (pending t) l refl)
 
-  pub pending-answered : n ≡ 0 → (m : SigSet) → m ≡ blockedPending (view (decoded l)) (theThread (view (decoded l)) t) → pendingSet m ≡ stepOn (pending t) l .1
-  unfolding answer
-  pending-answered z m b = answer-after (pending t) l (sym pending-refusal ∙ z) (pendingSet m) (ap pendingSet b)
+  pub pending-answered : n ≡ 0 → (m : SigSet) → m ≡ blockedPending (view (decoded l)) (theThread (view (decoded l)) t) → Accepted (PendingSet m) ≡ stepOn (pending t) l .1
+  unfolding reply
+  pending-answered z m b = answer-after (pending t) l (sym pending-refusal ∙ z) (PendingSet m) (ap PendingSet b)

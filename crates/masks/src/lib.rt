@@ -7,10 +7,8 @@ ghost use Rattle.rules.specs.Store.{view};
 ghost use Rattle.rules.specs.Actions.{newMask, blockedPending};
 ghost use Rattle.rules.specs.Refusals.{badWay};
 ghost use Rattle.sound.specs.Lent.{storeOf, soundTables};
-ghost use Rattle.answers.specs.Answers.{answerOf};
 ghost use Rattle.answers.specs.Step.{lent, refusalOn, stepOn};
 ghost use Rattle.masks.specs.Given.{newSet};
-use answers::Answer;
 use limits::EFAULT;
 use limits::EINVAL;
 use limits::ESRCH;
@@ -18,6 +16,8 @@ use limits::SIG_BLOCK;
 use limits::SIG_SETMASK;
 use limits::SIG_UNBLOCK;
 use sigset::SigSet;
+use types::Answer;
+use types::Reply;
 
 // A set to change a mask by, or none: then the call enquires.
 pub enum GivenSet {
@@ -82,7 +82,7 @@ pub fn sigmask(
     way: u32,
     set: GivenSet,
 ) -> Answer
-    ensures answer { λ r. ⌜ answerOf r ≡ stepOn (call.mask thread way (newSet set)) (lent (now (ps .entry)) (now (ts .entry)) (now (tb .entry)) (now (pb .entry))) .1 ⌝ }
+    ensures answer { λ r. ⌜ r ≡ stepOn (call.mask thread way (newSet set)) (lent (now (ps .entry)) (now (ts .entry)) (now (tb .entry)) (now (pb .entry))) .1 ⌝ }
     ensures tables { λ r. ⌜ lent (now (ps .exit)) (now (ts .exit)) (now (tb .exit)) (now (pb .exit)) ≡ stepOn (call.mask thread way (newSet set)) (lent (now (ps .entry)) (now (ts .entry)) (now (tb .entry)) (now (pb .entry))) .0 ⌝ }
 {
     let n = mask_refusal(ps, ts, tb, pb, thread, way, set);
@@ -91,10 +91,10 @@ pub fn sigmask(
     }
     let old = view::mask_of(ts, thread);
     match set {
-        GivenSet::NoSet => Answer::OldMask(old),
+        GivenSet::NoSet => Answer::Accepted(Reply::OldMask(old)),
         GivenSet::Set(s) => {
             effects::set_mask(ps, ts, tb, pb, thread, mask_after(old, way, s));
-            Answer::OldMask(old)
+            Answer::Accepted(Reply::OldMask(old))
         }
     }
 }
@@ -108,7 +108,7 @@ pub fn sigreturn(
     thread: u32,
     saved: SigSet,
 ) -> Answer
-    ensures answer { λ r. ⌜ answerOf r ≡ stepOn (call.return thread saved) (lent (now (ps .entry)) (now (ts .entry)) (now (tb .entry)) (now (pb .entry))) .1 ⌝ }
+    ensures answer { λ r. ⌜ r ≡ stepOn (call.return thread saved) (lent (now (ps .entry)) (now (ts .entry)) (now (tb .entry)) (now (pb .entry))) .1 ⌝ }
     ensures tables { λ r. ⌜ lent (now (ps .exit)) (now (ts .exit)) (now (tb .exit)) (now (pb .exit)) ≡ stepOn (call.return thread saved) (lent (now (ps .entry)) (now (ts .entry)) (now (tb .entry)) (now (pb .entry))) .0 ⌝ }
 {
     sigmask(ps, ts, tb, pb, thread, SIG_SETMASK, GivenSet::Set(saved))
@@ -129,11 +129,11 @@ fn blocked(ps: &[u64], ts: &[u64], tb: &[u8], pb: &[u8], thread: u32) -> SigSet
 }
 
 pub fn sigpending(ps: &[u64], ts: &[u64], tb: &[u8], pb: &[u8], thread: u32) -> Answer
-    ensures { λ r. ⌜ answerOf r ≡ stepOn (call.pending thread) (lent (now (ps .entry)) (now (ts .entry)) (now (tb .entry)) (now (pb .entry))) .1 ⌝ }
+    ensures { λ r. ⌜ r ≡ stepOn (call.pending thread) (lent (now (ps .entry)) (now (ts .entry)) (now (tb .entry)) (now (pb .entry))) .1 ⌝ }
 {
     let n = view::thread_refusal(ps, ts, tb, pb, thread);
     if n != 0 {
         return Answer::Refused(n);
     }
-    Answer::PendingSet(blocked(ps, ts, tb, pb, thread))
+    Answer::Accepted(Reply::PendingSet(blocked(ps, ts, tb, pb, thread)))
 }

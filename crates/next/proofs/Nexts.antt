@@ -29,8 +29,8 @@ use Rattle.rules.proofs.Marks.{queue-same, thread-named}
 use Rattle.queue.specs.Queue.{slotsOf, recordsOf}
 use Rattle.queue.proofs.Buffer.{record-read}
 use Rattle.sound.specs.Lent.{storeOf}
-use Rattle.answers.specs.declared.Next as declared
-use Rattle.answers.specs.declared.Next.the-variants as case
+use Rattle.types.specs.declared.Next as declared
+use Rattle.types.specs.declared.Next.the-variants as case
 use Rattle.answers.specs.Answers.{nextOf}
 use Rattle.view.specs.Named.{threadNamed}
 use Rattle.next.specs.Nexts.{isNextIn}

@@ -7,7 +7,7 @@ use Rattle.types.specs.declared.Siginfo.{Siginfo}
 use Rattle.rules.specs.Types.{Queue}
 use Rattle.rules.specs.View.{View, inQueue}
 use Rattle.rules.specs.Taking.{nextIn}
-use Rattle.answers.specs.declared.Next.{Next}
+use Rattle.types.specs.declared.Next.{Next}
 use Rattle.answers.specs.Answers.{nextOf}
 
 -- the oldest of these records of the queue and the signal, or else the mark; whatever else is in view

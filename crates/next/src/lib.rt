@@ -11,8 +11,8 @@ ghost use Rattle.queue.specs.Queue.{recordsOf};
 ghost use Rattle.sound.specs.Lent.{storeOf, soundTables};
 ghost use Rattle.answers.specs.Answers.{nextOf};
 ghost use Rattle.next.specs.Nexts.{isNextIn};
-use answers::Next;
 use sigset::SigSet;
+use types::Next;
 
 // The lowest signal that a thread can take, or 0.
 pub fn next_signal(ps: &[u64], ts: &[u64], tb: &[u8], pb: &[u8], thread: u32) -> u32

@@ -10,7 +10,8 @@ use borrow.Author.Tests.{ne-eqb, eqb-false}
 use Rattle.limits.specs.Limits.{EFAULT, EINVAL, threadPlaces, threadTable, processTable, bufferBytes, callClear}
 use Rattle.lists.proofs.Rows.{nil-of}
 use Rattle.lists.proofs.Bools.{split, and-left, and-right, cond-true, cond-false}
-use Rattle.rules.specs.Types.{Answer, refused}
+use Rattle.types.specs.declared.Answer.{Answer}
+use Rattle.types.specs.declared.Answer.the-variants.{Refused}
 use Rattle.sound.specs.Lent.{storeOf, lengthsAre, soundTables}
 use Rattle.answers.specs.Step.{Lent, lent, decoded, committed, stepOn}
 use Rattle.rules.specs.Calls.{step, lookPart}
@@ -54,16 +55,16 @@ module _ (ps tb pb : List ℕ) (ts : List Thread) (o : T (not (eqb (length ts) t
 
   module _ (out : List ℕ) (number a b c d e f x y z : ℕ) where
     abbrev refusal : Lent × Answer
-    refusal = (before, refused EFAULT)
+    refusal = (before, Refused EFAULT)
 
     refused-here : served ps tb pb out ts number a b c d e f x y z ≡ refusal
     unfolding served serveOn stepOn
     refused-here =
         split (accepted number (length out))
-        (λ t. cond-true (stepOn (numbered number (arguments a b c d e f x y z)) before) (before, refused (cond (usable number before) EINVAL EFAULT)) t
+        (λ t. cond-true (stepOn (numbered number (arguments a b c d e f x y z)) before) (before, Refused (cond (usable number before) EINVAL EFAULT)) t
         ∙ cond-false (committed before (step (numbered number (arguments a b c d e f x y z)) (decoded before))) refusal short)
-        (λ t. cond-false (stepOn (numbered number (arguments a b c d e f x y z)) before) (before, refused (cond (usable number before) EINVAL EFAULT)) t
-        ∙ ap (λ (k : Bool). (before, refused (cond k EINVAL EFAULT))) (unusable number))
+        (λ t. cond-false (stepOn (numbered number (arguments a b c d e f x y z)) before) (before, Refused (cond (usable number before) EINVAL EFAULT)) t
+        ∙ ap (λ (k : Bool). (before, Refused (cond k EINVAL EFAULT))) (unusable number))
 
     wrong-length-here : (EFAULT ≡ errnoAt ps tb pb out ts number a b c d e f x y z) × (ps ≡ processesAt ps tb pb out ts number a b c d e f x y z) × (tb ≡ threadBufferAt ps tb pb out ts number a b c d e f x y z) × (pb ≡ processBufferAt ps tb pb out ts number a b c d e f x y z) × (out ≡ answerAt ps tb pb out ts number a b c d e f x y z) × (ts ≡ threadsAt ps tb pb out ts number a b c d e f x y z)
     unfolding errnoAt processesAt threadBufferAt processBufferAt answerAt threadsAt errnoOf written

@@ -7,7 +7,8 @@ use lib.Dec.{T, eqb, eqb→eq}
 use lib.ListN.{length}
 use Rattle.limits.specs.Limits.{EFAULT, EINVAL, callSigmask, callSigreturn, sigSetmask}
 use Rattle.sigset.specs.Set.{bits}
-use Rattle.rules.specs.Types.{Answer, refused}
+use Rattle.types.specs.declared.Answer.{Answer}
+use Rattle.types.specs.declared.Answer.the-variants.{Refused}
 use Rattle.answers.specs.Step.{Lent, lent}
 use Rattle.masks.proofs.Masks.{return-is}
 use Rattle.boundary.specs.Boundary.{whereGiven, callsOf, numbered, isCall, errnoOf, written, usable, accepted, serveOn}
@@ -37,7 +38,7 @@ module _ (ps tb pb out : List ℕ) (ts : List Thread) (number a b c d e f x y z 
   return-served : number ≡ callSigreturn → served ps tb pb out ts callSigmask a sigSetmask 1 0 0 0 x 0 0 ≡ served ps tb pb out ts number a b c d e f x y z
   unfolding served serveOn numbered callsOf accepted isCall whereGiven usable
   return-served h =
-      ap (λ (s : Lent × Answer). cond (accepted callSigreturn (length out)) s (lent ps (wordsOf ts) tb pb, refused (cond (usable callSigreturn (lent ps (wordsOf ts) tb pb)) EINVAL EFAULT)))
+      ap (λ (s : Lent × Answer). cond (accepted callSigreturn (length out)) s (lent ps (wordsOf ts) tb pb, Refused (cond (usable callSigreturn (lent ps (wordsOf ts) tb pb)) EINVAL EFAULT)))
       (return-is (lent ps (wordsOf ts) tb pb) a (bits x))
       ∙ ap (λ (n : ℕ). served ps tb pb out ts n a b c d e f x y z) (sym h)
 

@@ -8,7 +8,9 @@ use Rattle.limits.specs.Limits.{EFAULT, EINVAL, threadPlaces, callSigmask}
 use Rattle.lists.proofs.Bools.{split, cond-true, cond-false}
 use Rattle.sigset.specs.declared.SigSet.{SigSet}
 use Rattle.sigset.specs.Set.{bits}
-use Rattle.rules.specs.Types.{Answer, refused, mask}
+use Rattle.types.specs.declared.Answer.{Answer}
+use Rattle.types.specs.declared.Answer.the-variants.{Refused}
+use Rattle.rules.specs.Types.{mask}
 use Rattle.answers.specs.Step.{Lent, lent, stepOn}
 use Rattle.boundary.specs.Boundary.{arguments, whereGiven, callsOf, numbered, errnoOf, written, usable, accepted, serveOn}
 use Rattle.threads.specs.declared.Thread.{Thread}
@@ -73,7 +75,7 @@ module _ (ps tb pb out : List ℕ) (ts : List Thread) (thread way given set : �
   answered = stepOn (mask thread way (whereGiven given (bits set))) before
 
   abbrev turned : Lent × Answer
-  turned = (before, refused (cond (usable callSigmask before) EINVAL EFAULT))
+  turned = (before, Refused (cond (usable callSigmask before) EINVAL EFAULT))
 
   accepted-served : accepted callSigmask (length out) ≡ true → after ≡ answered
   unfolding served serveOn numbered callsOf

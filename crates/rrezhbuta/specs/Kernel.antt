@@ -4,7 +4,7 @@ use mathlib.Core.List.{List}
 use lib.ListN.{length}
 use Rattle.lists.specs.Lists.{find}
 use Rattle.sigset.specs.declared.SigSet.{SigSet}
-use Rattle.rules.specs.Types.{Answer}
+use Rattle.types.specs.declared.Answer.{Answer}
 use Rattle.tables.specs.Tables.{threadAt, heldThreads, hasThreadId}
 use Rattle.answers.specs.Step.{Lent, lent}
 use Rattle.looking.specs.Looks.{lookBytes, lookSlot}

@@ -19,7 +19,7 @@ use Rattle.rules.specs.Types.{Thread, Queue, Next, noNext, nextRecord}
 use Rattle.rules.specs.Signals.{Outcome, ignores, stops, continues, ends, outcome}
 use Rattle.rules.specs.View.{View, threadQueue, processQueue, theProcess, threadAction, pendingIn, pendingFor}
 use Rattle.rules.specs.Taking.{isStopped, canTakeSignal, nextSignal, nextQueue, nextIn, next, outcomeAnswer, delivered, takeAnswer, markInfo}
-use Rattle.rules.specs.Asking.{runs, isOffered, hasOffer, MayTake, yieldsOne}
+use Rattle.rules.specs.Asking.{runs, isOffered, hasOffer, MayTake, isTaken}
 
 module _ (v : View) (t : Thread) where
   -- ---- which signals can be taken
@@ -70,25 +70,25 @@ module _ (v : View) (t : Thread) where
 
   -- ---- what a take answers
 
-  outcome-yields : (o : Outcome) (s : ℕ) → yieldsOne (outcomeAnswer o s) ≡ true
-  unfolding outcomeAnswer yieldsOne
+  outcome-yields : (o : Outcome) (s : ℕ) → isTaken (outcomeAnswer o s) ≡ true
+  unfolding outcomeAnswer isTaken
   outcome-yields ignores s = refl
   outcome-yields stops s = refl
   outcome-yields continues s = refl
   outcome-yields ends s = refl
 
-  pub delivered-yields : (a : Action) (r : Siginfo) → yieldsOne (delivered t a r) ≡ true
-  unfolding delivered yieldsOne
+  pub delivered-yields : (a : Action) (r : Siginfo) → isTaken (delivered t a r) ≡ true
+  unfolding delivered isTaken
   delivered-yields a r = split (eqb (a .handler) sigDfl) (λ e. rw e (outcome-yields (outcome (r .signal)) (r .signal))) (λ e. rw e)
 
-  next-yields : (o : Option Siginfo) (q : Queue) (s : ℕ) → yieldsOne (takeAnswer v t (nextIn v q s o)) ≡ true
+  next-yields : (o : Option Siginfo) (q : Queue) (s : ℕ) → isTaken (takeAnswer v t (nextIn v q s o)) ≡ true
   unfolding takeAnswer nextIn
   next-yields none q s = delivered-yields (threadAction v t s) (markInfo q s)
   next-yields (some r) q s = delivered-yields (threadAction v t s) r
 
   -- "Asking a live thread for a signal yields one exactly when .."
-  pub asking-yields : yieldsOne (takeAnswer v t (next v t)) ≡ hasOffer v t
-  unfolding next takeAnswer yieldsOne
+  pub asking-yields : isTaken (takeAnswer v t (next v t)) ≡ hasOffer v t
+  unfolding next takeAnswer isTaken
   asking-yields =
       split (eqb (nextSignal v t) 0)
       (λ e. rw e (sym (not-true (hasOffer v t) (sym offer-next ∙ e))))

@@ -1,6 +1,5 @@
 pub mod Clauses
 pub mod RefusalTable
-pub mod Answers
 pub mod Refused
 pub mod Cleared
 pub mod Steps

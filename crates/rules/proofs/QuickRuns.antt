@@ -11,14 +11,16 @@ use Rattle.lists.proofs.Bools.{split, and-fst, and-snd, and-right, cond-false}
 use Rattle.lists.proofs.Lists.{any-keep, any-same}
 use Rattle.sigset.specs.Set.{bits, has}
 use Rattle.sigset.proofs.Laws.{has-empty}
-use Rattle.rules.specs.Types.{Process, Thread, Queue, Call, look, Answer, refused}
+use Rattle.types.specs.declared.Answer.{Answer}
+use Rattle.types.specs.declared.Answer.the-variants.{Refused, Accepted}
+use Rattle.rules.specs.Types.{Process, Thread, Queue, Call, look}
 use Rattle.rules.specs.View.{View, inQueue, sameQueue, threadQueue, processQueue, theThread}
 use Rattle.rules.specs.Signals.{isSignal}
 use Rattle.rules.specs.Store.{Place, Store, held, markIn, recordsFor, queuedIn, view, applyAll}
 use Rattle.rules.specs.Sound.{sound}
 use Rattle.rules.specs.Taking.{next}
 use Rattle.rules.specs.Refusals.{refusal, rows, table, refusalOf}
-use Rattle.rules.specs.Calls.{changes, answer, stages, runStages, finish, step, run, Part, emptyPart, partOf, lookPart}
+use Rattle.rules.specs.Calls.{changes, reply, stages, runStages, finish, step, run, Part, emptyPart, partOf, lookPart}
 use Rattle.rules.specs.Machine.{machine}
 use Rattle.rules.proofs.StaysSound.{step-sound}
 use Rattle.rules.proofs.RefusalTable.{no-fault}
@@ -84,8 +86,8 @@ same-view st =
 -- ---- a call by the rows below 14
 
 unfoldable pub quickFinish : View → (errno : ℕ) → Call → Store → Store × Answer
-quickFinish v zero c st = (applyAll (changes v c) st, answer v c)
-quickFinish v (suc n) c st = (st, refused (suc n))
+quickFinish v zero c st = (applyAll (changes v c) st, Accepted (reply v c))
+quickFinish v (suc n) c st = (st, Refused (suc n))
 
 unfoldable pub quickStep : Call → Store → Store × Answer
 quickStep c st = let v : View = quickView st in quickFinish v (refusal (rows v c)) c st

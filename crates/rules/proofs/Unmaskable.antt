@@ -19,22 +19,27 @@ use Rattle.lists.proofs.Bools.{split, clash, and-fst, and-snd, and-both, and-le
 use Rattle.lists.proofs.Lists.{all-map, all-imp, all-append, all-replicate, all-replaceFirst, all-change-keeps, all-getD, all-first}
 use Rattle.lists.proofs.Members.{all-mapped}
 use Rattle.lists.proofs.Loops.{all-set}
-use Rattle.rules.specs.Types.{Process, Thread, Queue, noProcess, noThread, Call, clear, addProcess, addThread, endProcess, endThread, kill, queue, action, mask, pending, look, who, take, return, Next, noNext, nextMark, nextRecord, Answer, refused, done, tested, acted, dropped, absorbed, marked, kept, oldAction, oldMask, pendingSet, looked, canTake, noneCan, nothing, handler, end, stop, noAction}
+use Rattle.types.specs.declared.Taken.{Taken}
+use Rattle.types.specs.declared.Taken.the-variants as taken
+use Rattle.types.specs.declared.Reply.{Reply}
+use Rattle.types.specs.declared.Reply.the-variants as reply
+use Rattle.types.specs.declared.Answer.{Answer}
+use Rattle.types.specs.declared.Answer.the-variants.{Refused, Accepted}
+use Rattle.rules.specs.Types.{Process, Thread, Queue, noProcess, noThread, Call, clear, addProcess, addThread, endProcess, endThread, kill, queue, action, mask, pending, look, who, take, return, Next, noNext, nextMark, nextRecord}
 use Rattle.rules.specs.Signals.{Outcome, ignores, stops, continues, ends, outcome, ignored, stopSignal}
 use Rattle.rules.specs.View.{View, Change, forget, newProcess, newThread, removeProcess, removeThread, setStopped, setAction, setMask, setMark, clearMark, append, dropOldest, discard, isProcess, isThread, sameQueue, processQueue, threadQueue, actionOf, theProcess, theThread, threadAction, pendingFor}
 use Rattle.rules.specs.Store.{Place, Store, held, freeProcess, freeThread, cleared, view, apply, applyAll, onMarks}
 use Rattle.rules.specs.Sound.{unmasked, actionUnmasked, processUnmasked, threadUnmasked, nothingUnmaskable}
 use Rattle.rules.specs.Sending.{Generation, testing, killing, stopping, dropping, absorbing, marking, keeping, generation, infoOf, jobControl, sendChanges}
 use Rattle.rules.specs.Actions.{stored, storeChanges, actionChanges, newMask, maskChanges, blockedPending}
-use Rattle.rules.specs.Taking.{handlerMask, resets, reset, resetChanges, outcomeChanges, deliver, takeChanges, next}
+use Rattle.rules.specs.Taking.{whoAnswer, taker, handlerMask, resets, reset, resetChanges, outcomeChanges, outcomeAnswer, deliver, delivered, takeChanges, takeAnswer, next}
 use Rattle.rules.specs.Adding.{addedProcess, addProcessChanges, addThreadChanges, otherThread, endThreadChanges}
 use Rattle.rules.specs.Refusals.{refusalOf, isClear}
-use Rattle.rules.specs.Calls.{send, changes, stages, runStages, finish, step, isRefused}
+use Rattle.rules.specs.Calls.{send, changes, reply, stages, runStages, finish, step, isRefused}
 use Rattle.rules.specs.Computing.{computing}
 use Rattle.rules.proofs.Clauses.{clauses}
 use Rattle.rules.proofs.RefusalTable.{accepted-sound, is-clear}
 use Rattle.rules.proofs.Steps.{step-keeps}
-use Rattle.rules.proofs.Answers.{PassesWords, PassesSets, answer-passes}
 
 -- ---- sets without 9 and 19
 
@@ -328,45 +333,73 @@ left-clean c st a = go (refusalOf st c) refl a
     go (suc n) e a = unfold finish isRefused in clash refl a
 
 -- the sets of an answer have neither
+unfoldable pub cleanTaken : Taken → Bool
+cleanTaken taken.Nothing = true
+cleanTaken (taken.Handler n s r flags saved) = unmasked saved
+cleanTaken (taken.End s) = true
+cleanTaken (taken.Stop s) = true
+cleanTaken (taken.NoAction s) = true
+
+unfoldable pub cleanReply : Reply → Bool
+cleanReply reply.Done = true
+cleanReply (reply.Sent x) = true
+cleanReply (reply.OldAction a) = actionUnmasked a
+cleanReply (reply.OldMask m) = unmasked m
+cleanReply (reply.PendingSet m) = unmasked m
+cleanReply (reply.Looked n) = true
+cleanReply (reply.CanTake t) = true
+cleanReply reply.NoneCan = true
+cleanReply (reply.Taken x) = cleanTaken x
+
 unfoldable pub cleanAnswer : Answer → Bool
-cleanAnswer (refused n) = true
-cleanAnswer done = true
-cleanAnswer tested = true
-cleanAnswer acted = true
-cleanAnswer dropped = true
-cleanAnswer absorbed = true
-cleanAnswer marked = true
-cleanAnswer kept = true
-cleanAnswer (oldAction a) = actionUnmasked a
-cleanAnswer (oldMask m) = unmasked m
-cleanAnswer (pendingSet m) = unmasked m
-cleanAnswer (looked n) = true
-cleanAnswer (canTake t) = true
-cleanAnswer noneCan = true
-cleanAnswer nothing = true
-cleanAnswer (handler n s r flags saved) = unmasked saved
-cleanAnswer (end s) = true
-cleanAnswer (stop s) = true
-cleanAnswer (noAction s) = true
+cleanAnswer (Refused n) = true
+cleanAnswer (Accepted r) = cleanReply r
 
 pending-answer : (v : View) (t : Thread) → unmasked (t .mask) ≡ true → unmasked (blockedPending v t) ≡ true
 unfolding blockedPending
 pending-answer v t e =
     unmasked-if _ (λ s k u. has-set (λ n. has (t .mask) n && pendingFor v t n) s k ∙ and-left (pendingFor v t s) (unmasked-has (t .mask) e s u))
 
-clean-words : PassesWords cleanAnswer
-unfolding cleanAnswer all
-clean-words = record { plain = refl; looks = λ n. refl; takers = λ t. refl; ended = λ s. refl; stopped = λ s. refl; idle = λ s. refl }
+who-clean : (v : View) (o : Option Thread) → cleanReply (whoAnswer v o) ≡ true
+unfolding whoAnswer cleanReply
+who-clean v none = refl
+who-clean v (some t) = refl
 
-clean-sets : (v : View) → CleanView v → PassesSets cleanAnswer v
-unfolding cleanAnswer
-clean-sets v h =
-    record {
-      actions = clean-action v h;
-      masks = clean-mask v h;
-      pendings = λ t. pending-answer v (theThread v t) (clean-mask v h t);
-      handlers = λ t n s r x. clean-mask v h t;
-    }
+outcome-answer : (o : Outcome) (s : ℕ) → cleanTaken (outcomeAnswer o s) ≡ true
+unfolding outcomeAnswer cleanTaken
+outcome-answer ignores s = refl
+outcome-answer stops s = refl
+outcome-answer continues s = refl
+outcome-answer ends s = refl
+
+module _ (t : Thread) (e : unmasked (t .mask) ≡ true) where
+  delivered-answer : (a : Action) (r : Siginfo) → cleanTaken (delivered t a r) ≡ true
+  unfolding delivered cleanTaken
+  delivered-answer a r = split (eqb (a .handler) sigDfl) (λ k. rw k (outcome-answer (outcome (r .signal)) (r .signal))) (λ k. rw k e)
+
+  take-answer : (v : View) (n : Next) → cleanTaken (takeAnswer v t n) ≡ true
+  unfolding takeAnswer cleanTaken
+  take-answer v noNext = refl
+  take-answer v (nextMark q s) = delivered-answer _ _
+  take-answer v (nextRecord q s r) = delivered-answer _ _
+
+-- clearing answers no set, so nothing is asked of the view that it is made on
+reply-clean : (v : View) (c : Call) → (isClear c ≡ false → CleanView v) → cleanReply (reply v c) ≡ true
+unfolding reply taker isClear cleanReply
+reply-clean v clear h = refl
+reply-clean v (addProcess id real effective saved session thread m) h = refl
+reply-clean v (addThread creator id) h = refl
+reply-clean v (endProcess id) h = refl
+reply-clean v (endThread id) h = refl
+reply-clean v (kill by to t s) h = refl
+reply-clean v (queue by to t s value) h = refl
+reply-clean v (action p s new) h = clean-action v (h refl) p s
+reply-clean v (mask t way set) h = clean-mask v (h refl) t
+reply-clean v (pending t) h = pending-answer v (theThread v t) (clean-mask v (h refl) t)
+reply-clean v (look t) h = refl
+reply-clean v (who p) h = who-clean v _
+reply-clean v (take t) h = take-answer (theThread v t) (clean-mask v (h refl) t) v _
+reply-clean v (return t saved) h = clean-mask v (h refl) t
 
 -- whatever the store is, no call answers 9 or 19 in a set: a store that has one is not sound
 pub answers-clean : (c : Call) (st : Store) → cleanAnswer (step c st .1) ≡ true
@@ -374,5 +407,5 @@ unfolding step
 answers-clean c st = go (refusalOf st c) refl
   where
     go : (n : ℕ) → refusalOf st c ≡ n → cleanAnswer (finish n c st .1) ≡ true
-    go zero e = unfold finish in answer-passes cleanAnswer clean-words (view st) c (λ k. clean-sets (view st) (clean-view st (clauses st (accepted-sound st c k e) .unmaskedSets)))
+    go zero e = unfold finish cleanAnswer in reply-clean (view st) c (λ k. clean-view st (clauses st (accepted-sound st c k e) .unmaskedSets))
     go (suc n) e = unfold finish cleanAnswer in refl

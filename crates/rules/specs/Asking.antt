@@ -6,7 +6,14 @@ use lib.Dec.{eqb}
 use Rattle.limits.specs.Limits.{signals}
 use Rattle.lists.specs.Lists.{any, range}
 use Rattle.sigset.specs.Set.{has}
-use Rattle.rules.specs.Types.{Thread, Queue, Call, clear, addProcess, addThread, endProcess, endThread, kill, queue, action, mask, pending, look, who, take, return, Next, noNext, Answer, refused, done, tested, acted, dropped, absorbed, marked, kept, oldAction, oldMask, pendingSet, looked, canTake, noneCan, nothing, handler, end, stop, noAction}
+use Rattle.types.specs.declared.Sent.{Sent}
+use Rattle.types.specs.declared.Taken.{Taken}
+use Rattle.types.specs.declared.Taken.the-variants as taken
+use Rattle.types.specs.declared.Reply.{Reply}
+use Rattle.types.specs.declared.Reply.the-variants as reply
+use Rattle.types.specs.declared.Answer.{Answer}
+use Rattle.types.specs.declared.Answer.the-variants.{Refused, Accepted}
+use Rattle.rules.specs.Types.{Thread, Queue, Call, clear, addProcess, addThread, endProcess, endThread, kill, queue, action, mask, pending, look, who, take, return, Next, noNext}
 use Rattle.rules.specs.View.{View, theProcess, theThread, pendingIn, pendingFor}
 use Rattle.rules.specs.Taking.{next}
 
@@ -34,27 +41,36 @@ module _ (v : View) (t : Thread) where
     pub running : runs ≡ true
     pub pending : pendingIn v q s ≡ true
 
+-- ---- tests of answers
+
+-- of a send's answer one test, of a take's another; no other reply passes
+unfoldable pub onReply : (Sent → Bool) → (Taken → Bool) → Reply → Bool
+onReply f g reply.Done = false
+onReply f g (reply.Sent x) = f x
+onReply f g (reply.OldAction a) = false
+onReply f g (reply.OldMask m) = false
+onReply f g (reply.PendingSet m) = false
+onReply f g (reply.Looked n) = false
+onReply f g (reply.CanTake t) = false
+onReply f g reply.NoneCan = false
+onReply f g (reply.Taken x) = g x
+
+-- no refusal passes
+unfoldable pub onAccepted : (Sent → Bool) → (Taken → Bool) → Answer → Bool
+onAccepted f g (Refused n) = false
+onAccepted f g (Accepted r) = onReply f g r
+
+-- a signal is taken
+unfoldable pub isTaken : Taken → Bool
+isTaken taken.Nothing = false
+isTaken (taken.Handler n s r flags saved) = true
+isTaken (taken.End s) = true
+isTaken (taken.Stop s) = true
+isTaken (taken.NoAction s) = true
+
 -- a take "yields one": it answers a signal
-unfoldable pub yieldsOne : Answer → Bool
-yieldsOne (refused n) = false
-yieldsOne done = false
-yieldsOne tested = false
-yieldsOne acted = false
-yieldsOne dropped = false
-yieldsOne absorbed = false
-yieldsOne marked = false
-yieldsOne kept = false
-yieldsOne (oldAction a) = false
-yieldsOne (oldMask m) = false
-yieldsOne (pendingSet m) = false
-yieldsOne (looked n) = false
-yieldsOne (canTake t) = false
-yieldsOne noneCan = false
-yieldsOne nothing = false
-yieldsOne (handler n s r flags saved) = true
-yieldsOne (end s) = true
-yieldsOne (stop s) = true
-yieldsOne (noAction s) = true
+abbrev pub yieldsOne : Answer → Bool
+yieldsOne = onAccepted (λ _. false) isTaken
 
 -- what is next for the thread of a take; for another call nothing
 unfoldable pub takenBy : View → Call → Next

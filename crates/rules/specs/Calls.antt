@@ -1,4 +1,4 @@
--- Every call: its refusal, its answer, its changes; and a list of calls from a store on.
+-- Every call: its refusal, its reply, its changes; and a list of calls from a store on.
 use Prim.Native.Nat.{ℕ, zero, suc}
 use mathlib.Core.Bool.{Bool, true, false, cond}
 use mathlib.Core.List.{List, [], _∷_}
@@ -6,7 +6,11 @@ use mathlib.Core.Option.{some}
 use lib.Dec.{eqb}
 use Rattle.limits.specs.Limits.{sigSetmask}
 use Rattle.lists.specs.Lists.{find}
-use Rattle.rules.specs.Types.{Queue, Call, clear, addProcess, addThread, endProcess, endThread, kill, queue, action, mask, pending, look, who, take, return, Next, noNext, nextMark, nextRecord, Answer, refused, done, tested, acted, dropped, absorbed, marked, kept, oldAction, oldMask, pendingSet, looked, canTake, noneCan, nothing, handler, end, stop, noAction}
+use Rattle.types.specs.declared.Reply.{Reply}
+use Rattle.types.specs.declared.Reply.the-variants.{Done, Sent, OldAction, OldMask, PendingSet, Looked, Taken}
+use Rattle.types.specs.declared.Answer.{Answer}
+use Rattle.types.specs.declared.Answer.the-variants.{Refused, Accepted}
+use Rattle.rules.specs.Types.{Queue, Call, clear, addProcess, addThread, endProcess, endThread, kill, queue, action, mask, pending, look, who, take, return, Next, noNext, nextMark, nextRecord, told}
 use Rattle.rules.specs.View.{View, targetQueue, Change, Stage, forget, removeProcess, inQueue, actionOf, theProcess, theThread}
 use Rattle.rules.specs.Store.{Store, view, recordsFor, applyAll}
 use Rattle.rules.specs.Sending.{generation, infoOf, sendChanges, sendAnswer}
@@ -37,23 +41,23 @@ module _ (v : View) where
   -- "Return from a handler is way 2 with the saved mask."
   changes (return t saved) = maskChanges v t sigSetmask (some saved)
 
-  unfoldable pub answer : Call → Answer
-  answer clear = done
-  answer (addProcess id real effective saved session thread m) = done
-  answer (addThread creator id) = done
-  answer (endProcess id) = done
-  answer (endThread id) = done
-  answer (kill by to t s) = sendAnswer (generation v false (targetQueue to t) s)
-  answer (queue by to t s value) = sendAnswer (generation v true (targetQueue to t) s)
+  unfoldable pub reply : Call → Reply
+  reply clear = Done
+  reply (addProcess id real effective saved session thread m) = Done
+  reply (addThread creator id) = Done
+  reply (endProcess id) = Done
+  reply (endThread id) = Done
+  reply (kill by to t s) = Sent (sendAnswer (generation v false (targetQueue to t) s))
+  reply (queue by to t s value) = Sent (sendAnswer (generation v true (targetQueue to t) s))
   -- "Storing an action answers the old one"
-  answer (action p s new) = oldAction (actionOf (theProcess v p) s)
+  reply (action p s new) = OldAction (actionOf (theProcess v p) s)
   -- "the old mask is answered"
-  answer (mask t way set) = oldMask (theThread v t .mask)
-  answer (pending t) = pendingSet (blockedPending v (theThread v t))
-  answer (look t) = looked (next v (theThread v t))
-  answer (who p) = taker v p
-  answer (take t) = takeAnswer v (theThread v t) (next v (theThread v t))
-  answer (return t saved) = oldMask (theThread v t .mask)
+  reply (mask t way set) = OldMask (theThread v t .mask)
+  reply (pending t) = PendingSet (blockedPending v (theThread v t))
+  reply (look t) = Looked (told (next v (theThread v t)))
+  reply (who p) = taker v p
+  reply (take t) = Taken (takeAnswer v (theThread v t) (next v (theThread v t)))
+  reply (return t saved) = OldMask (theThread v t .mask)
 
 -- the stages of a call, given the view before it: here one each
 unfoldable pub stages : View → Call → List Stage
@@ -65,8 +69,8 @@ runStages (g ∷ gs) st = runStages gs (applyAll (g (view st)) st)
 
 -- "Every refusal writes nothing and returns only its number"
 unfoldable pub finish : (errno : ℕ) → Call → Store → Store × Answer
-finish zero c st = (runStages (stages (view st) c) st, answer (view st) c)
-finish (suc n) c st = (st, refused (suc n))
+finish zero c st = (runStages (stages (view st) c) st, Accepted (reply (view st) c))
+finish (suc n) c st = (st, Refused (suc n))
 
 -- one call: the store after it, and its answer
 unfoldable pub step : Call → Store → Store × Answer
@@ -82,25 +86,8 @@ run (c ∷ cs) st =
 
 -- which answers are refusals
 unfoldable pub isRefused : Answer → Bool
-isRefused (refused n) = true
-isRefused done = false
-isRefused tested = false
-isRefused acted = false
-isRefused dropped = false
-isRefused absorbed = false
-isRefused marked = false
-isRefused kept = false
-isRefused (oldAction a) = false
-isRefused (oldMask m) = false
-isRefused (pendingSet m) = false
-isRefused (looked n) = false
-isRefused (canTake t) = false
-isRefused noneCan = false
-isRefused nothing = false
-isRefused (handler n s r flags saved) = false
-isRefused (end s) = false
-isRefused (stop s) = false
-isRefused (noAction s) = false
+isRefused (Refused n) = true
+isRefused (Accepted r) = false
 
 -- ---- what a look hands back: "a part of the thread buffer or of the process buffer; an empty part for a mark or for nothing"; "a refused look is
 -- the empty part too"

@@ -6,7 +6,9 @@ use lib.Dec.{eqb}
 use Rattle.limits.specs.Limits.{SIGKILL, SIGCONT, SIGSTOP, siQueue}
 use Rattle.sigset.specs.Set.{setOf, ofSignal}
 use Rattle.types.specs.declared.Siginfo.{Siginfo}
-use Rattle.rules.specs.Types.{Process, Queue, Answer, tested, acted, dropped, absorbed, marked, kept}
+use Rattle.types.specs.declared.Sent.{Sent}
+use Rattle.types.specs.declared.Sent.the-variants.{Tested, Acted, Dropped, Absorbed, Marked, Kept}
+use Rattle.rules.specs.Types.{Process, Queue}
 use Rattle.rules.specs.Signals.{standard, stopSignal, ignored}
 use Rattle.rules.specs.View.{View, Change, removeProcess, setStopped, setMark, append, discard, queueOf, actionOf, theProcess, pendingIn}
 
@@ -61,14 +63,14 @@ sendChanges absorbing r = jobControl (r .process) (r .signal)
 sendChanges marking r = jobControl (r .process) (r .signal) ++ (setMark (queueOf r) (r .signal) ∷ [])
 sendChanges keeping r = jobControl (r .process) (r .signal) ++ (append r ∷ [])
 
-unfoldable pub sendAnswer : Generation → Answer
-sendAnswer testing = tested
-sendAnswer killing = acted
-sendAnswer stopping = acted
-sendAnswer dropping = dropped
-sendAnswer absorbing = absorbed
-sendAnswer marking = marked
-sendAnswer keeping = kept
+unfoldable pub sendAnswer : Generation → Sent
+sendAnswer testing = Tested
+sendAnswer killing = Acted
+sendAnswer stopping = Acted
+sendAnswer dropping = Dropped
+sendAnswer absorbing = Absorbed
+sendAnswer marking = Marked
+sendAnswer keeping = Kept
 
 -- "a queued send needs a record"
 unfoldable pub needsRecord : Generation → Bool

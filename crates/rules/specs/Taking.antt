@@ -11,7 +11,11 @@ use Rattle.sigset.specs.declared.SigSet.{SigSet}
 use Rattle.sigset.specs.Set.{has, union, maskable, ofSignal, lowestOf, empty}
 use Rattle.types.specs.declared.Action.{Action}
 use Rattle.types.specs.declared.Siginfo.{Siginfo}
-use Rattle.rules.specs.Types.{Thread, Queue, Next, noNext, nextMark, nextRecord, Answer, canTake, noneCan, nothing, handler, end, stop, noAction}
+use Rattle.types.specs.declared.Taken.{Taken}
+use Rattle.types.specs.declared.Taken.the-variants.{Nothing, Handler, End, Stop, NoAction}
+use Rattle.types.specs.declared.Reply.{Reply}
+use Rattle.types.specs.declared.Reply.the-variants.{CanTake, NoneCan}
+use Rattle.rules.specs.Types.{Thread, Queue, Next, noNext, nextMark, nextRecord}
 use Rattle.rules.specs.Signals.{Outcome, ignores, stops, continues, ends, outcome}
 use Rattle.rules.specs.View.{View, Change, removeProcess, setStopped, setMask, clearMark, dropOldest, threadQueue, processQueue, belongsTo, theProcess, threadAction, pendingIn, pendingFor}
 use Rattle.rules.specs.Actions.{hasFlag, storeChanges}
@@ -48,11 +52,11 @@ module _ (v : View) where
   unfoldable pub canTakeSome : (process : ℕ) → Thread → Bool
   canTakeSome p t = belongsTo p t && not (eqb (nextSignal t) 0)
 
-  unfoldable pub whoAnswer : Option Thread → Answer
-  whoAnswer none = noneCan
-  whoAnswer (some t) = canTake (t .id)
+  unfoldable pub whoAnswer : Option Thread → Reply
+  whoAnswer none = NoneCan
+  whoAnswer (some t) = CanTake (t .id)
 
-  unfoldable pub taker : (process : ℕ) → Answer
+  unfoldable pub taker : (process : ℕ) → Reply
   taker p = whoAnswer (first (canTakeSome p) (v .threads))
 
 -- ---- handlers
@@ -85,11 +89,11 @@ outcomeChanges stops p = setStopped p 1 ∷ []
 outcomeChanges continues p = []
 outcomeChanges ends p = removeProcess p ∷ []
 
-unfoldable pub outcomeAnswer : Outcome → (signal : ℕ) → Answer
-outcomeAnswer ignores s = noAction s
-outcomeAnswer stops s = stop s
-outcomeAnswer continues s = noAction s
-outcomeAnswer ends s = end s
+unfoldable pub outcomeAnswer : Outcome → (signal : ℕ) → Taken
+outcomeAnswer ignores s = NoAction s
+outcomeAnswer stops s = Stop s
+outcomeAnswer continues s = NoAction s
+outcomeAnswer ends s = End s
 
 -- ---- a take
 
@@ -99,9 +103,9 @@ deliver t a s =
     (setMask (t .id) (handlerMask (t .mask) a s) ∷ resetChanges (t .process) s a)
 
 -- "answers handler, signal, record .., flags, saved mask"
-unfoldable pub delivered : Thread → Action → Siginfo → Answer
+unfoldable pub delivered : Thread → Action → Siginfo → Taken
 delivered t a r =
-    cond (eqb (a .handler) sigDfl) (outcomeAnswer (outcome (r .signal)) (r .signal)) (handler (a .handler) (r .signal) r (a .flags) (t .mask))
+    cond (eqb (a .handler) sigDfl) (outcomeAnswer (outcome (r .signal)) (r .signal)) (Handler (a .handler) (r .signal) r (a .flags) (t .mask))
 
 module _ (v : View) where
   -- the record or the mark leaves its queue first
@@ -110,7 +114,7 @@ module _ (v : View) where
   takeChanges t (nextMark q s) = clearMark q s ∷ deliver t (threadAction v t s) s
   takeChanges t (nextRecord q s r) = dropOldest q s ∷ deliver t (threadAction v t s) s
 
-  unfoldable pub takeAnswer : Thread → Next → Answer
-  takeAnswer t noNext = nothing
+  unfoldable pub takeAnswer : Thread → Next → Taken
+  takeAnswer t noNext = Nothing
   takeAnswer t (nextMark q s) = delivered t (threadAction v t s) (markInfo q s)
   takeAnswer t (nextRecord q s r) = delivered t (threadAction v t s) r

@@ -1,4 +1,4 @@
--- What the rules speak of: processes, threads, queues, calls and answers.
+-- What the rules speak of: processes, threads, queues, calls and what is next.
 use Prim.Native.Nat.{ℕ}
 use mathlib.Core.List.{List}
 use mathlib.Core.Option.{Option}
@@ -8,6 +8,8 @@ use Rattle.sigset.specs.declared.SigSet.{SigSet}
 use Rattle.sigset.specs.Set.{empty}
 use Rattle.types.specs.declared.Action.{Action}
 use Rattle.types.specs.declared.Siginfo.{Siginfo}
+use Rattle.types.specs.declared.Next as declared
+use Rattle.types.specs.declared.Next.the-variants as next
 use Rattle.types.specs.Values.{defaultAction}
 
 -- ---- "The tables"
@@ -60,7 +62,7 @@ pub data Call : Type 0 where
   take : (thread : ℕ) → Call
   return : (thread : ℕ) (mask : SigSet) → Call
 
--- ---- the answers, in the paper's words
+-- ---- the answers are those of crate types: Sent, Taken, Reply, Answer
 
 -- what a thread takes next: nothing, the mark of a signal in a queue, or the oldest record of a signal in a queue
 pub data Next : Type 0 where
@@ -68,18 +70,8 @@ pub data Next : Type 0 where
   nextMark : (queue : Queue) (signal : ℕ) → Next
   nextRecord : (queue : Queue) (signal : ℕ) (info : Siginfo) → Next
 
-pub data Answer : Type 0 where
-  refused : (errno : ℕ) → Answer
-  done : Answer
-  -- of a send
-  tested acted dropped absorbed marked kept : Answer
-  oldAction : (old : Action) → Answer
-  oldMask : (old : SigSet) → Answer
-  pendingSet : (set : SigSet) → Answer
-  looked : (next : Next) → Answer
-  canTake : (thread : ℕ) → Answer
-  noneCan : Answer
-  -- of a take: "nothing"; a handler to run; the default outcomes "end", "stop" and, for CONT, "no action"
-  nothing : Answer
-  handler : (number signal : ℕ) (info : Siginfo) (flags : ℕ) (saved : SigSet) → Answer
-  end stop noAction : (signal : ℕ) → Answer
+-- what a look tells of it: a record is the oldest of its own queue and signal
+unfoldable pub told : Next → declared.Next
+told noNext = next.Nothing
+told (nextMark q s) = next.Mark (q .process) (q .thread) s
+told (nextRecord q s r) = next.Record r

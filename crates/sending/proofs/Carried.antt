@@ -15,8 +15,9 @@ use Rattle.types.specs.declared.Siginfo.{Siginfo}
 use Rattle.rules.specs.Signals.{stopSignal}
 use Rattle.rules.specs.View.{View, Change, removeProcess, setStopped, setMark, append, discard, targetQueue, queueOf}
 use Rattle.rules.specs.Store.{Store, view}
+use Rattle.types.specs.declared.Reply.the-variants.{Sent}
 use Rattle.rules.specs.Sending.{Generation, generation, infoOf, jobControl, sendChanges, sendAnswer}
-use Rattle.rules.specs.Calls.{send, changes, answer}
+use Rattle.rules.specs.Calls.{send, changes, reply}
 use Rattle.rules.specs.Fitting.{fitsAll}
 use Rattle.answers.specs.Step.{Lent, decoded, refusalOn}
 use Rattle.effects.proofs.Chain.{first-part-fits}
@@ -115,10 +116,10 @@ module _ (v : View) (by to t s value : ℕ) where
   send-makes true z f r e h = sym (ap₂ sendChanges e h)
   send-makes false z f r e h = sym (ap₂ sendChanges e (h ∙ ap (infoOf v by to t s) (z refl)))
 
-  pub send-answers : (queued : Bool) (f : Generation) → f ≡ generation v queued (targetQueue to t) s → sendAnswer f ≡ answer v (sendCall queued by to t s value)
-  unfolding answer
-  send-answers true f e = ap sendAnswer e
-  send-answers false f e = ap sendAnswer e
+  pub send-answers : (queued : Bool) (f : Generation) → f ≡ generation v queued (targetQueue to t) s → Sent (sendAnswer f) ≡ reply v (sendCall queued by to t s value)
+  unfolding reply
+  send-answers true f e = ap (λ x. Sent (sendAnswer x)) e
+  send-answers false f e = ap (λ x. Sent (sendAnswer x)) e
 
 module _ (l : Lent) (queued : Bool) (by to t s value : ℕ) (d : decided.Decision) (h : Decided l queued by to t s value d) where
   pub when-refused : (n : ℕ) → d ≡ decisions.Refused n → (n ≡ refusalOn (sendCall queued by to t s value) l) × (n ≡ 0 → ⊥)

@@ -13,19 +13,16 @@ ghost use Rattle.rules.specs.Sending.{absorbs, generation, infoOf, jobControl, 
 ghost use Rattle.rules.specs.Refusals.{badTarget};
 ghost use Rattle.rules.specs.Fitting.{liveQueue, fitsAll};
 ghost use Rattle.sound.specs.Lent.{storeOf, soundTables};
-ghost use Rattle.answers.specs.Answers.{answerOf};
 ghost use Rattle.answers.specs.Step.{lent, refusalOn, stepOn};
 ghost use Rattle.sending.specs.Generations.{generationOf};
 ghost use Rattle.sending.specs.JobControl.{controls, discardedBy};
 ghost use Rattle.sending.specs.Decisions.{sendCall, Decided};
-use answers::Answer;
 use limits::EAGAIN;
 use limits::EFAULT;
 use limits::EINVAL;
 use limits::EPERM;
 use limits::ESRCH;
 use limits::RECORD_LIMIT;
-use limits::SI_QUEUE;
 use limits::SIGCONT;
 use limits::SIGKILL;
 use limits::SIGNALS;
@@ -33,7 +30,11 @@ use limits::SIGSTOP;
 use limits::SIGTSTP;
 use limits::SIGTTIN;
 use limits::SIGTTOU;
+use limits::SI_QUEUE;
 use sigset::SigSet;
+use types::Answer;
+use types::Reply;
+use types::Sent;
 use types::Siginfo;
 
 // What the generation of a signal comes to.
@@ -213,17 +214,17 @@ fn generate(ps: &mut [u64], ts: &mut [u64], tb: &mut [u8], pb: &mut [u8], f: Gen
     }
 }
 
-fn sent(f: Generation) -> Answer
-    ensures { λ r. ⌜ answerOf r ≡ sendAnswer (generationOf f) ⌝ }
+fn sent(f: Generation) -> Sent
+    ensures { λ r. ⌜ r ≡ sendAnswer (generationOf f) ⌝ }
 {
     match f {
-        Generation::Testing => Answer::Tested,
-        Generation::Killing => Answer::Acted,
-        Generation::Stopping => Answer::Acted,
-        Generation::Dropping => Answer::Dropped,
-        Generation::Absorbing => Answer::Absorbed,
-        Generation::Marking => Answer::Marked,
-        Generation::Keeping => Answer::Kept,
+        Generation::Testing => Sent::Tested,
+        Generation::Killing => Sent::Acted,
+        Generation::Stopping => Sent::Acted,
+        Generation::Dropping => Sent::Dropped,
+        Generation::Absorbing => Sent::Absorbed,
+        Generation::Marking => Sent::Marked,
+        Generation::Keeping => Sent::Kept,
     }
 }
 
@@ -327,7 +328,7 @@ fn send(
     value: u64,
 ) -> Answer
     requires { ⌜ (queued ≡ false → value ≡ 0) ⌝ }
-    ensures answer { λ r. ⌜ answerOf r ≡ stepOn (sendCall queued by to thread signal value) (lent (now (ps .entry)) (now (ts .entry)) (now (tb .entry)) (now (pb .entry))) .1 ⌝ }
+    ensures answer { λ r. ⌜ r ≡ stepOn (sendCall queued by to thread signal value) (lent (now (ps .entry)) (now (ts .entry)) (now (tb .entry)) (now (pb .entry))) .1 ⌝ }
     ensures tables { λ r. ⌜ lent (now (ps .exit)) (now (ts .exit)) (now (tb .exit)) (now (pb .exit)) ≡ stepOn (sendCall queued by to thread signal value) (lent (now (ps .entry)) (now (ts .entry)) (now (tb .entry)) (now (pb .entry))) .0 ⌝ }
 {
     let decision = judge(ps, ts, tb, pb, queued, by, to, thread, signal, value);
@@ -335,7 +336,7 @@ fn send(
         Decision::Refused(n) => Answer::Refused(n),
         Decision::Allowed(f, r) => {
             generate(ps, ts, tb, pb, f, r);
-            sent(f)
+            Answer::Accepted(Reply::Sent(sent(f)))
         }
     }
 }
@@ -351,7 +352,7 @@ pub fn kill(
     thread: u32,
     signal: u32,
 ) -> Answer
-    ensures answer { λ r. ⌜ answerOf r ≡ stepOn (call.kill by to thread signal) (lent (now (ps .entry)) (now (ts .entry)) (now (tb .entry)) (now (pb .entry))) .1 ⌝ }
+    ensures answer { λ r. ⌜ r ≡ stepOn (call.kill by to thread signal) (lent (now (ps .entry)) (now (ts .entry)) (now (tb .entry)) (now (pb .entry))) .1 ⌝ }
     ensures tables { λ r. ⌜ lent (now (ps .exit)) (now (ts .exit)) (now (tb .exit)) (now (pb .exit)) ≡ stepOn (call.kill by to thread signal) (lent (now (ps .entry)) (now (ts .entry)) (now (tb .entry)) (now (pb .entry))) .0 ⌝ }
 {
     send(ps, ts, tb, pb, false, by, to, thread, signal, 0)
@@ -369,7 +370,7 @@ pub fn sigqueue(
     signal: u32,
     value: u64,
 ) -> Answer
-    ensures answer { λ r. ⌜ answerOf r ≡ stepOn (call.queue by to thread signal value) (lent (now (ps .entry)) (now (ts .entry)) (now (tb .entry)) (now (pb .entry))) .1 ⌝ }
+    ensures answer { λ r. ⌜ r ≡ stepOn (call.queue by to thread signal value) (lent (now (ps .entry)) (now (ts .entry)) (now (tb .entry)) (now (pb .entry))) .1 ⌝ }
     ensures tables { λ r. ⌜ lent (now (ps .exit)) (now (ts .exit)) (now (tb .exit)) (now (pb .exit)) ≡ stepOn (call.queue by to thread signal value) (lent (now (ps .entry)) (now (ts .entry)) (now (tb .entry)) (now (pb .entry))) .0 ⌝ }
 {
     send(ps, ts, tb, pb, true, by, to, thread, signal, value)

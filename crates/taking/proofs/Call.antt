@@ -8,21 +8,24 @@ use lib.Dec.{eqb}
 use lib.ListN.{length, getD}
 use denote.Enum.Declared.{tagOf}
 use Rattle.lists.proofs.Bools.{clash}
-use Rattle.rules.specs.Types.{Thread, Answer, take}
+use Rattle.rules.specs.Types.{Thread, take}
 use Rattle.rules.specs.View.{View, liveThread, theThread}
 use Rattle.rules.specs.Store.{view, applyAll}
 use Rattle.rules.specs.Taking.{next, takeChanges, takeAnswer}
 use Rattle.rules.specs.Refusals.{esrch, noThreadLive, rows, isClear}
-use Rattle.rules.specs.Calls.{changes, answer}
-use Rattle.answers.specs.declared.Next as declared
-use Rattle.answers.specs.declared.Next.the-variants as cases
-use Rattle.answers.specs.declared.Answer.the-variants.{Refused, Nothing}
-use Rattle.answers.specs.Answers.{nextOf, answerOf}
+use Rattle.rules.specs.Calls.{changes, reply}
+use Rattle.types.specs.declared.Next as declared
+use Rattle.types.specs.declared.Next.the-variants as cases
+use Rattle.types.specs.declared.Taken as taken
+use Rattle.types.specs.declared.Taken.the-variants.{Nothing}
+use Rattle.types.specs.declared.Reply.the-variants.{Taken}
+use Rattle.types.specs.declared.Answer.the-variants.{Refused, Accepted}
+use Rattle.answers.specs.Answers.{nextOf}
 use Rattle.answers.specs.Step.{Lent, decoded, refusalOn, rowsOn, stepOn}
 use Rattle.siginfo.proofs.Numbers.{bytes-each}
 use Rattle.answers.proofs.Endings.{isSound, rows-given, refused-ends, accepted-ends}
 use Rattle.answers.proofs.Rows.{live-thread}
-use Rattle.answers.proofs.Next.{the-type}
+use Rattle.types.proofs.Next.{the-type}
 use Rattle.taking.specs.Takes.{isNothing}
 
 -- the other two cases
@@ -44,8 +47,7 @@ module _ (l : Lent) (t n : ℕ) (r : n ≡ rowsOn (esrch (noThreadLive (view (de
   unfolding rows isClear
   refusal-is = r ∙ sym (rows-given (take t) l refl)
 
-  pub take-refused : (n ≡ 0 → ⊥) → (answerOf (Refused n) ≡ stepOn (take t) l .1) × (l ≡ stepOn (take t) l .0)
-  unfolding answerOf
+  pub take-refused : (n ≡ 0 → ⊥) → (Refused n ≡ stepOn (take t) l .1) × (l ≡ stepOn (take t) l .0)
   take-refused z = refused-ends (take t) l n refusal-is z
 
   module _ (z : n ≡ 0) where
@@ -62,16 +64,16 @@ module _ (l : Lent) (t n : ℕ) (r : n ≡ rowsOn (esrch (noThreadLive (view (de
       pub take-made : (m : Lent) → length (m .processes) ≡ length (l .processes) → length (m .threads) ≡ length (l .threads)
           → length (m .threadBuffer) ≡ length (l .threadBuffer) → length (m .processBuffer) ≡ length (l .processBuffer)
           → ((i : ℕ) → getD (m .threadBuffer) i 0 < 256) → ((i : ℕ) → getD (m .processBuffer) i 0 < 256)
-          → (a : Answer) → a ≡ takeAnswer v it (nextOf x) → decoded m ≡ applyAll (takeChanges v it (nextOf x)) (decoded l)
-          → (a ≡ stepOn (take t) l .1) × (m ≡ stepOn (take t) l .0)
-      unfolding changes answer
+          → (a : taken.Taken) → a ≡ takeAnswer v it (nextOf x) → decoded m ≡ applyAll (takeChanges v it (nextOf x)) (decoded l)
+          → (Accepted (Taken a) ≡ stepOn (take t) l .1) × (m ≡ stepOn (take t) l .0)
+      unfolding changes reply
       take-made m p q b c bt bp a h d =
-          accepted-ends (take t) l accepted a (h ∙ ap (takeAnswer v it) k) m (record { processes = p; threads = q; threadBuffer = b; processBuffer = c })
+          accepted-ends (take t) l accepted (Taken a) (ap Taken (h ∙ ap (takeAnswer v it) k)) m (record { processes = p; threads = q; threadBuffer = b; processBuffer = c })
           (bytes-each (m .threadBuffer) bt) (bytes-each (m .processBuffer) bp) (d ∙ ap (λ y. applyAll (takeChanges v it y) (decoded l)) k)
 
       pub take-nothing : x ≡ cases.Nothing → ((i : ℕ) → getD (l .threadBuffer) i 0 < 256) → ((i : ℕ) → getD (l .processBuffer) i 0 < 256)
-          → (answerOf Nothing ≡ stepOn (take t) l .1) × (l ≡ stepOn (take t) l .0)
-      unfolding answerOf nextOf takeAnswer takeChanges applyAll
+          → (Accepted (Taken Nothing) ≡ stepOn (take t) l .1) × (l ≡ stepOn (take t) l .0)
+      unfolding nextOf takeAnswer takeChanges applyAll
       take-nothing e bt bp =
-          take-made l refl refl refl refl bt bp (answerOf Nothing)
+          take-made l refl refl refl refl bt bp Nothing
           (ap (λ y. takeAnswer v it (nextOf y)) (sym e)) (ap (λ y. applyAll (takeChanges v it (nextOf y)) (decoded l)) (sym e))

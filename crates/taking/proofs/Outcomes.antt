@@ -7,7 +7,9 @@ use Rattle.limits.specs.Limits.{SIGCONT, SIGSTOP, SIGTSTP, SIGTTIN, SIGTTOU, si
 use Rattle.lists.proofs.Bools.{cond-true, cond-false}
 use Rattle.types.specs.declared.Action.{Action}
 use Rattle.types.specs.declared.Siginfo.{Siginfo}
-use Rattle.rules.specs.Types.{Thread, Answer, handler}
+use Rattle.types.specs.declared.Taken.{Taken}
+use Rattle.types.specs.declared.Taken.the-variants.{Handler}
+use Rattle.rules.specs.Types.{Thread}
 use Rattle.rules.specs.Signals.{Outcome, ignores, stops, continues, ends, outcome, ignoring, stopSignal}
 use Rattle.rules.specs.Taking.{outcomeChanges, outcomeAnswer, deliver, delivered}
 use Rattle.taking.specs.Takes.{handlerChanges}
@@ -46,11 +48,11 @@ module _ (t : Thread) (a : Action) where
     by-handler d = cond-false _ _ d
 
   module _ (r : Siginfo) where
-    pub answers-default : eqb (a .handler) sigDfl ≡ true → (o : Outcome) → o ≡ outcome (r .signal) → (x : Answer) → x ≡ outcomeAnswer o (r .signal)
+    pub answers-default : eqb (a .handler) sigDfl ≡ true → (o : Outcome) → o ≡ outcome (r .signal) → (x : Taken) → x ≡ outcomeAnswer o (r .signal)
         → x ≡ delivered t a r
     unfolding delivered
     answers-default d o h x k = k ∙ ap (λ (y : Outcome). outcomeAnswer y (r .signal)) h ∙ sym (cond-true _ _ d)
 
-    pub answers-handler : eqb (a .handler) sigDfl ≡ false → handler (a .handler) (r .signal) r (a .flags) (t .mask) ≡ delivered t a r
+    pub answers-handler : eqb (a .handler) sigDfl ≡ false → Handler (a .handler) (r .signal) r (a .flags) (t .mask) ≡ delivered t a r
     unfolding delivered
     answers-handler d = sym (cond-false _ _ d)

@@ -12,7 +12,7 @@ use Rattle.sigset.specs.declared.SigSet.{SigSet}
 use Rattle.sigset.specs.Set.{Signal}
 use Rattle.types.specs.declared.Action.{Action}
 use Rattle.types.specs.declared.Siginfo.{Siginfo}
-use Rattle.rules.specs.Types.{Thread, Queue, Next, noNext, nextMark, nextRecord, Answer}
+use Rattle.rules.specs.Types.{Thread, Queue, Next, noNext, nextMark, nextRecord}
 use Rattle.rules.specs.View.{View, actionOf, liveThread, theProcess, theThread, threadAction}
 use Rattle.rules.specs.Store.{Store, view, applyAll}
 use Rattle.rules.specs.Taking.{nextSignal, nextQueue, nextIn, next, markInfo, deliver, delivered, takeChanges, takeAnswer}
@@ -22,8 +22,9 @@ use Rattle.rules.proofs.TakeFits.{take-fits}
 use Rattle.sound.specs.Lent.{storeOf, soundTables}
 use Rattle.sound.proofs.Facts.{store-sound}
 use Rattle.answers.specs.Answers.{nextOf}
-use Rattle.answers.specs.declared.Next as declared
-use Rattle.answers.specs.declared.Next.the-variants as cases
+use Rattle.types.specs.declared.Taken.{Taken}
+use Rattle.types.specs.declared.Next as declared
+use Rattle.types.specs.declared.Next.the-variants as cases
 use Rattle.effects.specs.Effects.{threadOf}
 use Rattle.effects.proofs.Chain.{first-part-fits, second-part-fits, then-part}
 use Rattle.view.specs.Named.{processNamed, threadNamed}
@@ -100,7 +101,7 @@ module _ {st : Store} {t u : Thread} {x : declared.Next} {r : Siginfo} {a : Acti
         (then-part (dequeueChanges (nextOf x)) (deliver u a (r .signal)) st st′ e st″ h)
 
   -- of the thread, the answer reads the mask alone
-  pub answered : (z : Answer) → z ≡ delivered (threadOf 0 0 (u .mask)) a r → z ≡ takeAnswer (view st) t (nextOf x)
+  pub answered : (z : Taken) → z ≡ delivered (threadOf 0 0 (u .mask)) a r → z ≡ takeAnswer (view st) t (nextOf x)
   unfolding delivered
   answered z h = h ∙ sym (d .answering)
 

@@ -9,17 +9,14 @@ ghost use Rattle.rules.specs.Taking.{markInfo, handlerMask, resets, reset, outc
 ghost use Rattle.rules.specs.Taking.{next as nextFor};
 ghost use Rattle.rules.specs.Fitting.{fitsAll};
 ghost use Rattle.sound.specs.Lent.{storeOf, soundTables};
-ghost use Rattle.answers.specs.Answers.{nextOf, answerOf};
+ghost use Rattle.answers.specs.Answers.{nextOf};
 ghost use Rattle.answers.specs.Step.{lent, stepOn};
 ghost use Rattle.effects.specs.Effects.{threadOf};
 ghost use Rattle.taking.specs.Takes.{outcomeOf, isNothing, infoIn, dequeueChanges, handlerChanges};
-use answers::Answer;
-use answers::Next;
 use limits::KNOWN_FLAGS;
 use limits::SA_NODEFER;
 use limits::SA_RESETHAND;
 use limits::SA_SIGINFO;
-use limits::SIG_DFL;
 use limits::SIGCONT;
 use limits::SIGILL;
 use limits::SIGSTOP;
@@ -27,9 +24,14 @@ use limits::SIGTRAP;
 use limits::SIGTSTP;
 use limits::SIGTTIN;
 use limits::SIGTTOU;
+use limits::SIG_DFL;
 use sigset::SigSet;
 use types::Action;
+use types::Answer;
+use types::Next;
+use types::Reply;
 use types::Siginfo;
+use types::Taken;
 
 // ---- handlers
 
@@ -132,14 +134,14 @@ fn act_by_default(
     }
 }
 
-fn default_answer(o: Outcome, signal: u32) -> Answer
-    ensures { λ r. ⌜ answerOf r ≡ outcomeAnswer (outcomeOf o) signal ⌝ }
+fn default_answer(o: Outcome, signal: u32) -> Taken
+    ensures { λ r. ⌜ r ≡ outcomeAnswer (outcomeOf o) signal ⌝ }
 {
     match o {
-        Outcome::Ignores => Answer::NoAction(signal),
-        Outcome::Stops => Answer::Stop(signal),
-        Outcome::Continues => Answer::NoAction(signal),
-        Outcome::Ends => Answer::End(signal),
+        Outcome::Ignores => Taken::NoAction(signal),
+        Outcome::Stops => Taken::Stop(signal),
+        Outcome::Continues => Taken::NoAction(signal),
+        Outcome::Ends => Taken::End(signal),
     }
 }
 
@@ -170,14 +172,14 @@ fn deliver(
 }
 
 // What the take answers; of the thread it reads the mask alone.
-fn delivered(mask: SigSet, a: Action, r: Siginfo) -> Answer
-    ensures { λ x. ⌜ answerOf x ≡ delivered (threadOf 0 0 mask) a r ⌝ }
+fn delivered(mask: SigSet, a: Action, r: Siginfo) -> Taken
+    ensures { λ x. ⌜ x ≡ delivered (threadOf 0 0 mask) a r ⌝ }
 {
     let s = r.signal;
     if a.handler == SIG_DFL {
         return default_answer(outcome_of(s), s);
     }
-    Answer::Handler(a.handler, s, r, a.flags, mask)
+    Taken::Handler(a.handler, s, r, a.flags, mask)
 }
 
 // The record or the mark leaves its queue.
@@ -231,12 +233,12 @@ fn take_next(
     pb: &mut [u8],
     thread: u32,
     next: Next,
-) -> Answer
+) -> Taken
     requires { ⌜ soundTables (now ps) (now ts) (now tb) (now pb) ≡ true ⌝ }
     requires { ⌜ liveThread (view (storeOf (now ps) (now ts) (now tb) (now pb))) thread ≡ true ⌝ }
     requires { ⌜ nextOf next ≡ nextFor (view (storeOf (now ps) (now ts) (now tb) (now pb))) (theThread (view (storeOf (now ps) (now ts) (now tb) (now pb))) thread) ⌝ }
     requires { ⌜ isNothing (nextOf next) ≡ false ⌝ }
-    ensures answer { λ r. ⌜ answerOf r ≡ takeAnswer (view (storeOf (now (ps .entry)) (now (ts .entry)) (now (tb .entry)) (now (pb .entry)))) (theThread (view (storeOf (now (ps .entry)) (now (ts .entry)) (now (tb .entry)) (now (pb .entry)))) thread) (nextOf next) ⌝ }
+    ensures answer { λ r. ⌜ r ≡ takeAnswer (view (storeOf (now (ps .entry)) (now (ts .entry)) (now (tb .entry)) (now (pb .entry)))) (theThread (view (storeOf (now (ps .entry)) (now (ts .entry)) (now (tb .entry)) (now (pb .entry)))) thread) (nextOf next) ⌝ }
     ensures store { λ r. ⌜ storeOf (now (ps .exit)) (now (ts .exit)) (now (tb .exit)) (now (pb .exit)) ≡ applyAll (takeChanges (view (storeOf (now (ps .entry)) (now (ts .entry)) (now (tb .entry)) (now (pb .entry)))) (theThread (view (storeOf (now (ps .entry)) (now (ts .entry)) (now (tb .entry)) (now (pb .entry)))) thread) (nextOf next)) (storeOf (now (ps .entry)) (now (ts .entry)) (now (tb .entry)) (now (pb .entry))) ⌝ }
 {
     let r = info_of(next);
@@ -250,7 +252,7 @@ fn take_next(
 
 // A thread takes its next signal.
 pub fn take(ps: &mut [u64], ts: &mut [u64], tb: &mut [u8], pb: &mut [u8], thread: u32) -> Answer
-    ensures answer { λ r. ⌜ answerOf r ≡ stepOn (call.take thread) (lent (now (ps .entry)) (now (ts .entry)) (now (tb .entry)) (now (pb .entry))) .1 ⌝ }
+    ensures answer { λ r. ⌜ r ≡ stepOn (call.take thread) (lent (now (ps .entry)) (now (ts .entry)) (now (tb .entry)) (now (pb .entry))) .1 ⌝ }
     ensures tables { λ r. ⌜ lent (now (ps .exit)) (now (ts .exit)) (now (tb .exit)) (now (pb .exit)) ≡ stepOn (call.take thread) (lent (now (ps .entry)) (now (ts .entry)) (now (tb .entry)) (now (pb .entry))) .0 ⌝ }
 {
     let n = view::thread_refusal(ps, ts, tb, pb, thread);
@@ -259,7 +261,7 @@ pub fn take(ps: &mut [u64], ts: &mut [u64], tb: &mut [u8], pb: &mut [u8], thread
     }
     let next = next::next_of(ps, ts, tb, pb, thread);
     if let Next::Nothing = next {
-        return Answer::Nothing;
+        return Answer::Accepted(Reply::Taken(Taken::Nothing));
     }
-    take_next(ps, ts, tb, pb, thread, next)
+    Answer::Accepted(Reply::Taken(take_next(ps, ts, tb, pb, thread, next)))
 }

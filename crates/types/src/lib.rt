@@ -1,4 +1,4 @@
-// The values that the tables hold and that calls carry, by value.
+// The values that the tables hold and that calls carry and answer, by value.
 use limits::SIG_DFL;
 use sigset::SigSet;
 
@@ -29,4 +29,56 @@ pub struct Siginfo {
     // the sender's real user id
     pub uid: u32,
     pub value: u64,
+}
+
+// ---- what the calls answer, in document 01's words
+
+// A send's answer.
+pub enum Sent {
+    Tested,
+    Acted,
+    Dropped,
+    Absorbed,
+    Marked,
+    Kept,
+}
+
+// What a thread takes next.
+pub enum Next {
+    Nothing,
+    // a mark: the process and the thread of its queue, and the signal
+    Mark(u32, u32, u32),
+    Record(Siginfo),
+}
+
+// A take's answer.
+pub enum Taken {
+    Nothing,
+    // handler number, signal, record, flags, saved mask
+    Handler(u64, u32, Siginfo, u64, SigSet),
+    // the signal whose default outcome it is
+    End(u32),
+    Stop(u32),
+    NoAction(u32),
+}
+
+// What an accepted call replies; "done" where it has nothing to say.
+pub enum Reply {
+    Done,
+    Sent(Sent),
+    OldAction(Action),
+    OldMask(SigSet),
+    PendingSet(SigSet),
+    Looked(Next),
+    // the thread that can take something
+    CanTake(u32),
+    NoneCan,
+    Taken(Taken),
+}
+
+// The answer of a call.
+pub enum Answer {
+    // the errno
+    Refused(u32),
+    Accepted(Reply),
 }

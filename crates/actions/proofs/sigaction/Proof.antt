@@ -4,7 +4,6 @@ use native.Mathlib.Omega.{arith}
 use Rattle.siginfo.proofs.Numbers.{bytes-each}
 use Rattle.rules.specs.Types.{action}
 use Rattle.sound.proofs.Facts.{processes-long, process-listed}
-use Rattle.answers.specs.Answers.{answerOf}
 use Rattle.answers.specs.Step.{lent}
 use Rattle.answers.proofs.Endings.{refused-ends}
 use Rattle.actions.specs.Given.{newAction}
@@ -57,7 +56,7 @@ store-action-requires c κs =
     (d .sound, action-ready (lent ps ts tb pb) p s new e (c .before .before .before .before .before .before .new .given .0 .0) (c .stored-of .result) (ap newAction (c .before .before .before .before .before .before .new .given .1)) (c .stored-of .ensures))
 
 returns-2 : tie.Need-returns-2
-unfolding answerOf newAction
+unfolding newAction
 returns-2 c =
     let a = c .before .before .before .before .before .before .before .before .before .before .before .before .before .before in
     let ps = a .args .ps .now in
@@ -72,7 +71,7 @@ returns-2 c =
     (bytes-each pb (λ i. omega (arith, c .before .before .before .before .before .before .before .before .before .before .slice-known4 .given i)))
 
 returns-3 : tie.Need-returns-3
-unfolding answerOf newAction
+unfolding newAction
 returns-3 c =
     let w = c .before .before .before .before .before .before .before .before in
     let a = c .before .before .before .before .before .before .before .before .before .before .before .before .before .before .before .before .before .before .before .before .before .before .before .before .before .before .before .before .before in

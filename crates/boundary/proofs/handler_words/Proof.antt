@@ -2,12 +2,12 @@
 use mathlib.Core.Path.{refl}
 use borrow.Author.Needs.{needs}
 use Rattle.lists.specs.Lists.{padded}
-use Rattle.boundary.specs.Boundary.{infoWords, wordsOf}
+use Rattle.boundary.specs.Boundary.{infoWords, takenWords}
 use Rattle.boundary.proofs.handler_words.Statement.{statement}
 use Rattle.boundary.proofs.handler_words.Tie as tie
 
 returns : tie.Need-returns
-unfolding padded wordsOf infoWords
+unfolding padded takenWords infoWords
 returns c = refl
 
 pub handler-words-spec : {M : Type 1} → statement M

@@ -37,8 +37,8 @@ thread-field-at-requires c κs =
       ),
     )
 
-cast-t10 : tie.Need-cast-t10
-cast-t10 c =
+cast-taker : tie.Need-cast-taker
+cast-taker c =
     let d = c .before .before .before .before in
     let a = d .before .before .before .before .before in
     let p = c .before .before .taker-place .result in
@@ -67,5 +67,5 @@ who-spec =
     taker-place-requires
     returns-2
     thread-field-at-requires
-    cast-t10
+    cast-taker
     returns-3)

@@ -4,7 +4,6 @@ use native.Mathlib.Omega.{arith}
 use Rattle.siginfo.proofs.Numbers.{bytes-each}
 use Rattle.rules.specs.Types.{mask}
 use Rattle.sound.proofs.Facts.{threads-long, thread-listed}
-use Rattle.answers.specs.Answers.{answerOf}
 use Rattle.answers.specs.Step.{lent}
 use Rattle.answers.proofs.Endings.{refused-ends}
 use Rattle.masks.specs.Given.{newSet}
@@ -59,7 +58,7 @@ set-mask-requires c κs =
     )
 
 returns-2 : tie.Need-returns-2
-unfolding answerOf newSet
+unfolding newSet
 returns-2 c =
     let a = c .before .before .before .before .before .before .before .before .before .before .before .before .before .before in
     let ps = a .args .ps .now in
@@ -74,7 +73,7 @@ returns-2 c =
     (bytes-each pb (λ i. omega (arith, c .before .before .before .before .before .before .before .before .before .before .slice-known4 .given i)))
 
 returns-3 : tie.Need-returns-3
-unfolding answerOf newSet
+unfolding newSet
 returns-3 c =
     let w = c .before .before in
     let o = c .before .before .before .before .before .before .before .before .before .before .before in

@@ -1,6 +1,5 @@
 -- `sigpending` meets its contract: refused, or the pending set. Assumes nothing.
 use Rattle.rules.specs.Types.{pending}
-use Rattle.answers.specs.Answers.{answerOf}
 use Rattle.answers.specs.Step.{lent}
 use Rattle.answers.proofs.Endings.{refused-ends}
 use Rattle.answers.proofs.Rows.{live-thread}
@@ -29,7 +28,6 @@ blocked-requires c κs =
     live-thread (lent ps ts tb pb) (a .args .thread) (c .before .thread-refusal .result) (c .before .thread-refusal .ensures) (c .if1 .left)
 
 returns-2 : tie.Need-returns-2
-unfolding answerOf
 returns-2 c =
     let a = c .before .before .before .before .before .before .before in
     let ps = a .args .ps .now in

@@ -1,12 +1,12 @@
 -- `send` meets its contract: refused, or carried out. Assumes nothing.
-use mathlib.Core.Path.{refl, _∙_}
+use mathlib.Core.Path.{refl, ap, _∙_}
 use borrow.Author.Needs.{needs}
 use native.Mathlib.Omega.{arith}
 use Rattle.siginfo.proofs.Numbers.{bytes-each}
+use Rattle.types.specs.declared.Reply.the-variants.{Sent}
 use Rattle.rules.specs.Store.{view}
 use Rattle.rules.specs.Sending.{sendChanges}
 use Rattle.rules.specs.Calls.{changes}
-use Rattle.answers.specs.Answers.{answerOf}
 use Rattle.answers.specs.Step.{lent, decoded}
 use Rattle.answers.proofs.Endings.{refused-ends, accepted-ends}
 use Rattle.effects.proofs.Chain.{made}
@@ -57,8 +57,8 @@ returns-2 c =
     let m = lent (k .last .0) (k .last .1 .0) (k .last .1 .1 .0) (k .last .1 .1 .1 .0) in
     let call = sendCall (x .queued) (x .by) (x .to) (x .thread) (x .signal) (x .value) in
     let v = view (decoded l) in
-    accepted-ends call l (y .0) (answerOf (c .sent .result))
-    (c .sent .ensures ∙ send-answers v (x .by) (x .to) (x .thread) (x .signal) (x .value) (x .queued) (generationOf f) (y .1 .0)) m
+    accepted-ends call l (y .0) (Sent (c .sent .result))
+    (ap Sent (c .sent .ensures) ∙ send-answers v (x .by) (x .to) (x .thread) (x .signal) (x .value) (x .queued) (generationOf f) (y .1 .0)) m
     (record { processes = k .kept .0; threads = k .kept .1 .0; threadBuffer = k .kept .1 .1 .0; processBuffer = k .kept .1 .1 .1 .0 })
     (bytes-each (m .threadBuffer) (λ i. omega (arith, c .before .before .before .slice-known7 .given i)))
     (bytes-each (m .processBuffer) (λ i. omega (arith, c .before .slice-known8 .given i)))

@@ -1,7 +1,6 @@
 -- `take` meets its contract: refused, with nothing to take, or taken. Assumes nothing.
 use native.Mathlib.Omega.{arith}
 use borrow.Author.Needs.{needs}
-use Rattle.answers.specs.Answers.{answerOf}
 use Rattle.answers.specs.Step.{lent}
 use Rattle.taking.proofs.Call.{something, take-made, take-nothing, take-refused, taker-live, taker-sound}
 use Rattle.taking.proofs.take.Statement.{statement}
@@ -77,7 +76,7 @@ returns-3 c =
     (search needs) (search needs) (search needs) (search needs)
     (λ i. omega (arith, c .before .before .slice-known7 .given i))
     (λ i. omega (arith, c .slice-known8 .given i))
-    (answerOf (w .result)) (w .ensures .0) (w .ensures .1)
+    (w .result) (w .ensures .0) (w .ensures .1)
 
 pub take-spec : {M : Type 1} → statement M
 take-spec =

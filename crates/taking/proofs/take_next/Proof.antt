@@ -2,7 +2,6 @@
 use borrow.Author.Needs.{needs}
 use Rattle.sound.proofs.Facts.{processes-long, threads-long, thread-listed}
 use Rattle.sound.specs.Lent.{storeOf}
-use Rattle.answers.specs.Answers.{answerOf}
 use Rattle.view.proofs.Live.{owner-good, process-held}
 use Rattle.taking.proofs.Taken.{dequeue-fits, delivering-fits, taken, answered, signal-named, ready}
 use Rattle.taking.proofs.take_next.Statement.{statement}
@@ -86,7 +85,7 @@ returns c =
     let d = ready ps ts tb pb (a .pre .0) t (a .pre .1 .0) (a .args .next) (a .pre .1 .1 .0) (a .pre .1 .1 .1) (r .result) (r .ensures) (p .result) (p .ensures) (m .result) (m .ensures) (b .result) (b .ensures) in
     let w = c .before .before .before .before .before .before .before .before .before .before .before .before .before .before .before .before .before .before .before .before .before .before .dequeue in
     let z = c .before .before .before .before .before .before .before .before .before .deliver in
-    (answered d (answerOf (c .delivered .result)) (c .delivered .ensures), taken d (storeOf (w .last .0) (w .last .1 .0) (w .last .1 .1 .0) (w .last .1 .1 .1 .0)) (w .ensures .0) (storeOf (z .last .0) (z .last .1 .0) (z .last .1 .1 .0) (z .last .1 .1 .1 .0)) (z .ensures .0))
+    (answered d (c .delivered .result) (c .delivered .ensures), taken d (storeOf (w .last .0) (w .last .1 .0) (w .last .1 .1 .0) (w .last .1 .1 .1 .0)) (w .ensures .0) (storeOf (z .last .0) (z .last .1 .0) (z .last .1 .1 .0) (z .last .1 .1 .1 .0)) (z .ensures .0))
 
 pub take-next-spec : {M : Type 1} → statement M
 take-next-spec =
