@@ -15,17 +15,17 @@ use Rattle.types.specs.declared.Reply.the-variants.{OldAction}
 use Rattle.types.specs.declared.Answer.the-variants as answers
 use Rattle.rules.specs.Types.{action}
 use Rattle.rules.specs.View.{liveProcess, actionOf}
-use Rattle.rules.specs.Store.{view, applyAll}
 use Rattle.rules.specs.Refusals.{overLast, badAction, noProcessLive, rows, isClear, einval, esrch}
 use Rattle.rules.specs.Actions.{stored, storeChanges, actionChanges}
 use Rattle.rules.specs.Calls.{changes, reply}
-use Rattle.rules.specs.Fitting.{fitsAll}
 use Rattle.rules.proofs.SendFits.{action-fits}
 use Rattle.sound.proofs.Facts.{store-sound}
-use Rattle.answers.specs.Step.{Lent, decoded, refusalOn, stepOn}
-use Rattle.answers.proofs.Endings.{AsLong, isSound, accepted-tables-sound, accepted-rows, same-ends, accepted-ends}
+use Rattle.sound.specs.Lent.{Lent, decoded, viewOf, soundTables}
+use Rattle.answers.specs.Step.{refusalOn, stepOn}
+use Rattle.answers.proofs.Endings.{AsLong, accepted-tables-sound, accepted-rows, same-ends, accepted-ends}
 use Rattle.answers.proofs.Rows.{refuses-fault, refuses-at, refuses-none}
-use Rattle.effects.proofs.Chain.{made, all-fit}
+use Rattle.effects.specs.Changes.{Ready, Changed}
+use Rattle.effects.proofs.Makes.{ready-as, made-as}
 use Rattle.view.specs.Named.{processNamed}
 use Rattle.view.proofs.Live.{process-named}
 
@@ -40,30 +40,30 @@ asked-signal s new b =
 module _ (l : Lent) (p s : ℕ) (new : Option Action) where
   -- ---- the refusal, as code tries the rows
 
-  pub action-fault : isSound l ≡ false → EFAULT ≡ refusalOn (action p s new) l
+  pub action-fault : soundTables l ≡ false → EFAULT ≡ refusalOn (action p s new) l
   unfolding isClear
   action-fault = refuses-fault (action p s new) l refl
 
-  module _ (e : isSound l ≡ true) where
+  module _ (e : soundTables l ≡ true) where
     pub action-bad : badAction s new ≡ true → EINVAL ≡ refusalOn (action p s new) l
     unfolding rows isClear
     action-bad b = refuses-at (action p s new) l refl e [] (einval (badAction s new)) _ refl tt b
 
     module _ (b : badAction s new ≡ false) where
-      pub action-gone : noProcessLive (view (decoded l)) p ≡ true → ESRCH ≡ refusalOn (action p s new) l
+      pub action-gone : noProcessLive (viewOf l) p ≡ true → ESRCH ≡ refusalOn (action p s new) l
       unfolding rows isClear
-      action-gone g = refuses-at (action p s new) l refl e (einval (badAction s new) ∷ []) (esrch (noProcessLive (view (decoded l)) p)) [] refl (b, tt) g
+      action-gone g = refuses-at (action p s new) l refl e (einval (badAction s new) ∷ []) (esrch (noProcessLive (viewOf l) p)) [] refl (b, tt) g
 
-      pub action-none : noProcessLive (view (decoded l)) p ≡ false → 0 ≡ refusalOn (action p s new) l
+      pub action-none : noProcessLive (viewOf l) p ≡ false → 0 ≡ refusalOn (action p s new) l
       unfolding rows isClear
       action-none g = refuses-none (action p s new) l refl e (b, (g, tt))
 
   -- ---- accepted
 
   pub record Accepted : Type 0 where
-    pub sound : isSound l ≡ true
+    pub sound : soundTables l ≡ true
     pub fine : badAction s new ≡ false
-    pub live : liveProcess (view (decoded l)) p ≡ true
+    pub live : liveProcess (viewOf l) p ≡ true
 
   module _ (e : refusalOn (action p s new) l ≡ 0) where
     pub action-accepted : Accepted
@@ -73,18 +73,18 @@ module _ (l : Lent) (p s : ℕ) (new : Option Action) where
         record {
           sound = accepted-tables-sound (action p s new) l refl e;
           fine = h .0;
-          live = not-false (liveProcess (view (decoded l)) p) (h .1 .0);
+          live = not-false (liveProcess (viewOf l) p) (h .1 .0);
         }
 
     -- by the action that was read
     module _ (old : Action) (o : old ≡ actionOf (processNamed (l .processes) p) s) where
-      answered : OldAction old ≡ reply (view (decoded l)) (action p s new)
+      answered : OldAction old ≡ reply (viewOf l) (action p s new)
       unfolding reply
-      answered = ap OldAction (o ∙ ap (λ x. actionOf x s) (process-named (l .processes) (l .threads) (l .threadBuffer) (l .processBuffer) p))
+      answered = ap OldAction (o ∙ ap (λ x. actionOf x s) (process-named l p))
 
       -- without a new action
       pub action-kept : new ≡ none → Bytes (l .threadBuffer) → Bytes (l .processBuffer)
-          → (answers.Accepted (OldAction old) ≡ stepOn (action p s new) l .1) × (l ≡ stepOn (action p s new) l .0)
+          → (l, answers.Accepted (OldAction old)) ≡ stepOn (action p s new) l
       unfolding changes actionChanges
       action-kept n bt bp = same-ends (action p s new) l e (OldAction old) answered bt bp (ap (actionChanges p s) n)
 
@@ -94,16 +94,17 @@ module _ (l : Lent) (p s : ℕ) (new : Option Action) where
       unfolding actionChanges
       these = ap (actionChanges p s) n ∙ sym (ap (storeChanges p s) h)
 
-      pub action-ready : fitsAll (storeChanges p s g) (decoded l) ≡ true
+      pub action-ready : Ready (storeChanges p s g) l
       action-ready =
-          all-fit (actionChanges p s new) (decoded l)
-          (action-fits (decoded l) (store-sound (l .processes) (l .threads) (l .threadBuffer) (l .processBuffer) (action-accepted .sound)) p s new
-          (action-accepted .fine) (action-accepted .live))
-          (storeChanges p s g) these
+          let d = action-accepted in
+          ready-as
+          (record { sound = d .sound; fit = action-fits (decoded l) (store-sound l (d .sound)) p s new (d .fine) (d .live) })
+          these
 
       pub action-stored : (old : Action) → old ≡ actionOf (processNamed (l .processes) p) s
-          → (m : Lent) → AsLong l m → Bytes (m .threadBuffer) → Bytes (m .processBuffer) → decoded m ≡ applyAll (storeChanges p s g) (decoded l)
-          → (answers.Accepted (OldAction old) ≡ stepOn (action p s new) l .1) × (m ≡ stepOn (action p s new) l .0)
+          → (m : Lent) → AsLong l m → Bytes (m .threadBuffer) → Bytes (m .processBuffer)
+          → Changed (storeChanges p s g) l m
+          → (m, answers.Accepted (OldAction old)) ≡ stepOn (action p s new) l
       unfolding changes
       action-stored old o m k bt bp d =
-          accepted-ends (action p s new) l e (OldAction old) (answered old o) m k bt bp (made (actionChanges p s new) (decoded l) (storeChanges p s g) these (decoded m) d)
+          accepted-ends (action p s new) l e (OldAction old) (answered old o) m k bt bp (made-as d these .store)

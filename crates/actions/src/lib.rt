@@ -1,11 +1,10 @@
 // Actions: sigaction.
 ghost use mathlib.Core.Path.{_≡_};
-ghost use mathlib.Core.Bool.{true};
 ghost use Rattle.rules.specs.Types as call;
-ghost use Rattle.rules.specs.Store.{view};
 ghost use Rattle.rules.specs.Actions.{stored};
 ghost use Rattle.rules.specs.Refusals.{badAction};
-ghost use Rattle.answers.specs.Step.{lent, refusalOn, stepOn};
+ghost use Rattle.sound.specs.Lent.{before};
+ghost use Rattle.answers.specs.Step.{refusalOn, stepped};
 ghost use Rattle.actions.specs.Given.{newAction};
 use limits::EFAULT;
 use limits::EINVAL;
@@ -56,7 +55,7 @@ fn action_refusal(
     signal: u32,
     new: GivenAction,
 ) -> u32
-    ensures { λ r. ⌜ r ≡ refusalOn (call.action process signal (newAction new)) (lent (now (ps .entry)) (now (ts .entry)) (now (tb .entry)) (now (pb .entry))) ⌝ }
+    ensures { λ r. ⌜ r ≡ refusalOn (call.action process signal (newAction new)) (before ps ts tb pb) ⌝ }
 {
     if !sound::sound(ps, ts, tb, pb) {
         return EFAULT;
@@ -80,8 +79,7 @@ pub fn sigaction(
     signal: u32,
     new: GivenAction,
 ) -> Answer
-    ensures answer { λ r. ⌜ r ≡ stepOn (call.action process signal (newAction new)) (lent (now (ps .entry)) (now (ts .entry)) (now (tb .entry)) (now (pb .entry))) .1 ⌝ }
-    ensures tables { λ r. ⌜ lent (now (ps .exit)) (now (ts .exit)) (now (tb .exit)) (now (pb .exit)) ≡ stepOn (call.action process signal (newAction new)) (lent (now (ps .entry)) (now (ts .entry)) (now (tb .entry)) (now (pb .entry))) .0 ⌝ }
+    ensures { λ r. ⌜ stepped (call.action process signal (newAction new)) r ps ts tb pb ⌝ }
 {
     let n = action_refusal(ps, ts, tb, pb, process, signal, new);
     if n != 0 {

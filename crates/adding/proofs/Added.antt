@@ -20,16 +20,16 @@ use Rattle.rules.specs.Refusals.{rows, isClear, fault, table, refusalOf, noThre
 use Rattle.rules.specs.Calls.{changes, reply}
 use Rattle.rules.proofs.RefusalTable.{Off}
 use Rattle.tables.specs.Tables.{processesOf, threadsOf, heldProcesses, heldThreads}
-use Rattle.sound.specs.Lent.{storeOf, soundTables}
+use Rattle.sound.specs.Lent.{Lent, lent, decoded, viewOf, lengthsAre, soundTables, given}
 use Rattle.effects.proofs.Places.{with-all}
 use Rattle.sound.proofs.Facts.{right-processes, right-threads, threads-long}
 use Rattle.effects.specs.Effects.{threadOf}
 use Rattle.view.specs.Named.{threadNamed}
 use Rattle.types.specs.declared.Reply.the-variants.{Done}
 use Rattle.types.specs.declared.Answer.the-variants.{Refused, Accepted}
-use Rattle.answers.specs.Step.{Lent, lent, refusalOn, stepOn}
+use Rattle.answers.specs.Step.{refusalOn, stepOn}
 use Rattle.view.proofs.Live.{owner-known}
-use Rattle.answers.proofs.Endings.{longAs, accepted-long, accepted-rows, accepted-tables-sound, refused-ends, accepted-ends}
+use Rattle.answers.proofs.Endings.{accepted-long, accepted-rows, accepted-tables-sound, refused-ends, accepted-ends}
 
 -- ---- a process
 
@@ -39,90 +39,90 @@ undecided : (id real effective saved session thread : ℕ) (mask : SigSet) (l : 
 unfolding refusalOn refusalOf table fault isClear rows
 undecided id real effective saved session thread mask l = refl
 
-module _ (ps ts tb pb : List ℕ) (id thread n : ℕ) (r : n ≡ refusalOn (addProcess id 0 0 0 0 thread empty) (lent ps ts tb pb)) where
+module _ (l : Lent) (id thread n : ℕ) (r : n ≡ refusalOn (addProcess id 0 0 0 0 thread empty) l) where
   module _ (z : n ≡ 0) where
-    process-long : longAs (lent ps ts tb pb) ≡ true
-    process-long = accepted-long (addProcess id 0 0 0 0 thread empty) (lent ps ts tb pb) (sym r ∙ z)
+    process-long : lengthsAre l ≡ true
+    process-long = accepted-long (addProcess id 0 0 0 0 thread empty) l (sym r ∙ z)
 
-    places : (noProcessPlace (view (storeOf ps ts tb pb)) || noThreadPlace (view (storeOf ps ts tb pb))) ≡ false
+    places : (noProcessPlace (viewOf l) || noThreadPlace (viewOf l)) ≡ false
     unfolding rows
-    places = accepted-rows (addProcess id 0 0 0 0 thread empty) (lent ps ts tb pb) (sym r ∙ z) .1 .1 .0
+    places = accepted-rows (addProcess id 0 0 0 0 thread empty) l (sym r ∙ z) .1 .1 .0
 
-    pub process-room : (length ps ≡ processTable) × (any isFreeProcess (heldProcesses ps) ≡ true)
-    unfolding noProcessPlace view storeOf
+    pub process-room : (length (l .processes) ≡ processTable) × (any isFreeProcess (heldProcesses (l .processes)) ≡ true)
+    unfolding noProcessPlace view decoded
     process-room =
-        (right-processes ps ts tb pb process-long, not-false (any isFreeProcess (heldProcesses ps)) (or-fst-false (not (any isFreeProcess (heldProcesses ps))) _ places))
+        (right-processes l process-long, not-false (any isFreeProcess (heldProcesses (l .processes))) (or-fst-false (not (any isFreeProcess (heldProcesses (l .processes)))) _ places))
 
-    pub first-thread-room : (length ts ≡ threadTable) × (any isFreeThread (heldThreads ts) ≡ true)
-    unfolding noThreadPlace noProcessPlace view storeOf
+    pub first-thread-room : (length (l .threads) ≡ threadTable) × (any isFreeThread (heldThreads (l .threads)) ≡ true)
+    unfolding noThreadPlace noProcessPlace view decoded
     first-thread-room =
-        (right-threads ps ts tb pb process-long, not-false (any isFreeThread (heldThreads ts)) (or-snd-false (not (any isFreeProcess (heldProcesses ps))) _ places))
+        (right-threads l process-long, not-false (any isFreeThread (heldThreads (l .threads))) (or-snd-false (not (any isFreeProcess (heldProcesses (l .processes)))) _ places))
 
   module _ (real effective saved session : ℕ) (mask : SigSet) where
     abbrev call : Call
     call = addProcess id real effective saved session thread mask
 
-    number : n ≡ refusalOn call (lent ps ts tb pb)
-    number = r ∙ undecided id real effective saved session thread mask (lent ps ts tb pb)
+    number : n ≡ refusalOn call l
+    number = r ∙ undecided id real effective saved session thread mask l
 
-    pub process-refused : (n ≡ 0 → ⊥) → (Refused n ≡ stepOn call (lent ps ts tb pb) .1) × (lent ps ts tb pb ≡ stepOn call (lent ps ts tb pb) .0)
-    process-refused = refused-ends call (lent ps ts tb pb) n number
+    pub process-refused : (n ≡ 0 → ⊥) → (l, Refused n) ≡ stepOn call l
+    process-refused = refused-ends call l n number
 
     module _ (ps′ ts′ : List ℕ) (given : SigSet) (g : given ≡ maskable mask)
-        (p : processesOf ps′ ≡ fill isFreeProcess (addedProcess id real effective saved session) (processesOf ps))
-        (t : threadsOf ts′ ≡ fill isFreeThread (threadOf thread id given) (threadsOf ts)) where
-      process-made : storeOf ps′ ts′ tb pb ≡ applyAll (changes (view (storeOf ps ts tb pb)) call) (storeOf ps ts tb pb)
-      unfolding storeOf changes addProcessChanges applyAll apply
+        (p : processesOf ps′ ≡ fill isFreeProcess (addedProcess id real effective saved session) (processesOf (l .processes)))
+        (t : threadsOf ts′ ≡ fill isFreeThread (threadOf thread id given) (threadsOf (l .threads))) where
+      process-made : decoded (lent ps′ ts′ (l .threadBuffer) (l .processBuffer)) ≡ applyAll (changes (viewOf l) call) (decoded l)
+      unfolding decoded changes addProcessChanges applyAll apply
       process-made =
-          let f : threadsOf ts′ ≡ fill isFreeThread (threadOf thread id (maskable mask)) (threadsOf ts) =
-          t ∙ ap (λ (m : SigSet). fill isFreeThread (threadOf thread id m) (threadsOf ts)) g in
-          with-all ps′ ts′ tb pb p f refl refl
+          let f : threadsOf ts′ ≡ fill isFreeThread (threadOf thread id (maskable mask)) (threadsOf (l .threads)) =
+          t ∙ ap (λ (m : SigSet). fill isFreeThread (threadOf thread id m) (threadsOf (l .threads))) g in
+          with-all (lent ps′ ts′ (l .threadBuffer) (l .processBuffer)) p f refl refl
 
-      pub process-added : n ≡ 0 → length ps′ ≡ length ps → length ts′ ≡ length ts → Bytes tb → Bytes pb
-          → (Accepted Done ≡ stepOn call (lent ps ts tb pb) .1) × (lent ps′ ts′ tb pb ≡ stepOn call (lent ps ts tb pb) .0)
+      pub process-added : n ≡ 0 → length ps′ ≡ length (l .processes) → length ts′ ≡ length (l .threads) → Bytes (l .threadBuffer) → Bytes (l .processBuffer)
+          → (lent ps′ ts′ (l .threadBuffer) (l .processBuffer), Accepted Done) ≡ stepOn call l
       unfolding reply
       process-added z lp lt bt bp =
-          accepted-ends call (lent ps ts tb pb) (sym number ∙ z) Done refl (lent ps′ ts′ tb pb)
+          accepted-ends call l (sym number ∙ z) Done refl (lent ps′ ts′ (l .threadBuffer) (l .processBuffer))
           (record { processes = lp; threads = lt; threadBuffer = refl; processBuffer = refl }) bt bp process-made
 
 -- ---- a thread
 
-module _ (ps ts tb pb : List ℕ) (creator id n : ℕ) (r : n ≡ refusalOn (addThread creator id) (lent ps ts tb pb)) where
+module _ (l : Lent) (creator id n : ℕ) (r : n ≡ refusalOn (addThread creator id) l) where
   pub thread-refused : (n ≡ 0 → ⊥)
-      → (Refused n ≡ stepOn (addThread creator id) (lent ps ts tb pb) .1) × (lent ps ts tb pb ≡ stepOn (addThread creator id) (lent ps ts tb pb) .0)
-  thread-refused = refused-ends (addThread creator id) (lent ps ts tb pb) n r
+      → (l, Refused n) ≡ stepOn (addThread creator id) l
+  thread-refused = refused-ends (addThread creator id) l n r
 
   module _ (z : n ≡ 0) where
-    off : All Off (rows (view (storeOf ps ts tb pb)) (addThread creator id))
-    off = accepted-rows (addThread creator id) (lent ps ts tb pb) (sym r ∙ z)
+    off : All Off (rows (viewOf l) (addThread creator id))
+    off = accepted-rows (addThread creator id) l (sym r ∙ z)
 
-    tables-sound : soundTables ps ts tb pb ≡ true
+    tables-sound : soundTables l ≡ true
     unfolding isClear
-    tables-sound = accepted-tables-sound (addThread creator id) (lent ps ts tb pb) refl (sym r ∙ z)
+    tables-sound = accepted-tables-sound (addThread creator id) l refl (sym r ∙ z)
 
-    pub creator-owned : (length ts ≡ threadTable) × ((any (isThread creator) (heldThreads ts) ≡ true) × (goodId (threadNamed ts creator .process) ≡ true))
+    pub creator-owned : (length (l .threads) ≡ threadTable) × ((any (isThread creator) (heldThreads (l .threads)) ≡ true) × (goodId (threadNamed (l .threads) creator .process) ≡ true))
     unfolding rows noThreadLive
-    creator-owned = owner-known ps ts tb pb tables-sound creator (not-false (liveThread (view (storeOf ps ts tb pb)) creator) (off .1 .0))
+    creator-owned = owner-known l tables-sound creator (not-false (liveThread (viewOf l) creator) (off .1 .0))
 
-    pub creator-found : (length ts ≡ threadTable) × (any (isThread creator) (heldThreads ts) ≡ true)
+    pub creator-found : (length (l .threads) ≡ threadTable) × (any (isThread creator) (heldThreads (l .threads)) ≡ true)
     creator-found = (creator-owned .0, creator-owned .1 .0)
 
-    pub thread-room : (length ts ≡ threadTable) × (any isFreeThread (heldThreads ts) ≡ true)
-    unfolding rows noThreadPlace view storeOf
-    thread-room = (threads-long ps ts tb pb tables-sound, not-false (any isFreeThread (heldThreads ts)) (off .1 .1 .1 .0))
+    pub thread-room : (length (l .threads) ≡ threadTable) × (any isFreeThread (heldThreads (l .threads)) ≡ true)
+    unfolding rows noThreadPlace view decoded
+    thread-room = (threads-long l tables-sound, not-false (any isFreeThread (heldThreads (l .threads))) (off .1 .1 .1 .0))
 
-    module _ (ts′ : List ℕ) (process : ℕ) (mask : SigSet) (o : process ≡ threadNamed ts creator .process) (m : mask ≡ threadNamed ts creator .mask)
-        (t : threadsOf ts′ ≡ fill isFreeThread (threadOf id process mask) (threadsOf ts)) where
-      thread-made : storeOf ps ts′ tb pb ≡ applyAll (changes (view (storeOf ps ts tb pb)) (addThread creator id)) (storeOf ps ts tb pb)
-      unfolding storeOf changes addThreadChanges applyAll apply theThread view
+    module _ (ts′ : List ℕ) (process : ℕ) (mask : SigSet) (o : process ≡ threadNamed (l .threads) creator .process) (m : mask ≡ threadNamed (l .threads) creator .mask)
+        (t : threadsOf ts′ ≡ fill isFreeThread (threadOf id process mask) (threadsOf (l .threads))) where
+      thread-made : decoded (lent (l .processes) ts′ (l .threadBuffer) (l .processBuffer)) ≡ applyAll (changes (viewOf l) (addThread creator id)) (decoded l)
+      unfolding decoded changes addThreadChanges applyAll apply theThread view
       thread-made =
-          let f : threadsOf ts′ ≡ fill isFreeThread (threadOf id (threadNamed ts creator .process) (threadNamed ts creator .mask)) (threadsOf ts) =
-          t ∙ ap₂ (λ (k : ℕ) (s : SigSet). fill isFreeThread (threadOf id k s) (threadsOf ts)) o m in
-          with-all ps ts′ tb pb refl f refl refl
+          let f : threadsOf ts′ ≡ fill isFreeThread (threadOf id (threadNamed (l .threads) creator .process) (threadNamed (l .threads) creator .mask)) (threadsOf (l .threads)) =
+          t ∙ ap₂ (λ (k : ℕ) (s : SigSet). fill isFreeThread (threadOf id k s) (threadsOf (l .threads))) o m in
+          with-all (lent (l .processes) ts′ (l .threadBuffer) (l .processBuffer)) refl f refl refl
 
-      pub thread-added : length ts′ ≡ length ts → Bytes tb → Bytes pb
-          → (Accepted Done ≡ stepOn (addThread creator id) (lent ps ts tb pb) .1) × (lent ps ts′ tb pb ≡ stepOn (addThread creator id) (lent ps ts tb pb) .0)
+      pub thread-added : length ts′ ≡ length (l .threads) → Bytes (l .threadBuffer) → Bytes (l .processBuffer)
+          → (lent (l .processes) ts′ (l .threadBuffer) (l .processBuffer), Accepted Done) ≡ stepOn (addThread creator id) l
       unfolding reply
       thread-added lt bt bp =
-          accepted-ends (addThread creator id) (lent ps ts tb pb) (sym r ∙ z) Done refl (lent ps ts′ tb pb)
+          accepted-ends (addThread creator id) l (sym r ∙ z) Done refl (lent (l .processes) ts′ (l .threadBuffer) (l .processBuffer))
           (record { processes = refl; threads = lt; threadBuffer = refl; processBuffer = refl }) bt bp thread-made

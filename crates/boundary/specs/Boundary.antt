@@ -20,8 +20,8 @@ use Rattle.types.specs.declared.Reply.the-variants as reply
 use Rattle.types.specs.declared.Answer.{Answer}
 use Rattle.types.specs.declared.Answer.the-variants.{Refused, Accepted}
 use Rattle.rules.specs.Types.{Call, clear, addProcess, addThread, endProcess, endThread, kill, queue, action, mask, pending, look, who, take, return}
-use Rattle.sound.specs.Lent.{lengthsAre, soundTables}
-use Rattle.answers.specs.Step.{Lent, stepOn}
+use Rattle.sound.specs.Lent.{Lent, lengthsAre, soundTables}
+use Rattle.answers.specs.Step.{stepOn}
 
 -- ---- the calls
 
@@ -130,8 +130,8 @@ written a out = cond (eqb (errnoOf a) 0) (padded 0 answerWords (wordsOf a) ++ dr
 unfoldable pub usable : ℕ → Lent → Bool
 usable n l =
     cond (eqb n callClear)
-    (lengthsAre (l .processes) (l .threads) (l .threadBuffer) (l .processBuffer))
-    (soundTables (l .processes) (l .threads) (l .threadBuffer) (l .processBuffer))
+    (lengthsAre l)
+    (soundTables l)
 
 -- there is such a call, and the lent words have room for any answer
 unfoldable pub accepted : (number room : ℕ) → Bool

@@ -1,6 +1,5 @@
 // Every call by its value: what a host hands in, and what the layer answers.
-ghost use mathlib.Core.Path.{_≡_};
-ghost use Rattle.answers.specs.Step.{lent, stepOn};
+ghost use Rattle.answers.specs.Step.{stepped};
 ghost use Rattle.calls.specs.Calls.{callOf};
 use actions::GivenAction;
 use masks::GivenSet;
@@ -34,8 +33,7 @@ pub enum Call {
 
 // One call on the lent tables. Any tables and any arguments are answered; a refused call leaves every table exactly as it was.
 pub fn step(ps: &mut [u64], ts: &mut [u64], tb: &mut [u8], pb: &mut [u8], c: Call) -> Answer
-    ensures answer { λ r. ⌜ r ≡ stepOn (callOf c) (lent (now (ps .entry)) (now (ts .entry)) (now (tb .entry)) (now (pb .entry))) .1 ⌝ }
-    ensures tables { λ r. ⌜ lent (now (ps .exit)) (now (ts .exit)) (now (tb .exit)) (now (pb .exit)) ≡ stepOn (callOf c) (lent (now (ps .entry)) (now (ts .entry)) (now (tb .entry)) (now (pb .entry))) .0 ⌝ }
+    ensures { λ r. ⌜ stepped (callOf c) r ps ts tb pb ⌝ }
 {
     match c {
         Call::Clear => clearing::clear(ps, ts, tb, pb),

@@ -18,31 +18,31 @@ use Rattle.rules.specs.Fitting.{fits}
 use Rattle.rules.proofs.Queues.{target-process, queue-target}
 use Rattle.queue.specs.Queue.{slotsOf, recordsOf, appended, removeAt}
 use Rattle.queue.proofs.Buffer.{drop-oldest}
-use Rattle.sound.specs.Lent.{storeOf, soundTables}
+use Rattle.sound.specs.Lent.{Lent, lent, decoded, viewOf, soundTables}
 use Rattle.sound.proofs.Facts.{room}
 use Rattle.effects.proofs.Fitted.{append-queue, append-below}
 use Rattle.effects.proofs.Places.{with-all}
 
-module _ (ps ts tb pb : List ℕ) where
+module _ (l : Lent) where
   -- ---- append
 
-  pub append-room : soundTables ps ts tb pb ≡ true → (r : Siginfo) → fits (view (storeOf ps ts tb pb)) (append r) ≡ true
-      → (length (recordsOf tb) < bufferRecords) × (length (recordsOf pb) < bufferRecords)
+  pub append-room : soundTables l ≡ true → (r : Siginfo) → fits (viewOf l) (append r) ≡ true
+      → (length (recordsOf (l .threadBuffer)) < bufferRecords) × (length (recordsOf (l .processBuffer)) < bufferRecords)
   unfolding view
   append-room e r f =
-      let v = view (storeOf ps ts tb pb) in
-      room ps ts tb pb e (r .process) (target-process v (r .process) (r .thread) (queue-target v (r .process) (r .thread) (append-queue v r f))) (append-below v r f)
+      let v = viewOf l in
+      room l e (r .process) (target-process v (r .process) (r .thread) (queue-target v (r .process) (r .thread) (append-queue v r f))) (append-below v r f)
 
   module _ (r : Siginfo) where
-    pub append-process : eqb (r .thread) 0 ≡ true → (pb′ : List ℕ) → slotsOf pb′ ≡ onSlots (appended r) (slotsOf pb)
-        → storeOf ps ts tb pb′ ≡ apply (append r) (storeOf ps ts tb pb)
-    unfolding apply storeOf appended
-    append-process z pb′ k = rw z (with-all ps ts tb pb′ refl refl refl k)
+    pub append-process : eqb (r .thread) 0 ≡ true → (pb′ : List ℕ) → slotsOf pb′ ≡ onSlots (appended r) (slotsOf (l .processBuffer))
+        → decoded (lent (l .processes) (l .threads) (l .threadBuffer) pb′) ≡ apply (append r) (decoded l)
+    unfolding apply decoded appended
+    append-process z pb′ k = rw z (with-all (lent (l .processes) (l .threads) (l .threadBuffer) pb′) refl refl refl k)
 
-    pub append-thread : eqb (r .thread) 0 ≡ false → (tb′ : List ℕ) → slotsOf tb′ ≡ onSlots (appended r) (slotsOf tb)
-        → storeOf ps ts tb′ pb ≡ apply (append r) (storeOf ps ts tb pb)
-    unfolding apply storeOf appended
-    append-thread z tb′ k = rw z (with-all ps ts tb′ pb refl refl k refl)
+    pub append-thread : eqb (r .thread) 0 ≡ false → (tb′ : List ℕ) → slotsOf tb′ ≡ onSlots (appended r) (slotsOf (l .threadBuffer))
+        → decoded (lent (l .processes) (l .threads) tb′ (l .processBuffer)) ≡ apply (append r) (decoded l)
+    unfolding apply decoded appended
+    append-thread z tb′ k = rw z (with-all (lent (l .processes) (l .threads) tb′ (l .processBuffer)) refl refl k refl)
 
   -- ---- the oldest
 
@@ -55,25 +55,25 @@ module _ (ps ts tb pb : List ℕ) where
     oldest-inside : (b : List ℕ) → k ≡ find (inQueue q s) (recordsOf b) → any (inQueue q s) (recordsOf b) ≡ true → k < length (recordsOf b)
     oldest-inside b here e = rw here (find-any (inQueue q s) (recordsOf b) e)
 
-    module _ (f : fits (view (storeOf ps ts tb pb)) (dropOldest q s) ≡ true) where
-      there : any (inQueue q s) (recordsFor q (storeOf ps ts tb pb)) ≡ true
+    module _ (f : fits (viewOf l) (dropOldest q s) ≡ true) where
+      there : any (inQueue q s) (recordsFor q (decoded l)) ≡ true
       unfolding fits view
-      there = sym (isSome-first (inQueue q s) (recordsFor q (storeOf ps ts tb pb))) ∙ f
+      there = sym (isSome-first (inQueue q s) (recordsFor q (decoded l))) ∙ f
 
-      pub oldest-process : eqb (q .thread) 0 ≡ true → k ≡ find (inQueue q s) (recordsOf pb) → k < length (recordsOf pb)
-      unfolding recordsFor recordsOf storeOf
-      oldest-process z here = oldest-inside pb here (rw z at there)
+      pub oldest-process : eqb (q .thread) 0 ≡ true → k ≡ find (inQueue q s) (recordsOf (l .processBuffer)) → k < length (recordsOf (l .processBuffer))
+      unfolding recordsFor recordsOf decoded
+      oldest-process z here = oldest-inside (l .processBuffer) here (rw z at there)
 
-      pub oldest-thread : eqb (q .thread) 0 ≡ false → k ≡ find (inQueue q s) (recordsOf tb) → k < length (recordsOf tb)
-      unfolding recordsFor recordsOf storeOf
-      oldest-thread z here = oldest-inside tb here (rw z at there)
+      pub oldest-thread : eqb (q .thread) 0 ≡ false → k ≡ find (inQueue q s) (recordsOf (l .threadBuffer)) → k < length (recordsOf (l .threadBuffer))
+      unfolding recordsFor recordsOf decoded
+      oldest-thread z here = oldest-inside (l .threadBuffer) here (rw z at there)
 
-    pub drop-process : eqb (q .thread) 0 ≡ true → k ≡ find (inQueue q s) (recordsOf pb) → (pb′ : List ℕ) → slotsOf pb′ ≡ onSlots (removeAt k) (slotsOf pb)
-        → storeOf ps ts tb pb′ ≡ apply (dropOldest q s) (storeOf ps ts tb pb)
-    unfolding apply storeOf
-    drop-process z here pb′ e = rw z (with-all ps ts tb pb′ refl refl refl (e ∙ oldest-slots pb here))
+    pub drop-process : eqb (q .thread) 0 ≡ true → k ≡ find (inQueue q s) (recordsOf (l .processBuffer)) → (pb′ : List ℕ) → slotsOf pb′ ≡ onSlots (removeAt k) (slotsOf (l .processBuffer))
+        → decoded (lent (l .processes) (l .threads) (l .threadBuffer) pb′) ≡ apply (dropOldest q s) (decoded l)
+    unfolding apply decoded
+    drop-process z here pb′ e = rw z (with-all (lent (l .processes) (l .threads) (l .threadBuffer) pb′) refl refl refl (e ∙ oldest-slots (l .processBuffer) here))
 
-    pub drop-thread : eqb (q .thread) 0 ≡ false → k ≡ find (inQueue q s) (recordsOf tb) → (tb′ : List ℕ) → slotsOf tb′ ≡ onSlots (removeAt k) (slotsOf tb)
-        → storeOf ps ts tb′ pb ≡ apply (dropOldest q s) (storeOf ps ts tb pb)
-    unfolding apply storeOf
-    drop-thread z here tb′ e = rw z (with-all ps ts tb′ pb refl refl (e ∙ oldest-slots tb here) refl)
+    pub drop-thread : eqb (q .thread) 0 ≡ false → k ≡ find (inQueue q s) (recordsOf (l .threadBuffer)) → (tb′ : List ℕ) → slotsOf tb′ ≡ onSlots (removeAt k) (slotsOf (l .threadBuffer))
+        → decoded (lent (l .processes) (l .threads) tb′ (l .processBuffer)) ≡ apply (dropOldest q s) (decoded l)
+    unfolding apply decoded
+    drop-thread z here tb′ e = rw z (with-all (lent (l .processes) (l .threads) tb′ (l .processBuffer)) refl refl (e ∙ oldest-slots (l .threadBuffer) here) refl)

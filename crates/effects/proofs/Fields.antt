@@ -9,38 +9,38 @@ use Rattle.lists.specs.Lists.{find}
 use Rattle.sigset.specs.declared.SigSet.{SigSet}
 use Rattle.types.specs.declared.Action.{Action}
 use Rattle.rules.specs.View.{isProcess, isThread, liveProcess, liveThread, setStopped, setAction, setMask}
-use Rattle.rules.specs.Store.{view, apply}
+use Rattle.rules.specs.Store.{apply}
 use Rattle.tables.specs.Tables.{processesOf, threadsOf, heldProcesses, heldThreads, processAt, threadAt, withField, withThreadField, headed, headTo, threadFrom, threadTo, acted}
-use Rattle.sound.specs.Lent.{storeOf, soundTables}
+use Rattle.sound.specs.Lent.{Lent, lent, decoded, viewOf, soundTables}
 use Rattle.effects.proofs.Places.{with-all, process-changed, thread-changed}
 
-module _ (ps ts tb pb : List ℕ) (e : soundTables ps ts tb pb ≡ true) (n place : ℕ) where
-  module _ (live : liveProcess (view (storeOf ps ts tb pb)) n ≡ true) (here : place ≡ find (isProcess n) (heldProcesses ps)) (ps′ : List ℕ) where
-    pub stopped-store : (b : ℕ) → processesOf ps′ ≡ set (processesOf ps) place (withField processStopped b (processAt ps place))
-        → storeOf ps′ ts tb pb ≡ apply (setStopped n b) (storeOf ps ts tb pb)
-    unfolding apply storeOf withField headed headTo
+module _ (l : Lent) (e : soundTables l ≡ true) (n place : ℕ) where
+  module _ (live : liveProcess (viewOf l) n ≡ true) (here : place ≡ find (isProcess n) (heldProcesses (l .processes))) (ps′ : List ℕ) where
+    pub stopped-store : (b : ℕ) → processesOf ps′ ≡ set (processesOf (l .processes)) place (withField processStopped b (processAt (l .processes) place))
+        → decoded (lent ps′ (l .threads) (l .threadBuffer) (l .processBuffer)) ≡ apply (setStopped n b) (decoded l)
+    unfolding apply decoded withField headed headTo
     stopped-store b k =
-        with-all ps′ ts tb pb
+        with-all (lent ps′ (l .threads) (l .threadBuffer) (l .processBuffer))
         (k
-        ∙ ap (λ i. set (processesOf ps) i (withField processStopped b (processAt ps i))) here
-        ∙ sym (process-changed ps ts tb pb e n live (withField processStopped b)))
+        ∙ ap (λ i. set (processesOf (l .processes)) i (withField processStopped b (processAt (l .processes) i))) here
+        ∙ sym (process-changed l e n live (withField processStopped b)))
         refl refl refl
 
-    pub action-store : (s : ℕ) (a : Action) → processesOf ps′ ≡ set (processesOf ps) place (acted s a (processAt ps place))
-        → storeOf ps′ ts tb pb ≡ apply (setAction n s a) (storeOf ps ts tb pb)
-    unfolding apply storeOf
+    pub action-store : (s : ℕ) (a : Action) → processesOf ps′ ≡ set (processesOf (l .processes)) place (acted s a (processAt (l .processes) place))
+        → decoded (lent ps′ (l .threads) (l .threadBuffer) (l .processBuffer)) ≡ apply (setAction n s a) (decoded l)
+    unfolding apply decoded
     action-store s a k =
-        with-all ps′ ts tb pb
-        (k ∙ ap (λ i. set (processesOf ps) i (acted s a (processAt ps i))) here ∙ sym (process-changed ps ts tb pb e n live (acted s a)))
+        with-all (lent ps′ (l .threads) (l .threadBuffer) (l .processBuffer))
+        (k ∙ ap (λ i. set (processesOf (l .processes)) i (acted s a (processAt (l .processes) i))) here ∙ sym (process-changed l e n live (acted s a)))
         refl refl refl
 
-  module _ (live : liveThread (view (storeOf ps ts tb pb)) n ≡ true) (here : place ≡ find (isThread n) (heldThreads ts)) (ts′ : List ℕ) where
-    pub mask-store : (m : SigSet) → threadsOf ts′ ≡ set (threadsOf ts) place (withThreadField threadMask (m .0) (threadAt ts place))
-        → storeOf ps ts′ tb pb ≡ apply (setMask n m) (storeOf ps ts tb pb)
-    unfolding apply storeOf withThreadField threadFrom threadTo
+  module _ (live : liveThread (viewOf l) n ≡ true) (here : place ≡ find (isThread n) (heldThreads (l .threads))) (ts′ : List ℕ) where
+    pub mask-store : (m : SigSet) → threadsOf ts′ ≡ set (threadsOf (l .threads)) place (withThreadField threadMask (m .0) (threadAt (l .threads) place))
+        → decoded (lent (l .processes) ts′ (l .threadBuffer) (l .processBuffer)) ≡ apply (setMask n m) (decoded l)
+    unfolding apply decoded withThreadField threadFrom threadTo
     mask-store m k =
-        with-all ps ts′ tb pb refl
+        with-all (lent (l .processes) ts′ (l .threadBuffer) (l .processBuffer)) refl
         (k
-        ∙ ap (λ i. set (threadsOf ts) i (withThreadField threadMask (m .0) (threadAt ts i))) here
-        ∙ sym (thread-changed ps ts tb pb e n live (withThreadField threadMask (m .0))))
+        ∙ ap (λ i. set (threadsOf (l .threads)) i (withThreadField threadMask (m .0) (threadAt (l .threads) i))) here
+        ∙ sym (thread-changed l e n live (withThreadField threadMask (m .0))))
         refl refl

@@ -1,5 +1,6 @@
 pub mod Chain
 pub mod After
+pub mod Makes
 pub mod Stores
 mod Fitted
 pub mod Places

@@ -20,7 +20,7 @@ use Rattle.rules.specs.Store.{Place, held, freeProcess, freeThread, mapMarks, v
 use Rattle.rules.proofs.Marks.{placeWhere, where-below, where-passes}
 use Rattle.queue.specs.Queue.{slotsOf}
 use Rattle.tables.specs.Tables.{processesOf, threadsOf, heldProcesses, heldThreads, processAt, threadAt}
-use Rattle.sound.specs.Lent.{storeOf, soundTables}
+use Rattle.sound.specs.Lent.{Lent, decoded, viewOf, soundTables}
 use Rattle.sound.proofs.Facts.{one-process, one-thread, process-found, thread-found}
 
 -- the marks change where the test passes
@@ -54,7 +54,7 @@ module _ {A : Type 0} (d : Place A) (p : A → Bool) (xs : List (Place A)) (live
   marked-place t h n y =
       map-only passes d (λ x. x) (withMarksIf t h) (λ x f. marks-kept t h x (n (x .holds) f)) xs (find p (map held xs)) few (where-below d p xs live)
       (where-passes d p xs live)
-      ∙ ap (λ l. set l (find p (map held xs)) (withMarksIf t h (placeWhere d p xs))) (map-id xs)
+      ∙ ap (λ xs′. set xs′ (find p (map held xs)) (withMarksIf t h (placeWhere d p xs))) (map-id xs)
       ∙ ap (λ m. set xs (find p (map held xs)) (record { holds = placeWhere d p xs .holds; marks = m })) (cond-true (h (placeWhere d p xs .marks)) (placeWhere d p xs .marks) y)
 
 pub unmarked-places : {A : Type 0} (t : A → Bool) (h : SigSet → SigSet) (xs : List (Place A)) → All (λ x. t (x .holds) ≡ false) xs → marksWhere t h xs ≡ xs
@@ -68,30 +68,30 @@ filled-place p a xs = ap (λ i. set xs i a) (find-map p held xs) ∙ sym (replac
 
 -- ---- the store, by its four tables
 
-module _ (ps ts tb pb : List ℕ) where
-  pub with-all : {xs : List (Place Process)} {ys : List (Place Thread)} {rs qs : List Siginfo} → processesOf ps ≡ xs → threadsOf ts ≡ ys
-      → slotsOf tb ≡ rs → slotsOf pb ≡ qs → storeOf ps ts tb pb ≡ record { processes = xs; threads = ys; threadBuffer = rs; processBuffer = qs }
-  unfolding storeOf
+module _ (l : Lent) where
+  pub with-all : {xs : List (Place Process)} {ys : List (Place Thread)} {rs qs : List Siginfo} → processesOf (l .processes) ≡ xs → threadsOf (l .threads) ≡ ys
+      → slotsOf (l .threadBuffer) ≡ rs → slotsOf (l .processBuffer) ≡ qs → decoded l ≡ record { processes = xs; threads = ys; threadBuffer = rs; processBuffer = qs }
+  unfolding decoded
   with-all p t r q = λ i. record { processes = p i; threads = t i; threadBuffer = r i; processBuffer = q i }
 
 -- ---- the place of a live process or thread in sound tables
 
-module _ (ps ts tb pb : List ℕ) where
-  pub process-inside : (n place : ℕ) → liveProcess (view (storeOf ps ts tb pb)) n ≡ true → place ≡ find (isProcess n) (heldProcesses ps) → place < processPlaces
-  process-inside n place live here = omega (arith, process-found ps ts tb pb n live)
+module _ (l : Lent) where
+  pub process-inside : (n place : ℕ) → liveProcess (viewOf l) n ≡ true → place ≡ find (isProcess n) (heldProcesses (l .processes)) → place < processPlaces
+  process-inside n place live here = omega (arith, process-found l n live)
 
-  pub thread-inside : (n place : ℕ) → liveThread (view (storeOf ps ts tb pb)) n ≡ true → place ≡ find (isThread n) (heldThreads ts) → place < threadPlaces
-  thread-inside n place live here = omega (arith, thread-found ps ts tb pb n live)
+  pub thread-inside : (n place : ℕ) → liveThread (viewOf l) n ≡ true → place ≡ find (isThread n) (heldThreads (l .threads)) → place < threadPlaces
+  thread-inside n place live here = omega (arith, thread-found l n live)
 
-module _ (ps ts tb pb : List ℕ) (e : soundTables ps ts tb pb ≡ true) where
-  module _ (n : ℕ) (live : liveProcess (view (storeOf ps ts tb pb)) n ≡ true) where
+module _ (l : Lent) (e : soundTables l ≡ true) where
+  module _ (n : ℕ) (live : liveProcess (viewOf l) n ≡ true) where
     pub process-changed : (g : Place Process → Place Process)
-        → change (λ (x : Place Process). isProcess n (x .holds)) g (processesOf ps) ≡ set (processesOf ps) (find (isProcess n) (heldProcesses ps)) (g (processAt ps (find (isProcess n) (heldProcesses ps))))
-    unfolding liveProcess view storeOf
-    process-changed = changed-place freeProcess (isProcess n) (processesOf ps) live (one-process ps ts tb pb e n)
+        → change (λ (x : Place Process). isProcess n (x .holds)) g (processesOf (l .processes)) ≡ set (processesOf (l .processes)) (find (isProcess n) (heldProcesses (l .processes))) (g (processAt (l .processes) (find (isProcess n) (heldProcesses (l .processes)))))
+    unfolding liveProcess view decoded
+    process-changed = changed-place freeProcess (isProcess n) (processesOf (l .processes)) live (one-process l e n)
 
-  module _ (n : ℕ) (live : liveThread (view (storeOf ps ts tb pb)) n ≡ true) where
+  module _ (n : ℕ) (live : liveThread (viewOf l) n ≡ true) where
     pub thread-changed : (g : Place Thread → Place Thread)
-        → change (λ (x : Place Thread). isThread n (x .holds)) g (threadsOf ts) ≡ set (threadsOf ts) (find (isThread n) (heldThreads ts)) (g (threadAt ts (find (isThread n) (heldThreads ts))))
-    unfolding liveThread view storeOf
-    thread-changed = changed-place freeThread (isThread n) (threadsOf ts) live (one-thread ps ts tb pb e n)
+        → change (λ (x : Place Thread). isThread n (x .holds)) g (threadsOf (l .threads)) ≡ set (threadsOf (l .threads)) (find (isThread n) (heldThreads (l .threads))) (g (threadAt (l .threads) (find (isThread n) (heldThreads (l .threads)))))
+    unfolding liveThread view decoded
+    thread-changed = changed-place freeThread (isThread n) (threadsOf (l .threads)) live (one-thread l e n)

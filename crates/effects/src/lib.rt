@@ -2,17 +2,17 @@
 // sound tables stay sound. A table that a change does not touch is lent to it for reading: soundness is of all four.
 ghost use mathlib.Core.Path.{_≡_};
 ghost use mathlib.Core.Bool.{true};
-ghost use mathlib.Core.List.{map};
-ghost use lib.ListN.{length, set, replicate};
+ghost use mathlib.Core.List.{[], _∷_, map};
+ghost use lib.ListN.{length, set};
 ghost use Rattle.limits.specs.Limits.{threadTable, processTable};
 ghost use Rattle.lists.specs.Lists.{any, find};
 ghost use Rattle.rules.specs.View.{isProcess, isThread, belongsTo, targetQueue, forget, removeProcess, removeThread, setStopped, setAction, setMask, setMark, clearMark, append, dropOldest, discard};
-ghost use Rattle.rules.specs.Store.{freeThread, isFreeProcess, isFreeThread, vacate, fill, view, apply, applyAll};
+ghost use Rattle.rules.specs.Store.{freeThread, isFreeProcess, isFreeThread, vacate, fill, apply};
 ghost use Rattle.rules.specs.Actions.{storeChanges};
 ghost use Rattle.rules.specs.Adding.{addedProcess};
-ghost use Rattle.rules.specs.Fitting.{fits, fitsAll};
 ghost use Rattle.tables.specs.Tables.{processesOf, threadsOf, heldProcesses, heldThreads, processAt, threadAt};
-ghost use Rattle.sound.specs.Lent.{storeOf, lengthsAre, soundTables};
+ghost use Rattle.sound.specs.Lent.{decoded, lengthsAre, given, before, after};
+ghost use Rattle.effects.specs.Changes.{ready, changed};
 ghost use Rattle.effects.specs.Effects.{markedBy, withMarking, withMarkingOf, threadOf};
 use limits::PROCESS_MARKS;
 use limits::PROCESS_STOPPED;
@@ -94,10 +94,8 @@ pub fn set_mark(
     thread: u32,
     signal: u32,
 )
-    requires { ⌜ soundTables (now ps) (now ts) (now tb) (now pb) ≡ true ⌝ }
-    requires { ⌜ fits (view (storeOf (now ps) (now ts) (now tb) (now pb))) (setMark (targetQueue process thread) signal) ≡ true ⌝ }
-    ensures { λ _. ⌜ storeOf (now (ps .exit)) (now (ts .exit)) (now (tb .entry)) (now (pb .entry)) ≡ apply (setMark (targetQueue process thread) signal) (storeOf (now (ps .entry)) (now (ts .entry)) (now (tb .entry)) (now (pb .entry))) ⌝ }
-    ensures { λ _. ⌜ soundTables (now (ps .exit)) (now (ts .exit)) (now (tb .entry)) (now (pb .entry)) ≡ true ⌝ }
+    requires { ⌜ ready (setMark (targetQueue process thread) signal ∷ []) ps ts tb pb ⌝ }
+    ensures { λ _. ⌜ changed (setMark (targetQueue process thread) signal ∷ []) ps ts tb pb ⌝ }
 {
     let how = Marking::Adding(SigSet::of_signal(signal));
     if thread == 0 {
@@ -117,10 +115,8 @@ pub fn clear_mark(
     thread: u32,
     signal: u32,
 )
-    requires { ⌜ soundTables (now ps) (now ts) (now tb) (now pb) ≡ true ⌝ }
-    requires { ⌜ fits (view (storeOf (now ps) (now ts) (now tb) (now pb))) (clearMark (targetQueue process thread) signal) ≡ true ⌝ }
-    ensures { λ _. ⌜ storeOf (now (ps .exit)) (now (ts .exit)) (now (tb .entry)) (now (pb .entry)) ≡ apply (clearMark (targetQueue process thread) signal) (storeOf (now (ps .entry)) (now (ts .entry)) (now (tb .entry)) (now (pb .entry))) ⌝ }
-    ensures { λ _. ⌜ soundTables (now (ps .exit)) (now (ts .exit)) (now (tb .entry)) (now (pb .entry)) ≡ true ⌝ }
+    requires { ⌜ ready (clearMark (targetQueue process thread) signal ∷ []) ps ts tb pb ⌝ }
+    ensures { λ _. ⌜ changed (clearMark (targetQueue process thread) signal ∷ []) ps ts tb pb ⌝ }
 {
     let how = Marking::Removing(SigSet::of_signal(signal));
     if thread == 0 {
@@ -134,10 +130,8 @@ pub fn clear_mark(
 
 // A record at the end of its buffer.
 pub fn append(ps: &[u64], ts: &[u64], tb: &mut [u8], pb: &mut [u8], r: Siginfo)
-    requires { ⌜ soundTables (now ps) (now ts) (now tb) (now pb) ≡ true ⌝ }
-    requires { ⌜ fits (view (storeOf (now ps) (now ts) (now tb) (now pb))) (append r) ≡ true ⌝ }
-    ensures { λ _. ⌜ storeOf (now (ps .entry)) (now (ts .entry)) (now (tb .exit)) (now (pb .exit)) ≡ apply (append r) (storeOf (now (ps .entry)) (now (ts .entry)) (now (tb .entry)) (now (pb .entry))) ⌝ }
-    ensures { λ _. ⌜ soundTables (now (ps .entry)) (now (ts .entry)) (now (tb .exit)) (now (pb .exit)) ≡ true ⌝ }
+    requires { ⌜ ready (append r ∷ []) ps ts tb pb ⌝ }
+    ensures { λ _. ⌜ changed (append r ∷ []) ps ts tb pb ⌝ }
 {
     if r.thread == 0 {
         queue::append(pb, r);
@@ -156,10 +150,8 @@ pub fn drop_oldest(
     thread: u32,
     signal: u32,
 )
-    requires { ⌜ soundTables (now ps) (now ts) (now tb) (now pb) ≡ true ⌝ }
-    requires { ⌜ fits (view (storeOf (now ps) (now ts) (now tb) (now pb))) (dropOldest (targetQueue process thread) signal) ≡ true ⌝ }
-    ensures { λ _. ⌜ storeOf (now (ps .entry)) (now (ts .entry)) (now (tb .exit)) (now (pb .exit)) ≡ apply (dropOldest (targetQueue process thread) signal) (storeOf (now (ps .entry)) (now (ts .entry)) (now (tb .entry)) (now (pb .entry))) ⌝ }
-    ensures { λ _. ⌜ soundTables (now (ps .entry)) (now (ts .entry)) (now (tb .exit)) (now (pb .exit)) ≡ true ⌝ }
+    requires { ⌜ ready (dropOldest (targetQueue process thread) signal ∷ []) ps ts tb pb ⌝ }
+    ensures { λ _. ⌜ changed (dropOldest (targetQueue process thread) signal ∷ []) ps ts tb pb ⌝ }
 {
     if thread == 0 {
         let k = queue::first_of(pb, process, thread, signal);
@@ -179,10 +171,8 @@ pub fn discard(
     process: u32,
     signals: SigSet,
 )
-    requires { ⌜ soundTables (now ps) (now ts) (now tb) (now pb) ≡ true ⌝ }
-    requires { ⌜ fits (view (storeOf (now ps) (now ts) (now tb) (now pb))) (discard process signals) ≡ true ⌝ }
-    ensures { λ _. ⌜ storeOf (now (ps .exit)) (now (ts .exit)) (now (tb .exit)) (now (pb .exit)) ≡ apply (discard process signals) (storeOf (now (ps .entry)) (now (ts .entry)) (now (tb .entry)) (now (pb .entry))) ⌝ }
-    ensures { λ _. ⌜ soundTables (now (ps .exit)) (now (ts .exit)) (now (tb .exit)) (now (pb .exit)) ≡ true ⌝ }
+    requires { ⌜ ready (discard process signals ∷ []) ps ts tb pb ⌝ }
+    ensures { λ _. ⌜ changed (discard process signals ∷ []) ps ts tb pb ⌝ }
 {
     queue::discard(tb, Discarded::OfSignals(process, signals));
     queue::discard(pb, Discarded::OfSignals(process, signals));
@@ -194,10 +184,8 @@ pub fn discard(
 
 // 1 stops a process, 0 lets it run.
 pub fn set_stopped(ps: &mut [u64], ts: &[u64], tb: &[u8], pb: &[u8], process: u32, stopped: u64)
-    requires { ⌜ soundTables (now ps) (now ts) (now tb) (now pb) ≡ true ⌝ }
-    requires { ⌜ fits (view (storeOf (now ps) (now ts) (now tb) (now pb))) (setStopped process stopped) ≡ true ⌝ }
-    ensures { λ _. ⌜ storeOf (now (ps .exit)) (now (ts .entry)) (now (tb .entry)) (now (pb .entry)) ≡ apply (setStopped process stopped) (storeOf (now (ps .entry)) (now (ts .entry)) (now (tb .entry)) (now (pb .entry))) ⌝ }
-    ensures { λ _. ⌜ soundTables (now (ps .exit)) (now (ts .entry)) (now (tb .entry)) (now (pb .entry)) ≡ true ⌝ }
+    requires { ⌜ ready (setStopped process stopped ∷ []) ps ts tb pb ⌝ }
+    ensures { λ _. ⌜ changed (setStopped process stopped ∷ []) ps ts tb pb ⌝ }
 {
     let place = tables::find_process(ps, process as u64);
     tables::put_field(ps, place, PROCESS_STOPPED, stopped);
@@ -213,10 +201,8 @@ pub fn set_action(
     signal: u32,
     a: Action,
 )
-    requires { ⌜ soundTables (now ps) (now ts) (now tb) (now pb) ≡ true ⌝ }
-    requires { ⌜ fits (view (storeOf (now ps) (now ts) (now tb) (now pb))) (setAction process signal a) ≡ true ⌝ }
-    ensures { λ _. ⌜ storeOf (now (ps .exit)) (now (ts .entry)) (now (tb .entry)) (now (pb .entry)) ≡ apply (setAction process signal a) (storeOf (now (ps .entry)) (now (ts .entry)) (now (tb .entry)) (now (pb .entry))) ⌝ }
-    ensures { λ _. ⌜ soundTables (now (ps .exit)) (now (ts .entry)) (now (tb .entry)) (now (pb .entry)) ≡ true ⌝ }
+    requires { ⌜ ready (setAction process signal a ∷ []) ps ts tb pb ⌝ }
+    ensures { λ _. ⌜ changed (setAction process signal a ∷ []) ps ts tb pb ⌝ }
 {
     let place = tables::find_process(ps, process as u64);
     tables::put_action(ps, place, signal, a);
@@ -232,10 +218,8 @@ pub fn store_action(
     signal: u32,
     a: Action,
 )
-    requires { ⌜ soundTables (now ps) (now ts) (now tb) (now pb) ≡ true ⌝ }
-    requires { ⌜ fitsAll (storeChanges process signal a) (storeOf (now ps) (now ts) (now tb) (now pb)) ≡ true ⌝ }
-    ensures store { λ _. ⌜ storeOf (now (ps .exit)) (now (ts .exit)) (now (tb .exit)) (now (pb .exit)) ≡ applyAll (storeChanges process signal a) (storeOf (now (ps .entry)) (now (ts .entry)) (now (tb .entry)) (now (pb .entry))) ⌝ }
-    ensures sound { λ _. ⌜ soundTables (now (ps .exit)) (now (ts .exit)) (now (tb .exit)) (now (pb .exit)) ≡ true ⌝ }
+    requires { ⌜ ready (storeChanges process signal a) ps ts tb pb ⌝ }
+    ensures { λ _. ⌜ changed (storeChanges process signal a) ps ts tb pb ⌝ }
 {
     if decide::is_ignored(a, signal) {
         discard(ps, ts, tb, pb, process, SigSet::of_signal(signal));
@@ -247,10 +231,8 @@ pub fn store_action(
 
 // The mask of a thread.
 pub fn set_mask(ps: &[u64], ts: &mut [u64], tb: &[u8], pb: &[u8], thread: u32, mask: SigSet)
-    requires { ⌜ soundTables (now ps) (now ts) (now tb) (now pb) ≡ true ⌝ }
-    requires { ⌜ fits (view (storeOf (now ps) (now ts) (now tb) (now pb))) (setMask thread mask) ≡ true ⌝ }
-    ensures { λ _. ⌜ storeOf (now (ps .entry)) (now (ts .exit)) (now (tb .entry)) (now (pb .entry)) ≡ apply (setMask thread mask) (storeOf (now (ps .entry)) (now (ts .entry)) (now (tb .entry)) (now (pb .entry))) ⌝ }
-    ensures { λ _. ⌜ soundTables (now (ps .entry)) (now (ts .exit)) (now (tb .entry)) (now (pb .entry)) ≡ true ⌝ }
+    requires { ⌜ ready (setMask thread mask ∷ []) ps ts tb pb ⌝ }
+    ensures { λ _. ⌜ changed (setMask thread mask ∷ []) ps ts tb pb ⌝ }
 {
     let place = tables::find_thread(ts, thread as u64);
     tables::put_thread_field(ts, place, THREAD_MASK, mask.0);
@@ -294,10 +276,8 @@ fn vacate_threads(ts: &mut [u64], process: u32)
 
 // A process goes, with its threads and all that is pending for it and for them.
 pub fn remove_process(ps: &mut [u64], ts: &mut [u64], tb: &mut [u8], pb: &mut [u8], process: u32)
-    requires { ⌜ soundTables (now ps) (now ts) (now tb) (now pb) ≡ true ⌝ }
-    requires { ⌜ fits (view (storeOf (now ps) (now ts) (now tb) (now pb))) (removeProcess process) ≡ true ⌝ }
-    ensures { λ _. ⌜ storeOf (now (ps .exit)) (now (ts .exit)) (now (tb .exit)) (now (pb .exit)) ≡ apply (removeProcess process) (storeOf (now (ps .entry)) (now (ts .entry)) (now (tb .entry)) (now (pb .entry))) ⌝ }
-    ensures { λ _. ⌜ soundTables (now (ps .exit)) (now (ts .exit)) (now (tb .exit)) (now (pb .exit)) ≡ true ⌝ }
+    requires { ⌜ ready (removeProcess process ∷ []) ps ts tb pb ⌝ }
+    ensures { λ _. ⌜ changed (removeProcess process ∷ []) ps ts tb pb ⌝ }
 {
     let place = tables::find_process(ps, process as u64);
     tables::clear_process(ps, place);
@@ -308,10 +288,8 @@ pub fn remove_process(ps: &mut [u64], ts: &mut [u64], tb: &mut [u8], pb: &mut [u
 
 // A thread goes, with all that is pending for it.
 pub fn remove_thread(ps: &[u64], ts: &mut [u64], tb: &mut [u8], pb: &mut [u8], thread: u32)
-    requires { ⌜ soundTables (now ps) (now ts) (now tb) (now pb) ≡ true ⌝ }
-    requires { ⌜ fits (view (storeOf (now ps) (now ts) (now tb) (now pb))) (removeThread thread) ≡ true ⌝ }
-    ensures { λ _. ⌜ storeOf (now (ps .entry)) (now (ts .exit)) (now (tb .exit)) (now (pb .exit)) ≡ apply (removeThread thread) (storeOf (now (ps .entry)) (now (ts .entry)) (now (tb .entry)) (now (pb .entry))) ⌝ }
-    ensures { λ _. ⌜ soundTables (now (ps .entry)) (now (ts .exit)) (now (tb .exit)) (now (pb .exit)) ≡ true ⌝ }
+    requires { ⌜ ready (removeThread thread ∷ []) ps ts tb pb ⌝ }
+    ensures { λ _. ⌜ changed (removeThread thread ∷ []) ps ts tb pb ⌝ }
 {
     let place = tables::find_thread(ts, thread as u64);
     tables::clear_thread(ts, place);
@@ -321,8 +299,8 @@ pub fn remove_thread(ps: &[u64], ts: &mut [u64], tb: &mut [u8], pb: &mut [u8], t
 
 // All of the store is cleared, whatever it held.
 pub fn forget(ps: &mut [u64], ts: &mut [u64], tb: &mut [u8], pb: &mut [u8])
-    requires { ⌜ lengthsAre (now ps) (now ts) (now tb) (now pb) ≡ true ⌝ }
-    ensures { λ _. ⌜ storeOf (now (ps .exit)) (now (ts .exit)) (now (tb .exit)) (now (pb .exit)) ≡ apply forget (storeOf (now (ps .entry)) (now (ts .entry)) (now (tb .entry)) (now (pb .entry))) ⌝ }
+    requires { ⌜ lengthsAre (given ps ts tb pb) ≡ true ⌝ }
+    ensures { λ _. ⌜ decoded (after ps ts tb pb) ≡ apply forget (decoded (before ps ts tb pb)) ⌝ }
 {
     tables::clear_processes(ps);
     tables::clear_threads(ts);

@@ -2,26 +2,28 @@
 use Prim.Native.Nat.{ℕ}
 use mathlib.Core.Path.{_≡_, refl, sym, ap, _∙_}
 use mathlib.Core.Bool.{Bool, true, false, cond}
-use mathlib.Core.List.{List, [], _∷_}
+use mathlib.Core.List.{[], _∷_}
 use Rattle.lists.specs.Lists.{any}
 use Rattle.siginfo.specs.Bytes.{Bytes}
+use Rattle.lists.proofs.Bools.{and-both}
 use Rattle.rules.specs.Types.{Thread, endProcess, endThread}
-use Rattle.rules.specs.View.{Change, removeProcess, removeThread, liveThread, theThread}
-use Rattle.rules.specs.Store.{Store, view, apply, applyAll}
+use Rattle.rules.specs.View.{removeProcess, removeThread, liveThread, theThread}
+use Rattle.rules.specs.Store.{Store, view}
 use Rattle.rules.specs.Adding.{otherThread, endThreadChanges}
 use Rattle.rules.specs.Refusals.{rows, isClear, esrch, noProcessLive, noThreadLive}
 use Rattle.rules.specs.Calls.{changes, reply}
-use Rattle.rules.specs.Fitting.{fits}
+use Rattle.rules.specs.Fitting.{fits, fitsAll}
 use Rattle.rules.proofs.Marks.{the-thread-id}
 use Rattle.rules.proofs.TakeFits.{end-thread-fits}
 use Rattle.tables.specs.Tables.{heldThreads}
-use Rattle.sound.specs.Lent.{storeOf, soundTables}
+use Rattle.sound.specs.Lent.{Lent, decoded, viewOf, soundTables}
 use Rattle.sound.proofs.Facts.{store-sound}
-use Rattle.effects.proofs.Chain.{one-made, made, starts}
+use Rattle.effects.specs.Changes.{Ready, Changed}
+use Rattle.effects.proofs.Makes.{ready-as, made-as}
 use Rattle.view.specs.Named.{threadNamed}
 use Rattle.types.specs.declared.Reply.the-variants.{Done}
 use Rattle.types.specs.declared.Answer.the-variants.{Refused, Accepted}
-use Rattle.answers.specs.Step.{Lent, lent, decoded, refusalOn, rowsOn, stepOn}
+use Rattle.answers.specs.Step.{refusalOn, rowsOn, stepOn}
 use Rattle.answers.proofs.Endings.{AsLong, rows-given, refused-ends, accepted-ends}
 use Rattle.answers.proofs.Rows.{live-process, live-thread}
 use Rattle.view.proofs.Live.{owner-is}
@@ -30,45 +32,47 @@ use Rattle.ending.proofs.Others.{others-are}
 
 -- ---- a process
 
-module _ (ps ts tb pb : List ℕ) (id n : ℕ) (r : n ≡ rowsOn (esrch (noProcessLive (view (storeOf ps ts tb pb)) id) ∷ []) (lent ps ts tb pb)) where
-  process-number : n ≡ refusalOn (endProcess id) (lent ps ts tb pb)
+module _ (l : Lent) (id n : ℕ) (r : n ≡ rowsOn (esrch (noProcessLive (viewOf l) id) ∷ []) l) where
+  process-number : n ≡ refusalOn (endProcess id) l
   unfolding rows isClear
-  process-number = r ∙ sym (rows-given (endProcess id) (lent ps ts tb pb) refl)
+  process-number = r ∙ sym (rows-given (endProcess id) l refl)
 
   pub process-kept : (n ≡ 0 → ⊥)
-      → (Refused n ≡ stepOn (endProcess id) (lent ps ts tb pb) .1) × (lent ps ts tb pb ≡ stepOn (endProcess id) (lent ps ts tb pb) .0)
-  process-kept = refused-ends (endProcess id) (lent ps ts tb pb) n process-number
+      → (l, Refused n) ≡ stepOn (endProcess id) l
+  process-kept = refused-ends (endProcess id) l n process-number
 
   module _ (z : n ≡ 0) where
-    pub process-can-end : (soundTables ps ts tb pb ≡ true) × (fits (view (storeOf ps ts tb pb)) (removeProcess id) ≡ true)
-    unfolding fits
-    process-can-end = live-process (lent ps ts tb pb) id n r z
+    pub process-can-end : Ready (removeProcess id ∷ []) l
+    unfolding fits fitsAll
+    process-can-end =
+        let h = live-process l id n r z in
+        record { sound = h .0; fit = and-both (h .1) refl }
 
-    pub process-ended : (m : Lent) → AsLong (lent ps ts tb pb) m → Bytes (m .threadBuffer) → Bytes (m .processBuffer)
-        → decoded m ≡ apply (removeProcess id) (storeOf ps ts tb pb)
-        → (Accepted Done ≡ stepOn (endProcess id) (lent ps ts tb pb) .1) × (m ≡ stepOn (endProcess id) (lent ps ts tb pb) .0)
-    unfolding reply changes applyAll
-    process-ended = accepted-ends (endProcess id) (lent ps ts tb pb) (sym process-number ∙ z) Done refl
+    pub process-ended : (m : Lent) → AsLong l m → Bytes (m .threadBuffer) → Bytes (m .processBuffer)
+        → Changed (removeProcess id ∷ []) l m → (m, Accepted Done) ≡ stepOn (endProcess id) l
+    unfolding reply changes
+    process-ended m k bt bp d =
+        accepted-ends (endProcess id) l (sym process-number ∙ z) Done refl m k bt bp (d .store)
 
 -- ---- a thread
 
-module _ (ps ts tb pb : List ℕ) (e : soundTables ps ts tb pb ≡ true) (thread : ℕ) (l : liveThread (view (storeOf ps ts tb pb)) thread ≡ true) where
+module _ (l : Lent) (e : soundTables l ≡ true) (thread : ℕ) (live : liveThread (viewOf l) thread ≡ true) where
   abbrev st : Store
-  st = storeOf ps ts tb pb
+  st = decoded l
 
   abbrev it : Thread
   it = theThread (view st) thread
 
-  module _ (process : ℕ) (o : process ≡ threadNamed ts thread .process) (b : Bool) (h : b ≡ any (isOther process thread) (heldThreads ts)) where
+  module _ (process : ℕ) (o : process ≡ threadNamed (l .threads) thread .process) (b : Bool) (h : b ≡ any (isOther process thread) (heldThreads (l .threads))) where
     owner : process ≡ it .process
-    owner = sym (owner-is ps ts tb pb thread process o)
+    owner = sym (owner-is l thread process o)
 
     its-id : thread ≡ it .id
-    its-id = sym (the-thread-id st thread l)
+    its-id = sym (the-thread-id st thread live)
 
     another : b ≡ any (otherThread (view st) it) (view st .threads)
-    unfolding view storeOf
-    another = h ∙ others-are (view st) it process thread owner its-id (heldThreads ts)
+    unfolding view decoded
+    another = h ∙ others-are (view st) it process thread owner its-id (heldThreads (l .threads))
 
     -- the one change
     removal : (x : Bool) → b ≡ x → endThreadChanges (view st) it ≡ (cond x (removeThread thread) (removeProcess process) ∷ [])
@@ -78,39 +82,36 @@ module _ (ps ts tb pb : List ℕ) (e : soundTables ps ts tb pb ≡ true) (thread
         ∙ ap (λ (m : ℕ). cond x (removeThread m) (removeProcess (it .process)) ∷ []) (sym its-id)
         ∙ ap (λ (m : ℕ). cond x (removeThread thread) (removeProcess m) ∷ []) (sym owner)
 
-    removal-fits : (ch : Change) → endThreadChanges (view st) it ≡ (ch ∷ []) → fits (view st) ch ≡ true
-    removal-fits ch k = starts (endThreadChanges (view st) it) st (end-thread-fits st (store-sound ps ts tb pb e) thread l) ch [] k
+    ending : Ready (endThreadChanges (view st) it) l
+    ending = record { sound = e; fit = end-thread-fits st (store-sound l e) thread live }
 
-    removed : (ch : Change) → endThreadChanges (view st) it ≡ (ch ∷ []) → (st′ : Store) → st′ ≡ apply ch st → st′ ≡ applyAll (endThreadChanges (view st) it) st
-    removed ch k st′ a = made (endThreadChanges (view st) it) st (ch ∷ []) k st′ (one-made ch st st′ a)
+    pub thread-ready : b ≡ true → Ready (removeThread thread ∷ []) l
+    thread-ready k = ready-as ending (removal true k)
 
-    pub thread-fits : b ≡ true → (soundTables ps ts tb pb ≡ true) × (fits (view st) (removeThread thread) ≡ true)
-    thread-fits k = (e, removal-fits (removeThread thread) (removal true k))
+    pub process-ready : b ≡ false → Ready (removeProcess process ∷ []) l
+    process-ready k = ready-as ending (removal false k)
 
-    pub process-fits : b ≡ false → (soundTables ps ts tb pb ≡ true) × (fits (view st) (removeProcess process) ≡ true)
-    process-fits k = (e, removal-fits (removeProcess process) (removal false k))
+    pub thread-removed : b ≡ true → {m : Lent} → Changed (removeThread thread ∷ []) l m → Changed (endThreadChanges (view st) it) l m
+    thread-removed k d = made-as d (removal true k)
 
-    pub thread-removed : b ≡ true → (st′ : Store) → st′ ≡ apply (removeThread thread) st → st′ ≡ applyAll (endThreadChanges (view st) it) st
-    thread-removed k = removed (removeThread thread) (removal true k)
+    pub process-removed : b ≡ false → {m : Lent} → Changed (removeProcess process ∷ []) l m → Changed (endThreadChanges (view st) it) l m
+    process-removed k d = made-as d (removal false k)
 
-    pub process-removed : b ≡ false → (st′ : Store) → st′ ≡ apply (removeProcess process) st → st′ ≡ applyAll (endThreadChanges (view st) it) st
-    process-removed k = removed (removeProcess process) (removal false k)
-
-module _ (ps ts tb pb : List ℕ) (id n : ℕ) (r : n ≡ rowsOn (esrch (noThreadLive (view (storeOf ps ts tb pb)) id) ∷ []) (lent ps ts tb pb)) where
-  thread-number : n ≡ refusalOn (endThread id) (lent ps ts tb pb)
+module _ (l : Lent) (id n : ℕ) (r : n ≡ rowsOn (esrch (noThreadLive (viewOf l) id) ∷ []) l) where
+  thread-number : n ≡ refusalOn (endThread id) l
   unfolding rows isClear
-  thread-number = r ∙ sym (rows-given (endThread id) (lent ps ts tb pb) refl)
+  thread-number = r ∙ sym (rows-given (endThread id) l refl)
 
   pub thread-kept : (n ≡ 0 → ⊥)
-      → (Refused n ≡ stepOn (endThread id) (lent ps ts tb pb) .1) × (lent ps ts tb pb ≡ stepOn (endThread id) (lent ps ts tb pb) .0)
-  thread-kept = refused-ends (endThread id) (lent ps ts tb pb) n thread-number
+      → (l, Refused n) ≡ stepOn (endThread id) l
+  thread-kept = refused-ends (endThread id) l n thread-number
 
   module _ (z : n ≡ 0) where
-    pub thread-can-end : (soundTables ps ts tb pb ≡ true) × (liveThread (view (storeOf ps ts tb pb)) id ≡ true)
-    thread-can-end = live-thread (lent ps ts tb pb) id n r z
+    pub thread-can-end : (soundTables l ≡ true) × (liveThread (viewOf l) id ≡ true)
+    thread-can-end = live-thread l id n r z
 
-    pub thread-ended : (m : Lent) → AsLong (lent ps ts tb pb) m → Bytes (m .threadBuffer) → Bytes (m .processBuffer)
-        → decoded m ≡ applyAll (endThreadChanges (view (storeOf ps ts tb pb)) (theThread (view (storeOf ps ts tb pb)) id)) (storeOf ps ts tb pb)
-        → (Accepted Done ≡ stepOn (endThread id) (lent ps ts tb pb) .1) × (m ≡ stepOn (endThread id) (lent ps ts tb pb) .0)
+    pub thread-ended : (m : Lent) → AsLong l m → Bytes (m .threadBuffer) → Bytes (m .processBuffer)
+        → Changed (endThreadChanges (viewOf l) (theThread (viewOf l) id)) l m → (m, Accepted Done) ≡ stepOn (endThread id) l
     unfolding reply changes
-    thread-ended = accepted-ends (endThread id) (lent ps ts tb pb) (sym thread-number ∙ z) Done refl
+    thread-ended m k bt bp d =
+        accepted-ends (endThread id) l (sym thread-number ∙ z) Done refl m k bt bp (d .store)

@@ -28,7 +28,7 @@ use Rattle.rules.specs.Taking.{canTakeSignal, nextSignal, nextQueue, nextIn, ne
 use Rattle.rules.proofs.Marks.{queue-same, thread-named}
 use Rattle.queue.specs.Queue.{slotsOf, recordsOf}
 use Rattle.queue.proofs.Buffer.{record-read}
-use Rattle.sound.specs.Lent.{storeOf}
+use Rattle.sound.specs.Lent.{Lent, decoded, viewOf}
 use Rattle.types.specs.declared.Next as declared
 use Rattle.types.specs.declared.Next.the-variants as case
 use Rattle.answers.specs.Answers.{nextOf}
@@ -63,13 +63,13 @@ module _ (b : List ℕ) (q : Queue) (s k n : ℕ) (e : k ≡ find (inQueue q s) 
       sym (ap (nextIn v q s) (first-none (inQueue q s) (recordsOf b) (absent-any (inQueue q s) noSiginfo (recordsOf b) n k (sym m) e i)))
 
 -- the buffer that has the queue
-module _ (ps ts tb pb : List ℕ) (p : ℕ) where
-  pub oldest-own : (t s : ℕ) → eqb t 0 ≡ false → first (inQueue (targetQueue p t) s) (recordsOf tb) ≡ view (storeOf ps ts tb pb) .oldest (targetQueue p t) s
-  unfolding view storeOf recordsFor recordsOf
-  oldest-own t s n = ap (λ (x : List Siginfo). first (inQueue (targetQueue p t) s) (used x)) (sym (cond-false (slotsOf pb) (slotsOf tb) n))
+module _ (l : Lent) (p : ℕ) where
+  pub oldest-own : (t s : ℕ) → eqb t 0 ≡ false → first (inQueue (targetQueue p t) s) (recordsOf (l .threadBuffer)) ≡ viewOf l .oldest (targetQueue p t) s
+  unfolding view decoded recordsFor recordsOf
+  oldest-own t s n = ap (λ (x : List Siginfo). first (inQueue (targetQueue p t) s) (used x)) (sym (cond-false (slotsOf (l .processBuffer)) (slotsOf (l .threadBuffer)) n))
 
-  pub oldest-shared : (s : ℕ) → first (inQueue (targetQueue p 0) s) (recordsOf pb) ≡ view (storeOf ps ts tb pb) .oldest (targetQueue p 0) s
-  unfolding view storeOf recordsFor recordsOf
+  pub oldest-shared : (s : ℕ) → first (inQueue (targetQueue p 0) s) (recordsOf (l .processBuffer)) ≡ viewOf l .oldest (targetQueue p 0) s
+  unfolding view decoded recordsFor recordsOf
   oldest-shared s = refl
 
 -- ---- of a thread
@@ -95,37 +95,37 @@ module _ (v : View) (th : Thread) (s : ℕ) (e : s ≡ nextSignal v th) where
         ∙ ap (λ (x : ℕ). nextIn v (nextQueue v th x) x (v .oldest (nextQueue v th x) x)) e
         ∙ sym (cond-false noNext (in-queue v th) (ne-eqb (nextSignal v th) 0 (λ z. n (e ∙ z))))
 
-module _ (ps ts tb pb : List ℕ) (t p s : ℕ) (l : liveThread (view (storeOf ps ts tb pb)) t ≡ true) (o : p ≡ threadNamed ts t .process)
-    (e : s ≡ nextSignal (view (storeOf ps ts tb pb)) (theThread (view (storeOf ps ts tb pb)) t)) (n : (s ≡ 0 → ⊥)) (r : declared.Next) where
-  module _ (own : SigSet) (b : Bool) (h : own ≡ setOf (pendingIn (view (storeOf ps ts tb pb)) (targetQueue p t))) (k : b ≡ has own s) where
-    pends : pendingIn (view (storeOf ps ts tb pb)) (threadQueue (theThread (view (storeOf ps ts tb pb)) t)) s ≡ b
+module _ (l : Lent) (t p s : ℕ) (live : liveThread (viewOf l) t ≡ true) (o : p ≡ threadNamed (l .threads) t .process)
+    (e : s ≡ nextSignal (viewOf l) (theThread (viewOf l) t)) (n : (s ≡ 0 → ⊥)) (r : declared.Next) where
+  module _ (own : SigSet) (b : Bool) (h : own ≡ setOf (pendingIn (viewOf l) (targetQueue p t))) (k : b ≡ has own s) where
+    pends : pendingIn (viewOf l) (threadQueue (theThread (viewOf l) t)) s ≡ b
     pends =
-        ap (λ (q : Queue). pendingIn (view (storeOf ps ts tb pb)) q s) (own-is ps ts tb pb t p o l)
+        ap (λ (q : Queue). pendingIn (viewOf l) q s) (own-is l t p o live)
         ∙ sym
         (k ∙ ap (λ (x : SigSet). has x s) h
-        ∙ has-set (pendingIn (view (storeOf ps ts tb pb)) (targetQueue p t)) s
-        (next-is-signal (view (storeOf ps ts tb pb)) (theThread (view (storeOf ps ts tb pb)) t) s e n))
+        ∙ has-set (pendingIn (viewOf l) (targetQueue p t)) s
+        (next-is-signal (viewOf l) (theThread (viewOf l) t) s e n))
 
-    queue-own : b ≡ true → nextQueue (view (storeOf ps ts tb pb)) (theThread (view (storeOf ps ts tb pb)) t) s ≡ targetQueue p t
+    queue-own : b ≡ true → nextQueue (viewOf l) (theThread (viewOf l) t) s ≡ targetQueue p t
     unfolding nextQueue
     queue-own y =
-        cond-true (threadQueue (theThread (view (storeOf ps ts tb pb)) t)) (processQueue (theThread (view (storeOf ps ts tb pb)) t .process)) (pends ∙ y)
-        ∙ own-is ps ts tb pb t p o l
+        cond-true (threadQueue (theThread (viewOf l) t)) (processQueue (theThread (viewOf l) t .process)) (pends ∙ y)
+        ∙ own-is l t p o live
 
-    queue-shared : b ≡ false → nextQueue (view (storeOf ps ts tb pb)) (theThread (view (storeOf ps ts tb pb)) t) s ≡ targetQueue p 0
+    queue-shared : b ≡ false → nextQueue (viewOf l) (theThread (viewOf l) t) s ≡ targetQueue p 0
     unfolding nextQueue
     queue-shared y =
-        cond-false (threadQueue (theThread (view (storeOf ps ts tb pb)) t)) (processQueue (theThread (view (storeOf ps ts tb pb)) t .process)) (pends ∙ y)
-        ∙ shared-is ps ts tb pb t p o
+        cond-false (threadQueue (theThread (viewOf l) t)) (processQueue (theThread (viewOf l) t .process)) (pends ∙ y)
+        ∙ shared-is l t p o
 
-    pub own-next : b ≡ true → isNextIn (targetQueue p t) s (recordsOf tb) r
-        → nextOf r ≡ next (view (storeOf ps ts tb pb)) (theThread (view (storeOf ps ts tb pb)) t)
+    pub own-next : b ≡ true → isNextIn (targetQueue p t) s (recordsOf (l .threadBuffer)) r
+        → nextOf r ≡ next (viewOf l) (theThread (viewOf l) t)
     own-next y f =
-        f (view (storeOf ps ts tb pb)) ∙ ap (nextIn (view (storeOf ps ts tb pb)) (targetQueue p t) s) (oldest-own ps ts tb pb p t s (thread-named (storeOf ps ts tb pb) t l))
-        ∙ next-from (view (storeOf ps ts tb pb)) (theThread (view (storeOf ps ts tb pb)) t) s e n (targetQueue p t) (queue-own y)
+        f (viewOf l) ∙ ap (nextIn (viewOf l) (targetQueue p t) s) (oldest-own l p t s (thread-named (decoded l) t live))
+        ∙ next-from (viewOf l) (theThread (viewOf l) t) s e n (targetQueue p t) (queue-own y)
 
-    pub shared-next : b ≡ false → isNextIn (targetQueue p 0) s (recordsOf pb) r
-        → nextOf r ≡ next (view (storeOf ps ts tb pb)) (theThread (view (storeOf ps ts tb pb)) t)
+    pub shared-next : b ≡ false → isNextIn (targetQueue p 0) s (recordsOf (l .processBuffer)) r
+        → nextOf r ≡ next (viewOf l) (theThread (viewOf l) t)
     shared-next y f =
-        f (view (storeOf ps ts tb pb)) ∙ ap (nextIn (view (storeOf ps ts tb pb)) (targetQueue p 0) s) (oldest-shared ps ts tb pb p s)
-        ∙ next-from (view (storeOf ps ts tb pb)) (theThread (view (storeOf ps ts tb pb)) t) s e n (targetQueue p 0) (queue-shared y)
+        f (viewOf l) ∙ ap (nextIn (viewOf l) (targetQueue p 0) s) (oldest-shared l p s)
+        ∙ next-from (viewOf l) (theThread (viewOf l) t) s e n (targetQueue p 0) (queue-shared y)

@@ -1,7 +1,6 @@
 // Is each place of the process and of the thread table sound? The first half of the test of the whole store.
 ghost use mathlib.Core.Path.{_≡_};
-ghost use mathlib.Core.Bool.{true};
-ghost use Prim.Native.Nat.{_+_, _*_, _≤_, _<_};
+ghost use Prim.Native.Nat.{_+_, _≤_, _<_};
 ghost use lib.ListN.{length, take, drop};
 ghost use Rattle.limits.specs.Limits.{processPlaces, processTable, threadPlaces, threadTable, signals};
 ghost use Rattle.lists.specs.Lists.{all, any, range};

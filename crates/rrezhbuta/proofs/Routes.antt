@@ -9,7 +9,7 @@ use Rattle.limits.specs.Limits.{EFAULT, EINVAL, callSigmask, callSigreturn, sig
 use Rattle.sigset.specs.Set.{bits}
 use Rattle.types.specs.declared.Answer.{Answer}
 use Rattle.types.specs.declared.Answer.the-variants.{Refused}
-use Rattle.answers.specs.Step.{Lent, lent}
+use Rattle.sound.specs.Lent.{Lent, lent}
 use Rattle.masks.proofs.Masks.{return-is}
 use Rattle.boundary.specs.Boundary.{whereGiven, callsOf, numbered, isCall, errnoOf, written, usable, accepted, serveOn}
 use Rattle.threads.specs.declared.Thread.{Thread}

@@ -11,7 +11,8 @@ use Rattle.sigset.specs.Set.{bits}
 use Rattle.types.specs.declared.Answer.{Answer}
 use Rattle.types.specs.declared.Answer.the-variants.{Refused}
 use Rattle.rules.specs.Types.{mask}
-use Rattle.answers.specs.Step.{Lent, lent, stepOn}
+use Rattle.sound.specs.Lent.{Lent, lent}
+use Rattle.answers.specs.Step.{stepOn}
 use Rattle.boundary.specs.Boundary.{arguments, whereGiven, callsOf, numbered, errnoOf, written, usable, accepted, serveOn}
 use Rattle.threads.specs.declared.Thread.{Thread}
 use Rattle.threads.specs.Records.{withMaskAt, wordsOf, recordsOf}

@@ -14,13 +14,13 @@ use Rattle.sigset.specs.declared.SigSet.{SigSet}
 use Rattle.types.specs.declared.Siginfo.{Siginfo}
 use Rattle.rules.specs.Signals.{stopSignal}
 use Rattle.rules.specs.View.{View, Change, removeProcess, setStopped, setMark, append, discard, targetQueue, queueOf}
-use Rattle.rules.specs.Store.{Store, view}
 use Rattle.types.specs.declared.Reply.the-variants.{Sent}
 use Rattle.rules.specs.Sending.{Generation, generation, infoOf, jobControl, sendChanges, sendAnswer}
 use Rattle.rules.specs.Calls.{send, changes, reply}
-use Rattle.rules.specs.Fitting.{fitsAll}
-use Rattle.answers.specs.Step.{Lent, decoded, refusalOn}
-use Rattle.effects.proofs.Chain.{first-part-fits}
+use Rattle.sound.specs.Lent.{Lent, viewOf}
+use Rattle.answers.specs.Step.{refusalOn}
+use Rattle.effects.specs.Changes.{Ready}
+use Rattle.effects.proofs.Makes.{ready-part}
 use Rattle.sending.specs.Generations.{generationOf}
 use Rattle.sending.specs.JobControl.{controls, discardedBy}
 use Rattle.sending.specs.Decisions.{sendCall, Decided}
@@ -40,12 +40,12 @@ module _ (p s : ℕ) where
       rw (or-fst-false (eqb s SIGCONT) _ n, or-fst-false (eqb s SIGSTOP) _ m, or-snd-false (eqb s SIGSTOP) _ m)
 
   -- what comes after the discard: 1 stops the process, 0 lets it run
-  abbrev pub settling : List Change
-  settling = cond (eqb s SIGCONT || eqb s SIGSTOP) (setStopped p (boolByte (eqb s SIGSTOP)) ∷ []) []
+  abbrev pub stateChange : List Change
+  stateChange = cond (eqb s SIGCONT || eqb s SIGSTOP) (setStopped p (boolByte (eqb s SIGSTOP)) ∷ []) []
 
   -- `x` is what code has of the signals to discard
   module _ (k : controls s ≡ true) (x : SigSet) (h : x ≡ discardedBy s) where
-    pub discards-first : jobControl p s ≡ discard p x ∷ settling
+    pub discards-first : jobControl p s ≡ discard p x ∷ stateChange
     unfolding jobControl controls discardedBy
     discards-first =
         split (eqb s SIGCONT)
@@ -57,8 +57,8 @@ module _ (p s : ℕ) where
         let g : stopSignal s ≡ true = rw (a, b) at k in
         rw (h, a, b, g)))
 
-    pub commits : (eqb s SIGCONT || eqb s SIGSTOP) ≡ true → jobControl p s ≡ discard p x ∷ setStopped p (boolByte (eqb s SIGSTOP)) ∷ []
-    commits t = discards-first ∙ ap (λ (cs : List Change). discard p x ∷ cs) (cond-true _ _ t)
+    pub discards-then-sets : (eqb s SIGCONT || eqb s SIGSTOP) ≡ true → jobControl p s ≡ discard p x ∷ setStopped p (boolByte (eqb s SIGSTOP)) ∷ []
+    discards-then-sets t = discards-first ∙ ap (λ (cs : List Change). discard p x ∷ cs) (cond-true _ _ t)
 
     pub discards-only : (eqb s SIGCONT || eqb s SIGSTOP) ≡ false → jobControl p s ≡ discard p x ∷ []
     discards-only n = discards-first ∙ ap (λ (cs : List Change). discard p x ∷ cs) (cond-false _ _ n)
@@ -83,16 +83,16 @@ module _ (f : declared.Generation) (r : Siginfo) where
   of-keeping e = ap (λ g. sendChanges (generationOf g) r) e
 
 -- every generation but testing and killing begins with job control
-pub control-fits : (f : declared.Generation) (r : Siginfo) (st : Store) → OneOf (2 ∷ 3 ∷ 4 ∷ 5 ∷ 6 ∷ []) (tagOf the-type f)
-    → fitsAll (sendChanges (generationOf f) r) st ≡ true → fitsAll (jobControl (r .process) (r .signal)) st ≡ true
+pub control-ready : (f : declared.Generation) (r : Siginfo) {l : Lent} → OneOf (2 ∷ 3 ∷ 4 ∷ 5 ∷ 6 ∷ []) (tagOf the-type f)
+    → Ready (sendChanges (generationOf f) r) l → Ready (jobControl (r .process) (r .signal)) l
 unfolding sendChanges generationOf
-control-fits cases.Testing r st k h = absurd (miss (2 ∷ 3 ∷ 4 ∷ 5 ∷ 6 ∷ []) 0 tt k)
-control-fits cases.Killing r st k h = absurd (miss (2 ∷ 3 ∷ 4 ∷ 5 ∷ 6 ∷ []) 1 tt k)
-control-fits cases.Stopping r st k h = h
-control-fits cases.Dropping r st k h = h
-control-fits cases.Absorbing r st k h = h
-control-fits cases.Marking r st k h = first-part-fits (jobControl (r .process) (r .signal)) (setMark (queueOf r) (r .signal) ∷ []) st h
-control-fits cases.Keeping r st k h = first-part-fits (jobControl (r .process) (r .signal)) (append r ∷ []) st h
+control-ready cases.Testing r k h = absurd (miss (2 ∷ 3 ∷ 4 ∷ 5 ∷ 6 ∷ []) 0 tt k)
+control-ready cases.Killing r k h = absurd (miss (2 ∷ 3 ∷ 4 ∷ 5 ∷ 6 ∷ []) 1 tt k)
+control-ready cases.Stopping r k h = h
+control-ready cases.Dropping r k h = h
+control-ready cases.Absorbing r k h = h
+control-ready cases.Marking r k h = ready-part (setMark (queueOf r) (r .signal) ∷ []) h refl
+control-ready cases.Keeping r k h = ready-part (append r ∷ []) h refl
 
 -- stopping, dropping and absorbing: those that neither of the two tests of code names
 pub of-control : (f : declared.Generation) (r : Siginfo) → OneOf (2 ∷ 3 ∷ 4 ∷ 5 ∷ 6 ∷ []) (tagOf the-type f) → OneOf (0 ∷ 1 ∷ 2 ∷ 3 ∷ 4 ∷ []) (tagOf the-type f)
@@ -128,6 +128,6 @@ module _ (l : Lent) (queued : Bool) (by to t s value : ℕ) (d : decided.Decisio
 
   pub when-allowed : (f : declared.Generation) (r : Siginfo) → d ≡ decisions.Allowed f r
       → (refusalOn (sendCall queued by to t s value) l ≡ 0)
-      × ((generationOf f ≡ generation (view (decoded l)) queued (targetQueue to t) s) × (r ≡ infoOf (view (decoded l)) by to t s value))
+      × ((generationOf f ≡ generation (viewOf l) queued (targetQueue to t) s) × (r ≡ infoOf (viewOf l) by to t s value))
   unfolding Decided
   when-allowed f r e = subst (Decided l queued by to t s value) e h

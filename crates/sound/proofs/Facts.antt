@@ -1,7 +1,6 @@
 -- What sound tables give a call: their lengths, buffers laid out, a sound store (and with it every fact of the rules' Facts), room. Assumes nothing.
 use mathlib.Core.Path.{_≡_}
 use mathlib.Core.Bool.{true, _&&_}
-use mathlib.Core.List.{List}
 use Prim.Native.Nat.{ℕ, _≤_, _<_}
 use lib.Dec.{eqb}
 use lib.ListN.{length}
@@ -19,105 +18,105 @@ use Rattle.rules.proofs.Room as rooms
 use Rattle.queue.specs.Queue.{recordsOf, isLaid}
 use Rattle.tables.specs.Tables.{heldProcesses, heldThreads, processAt, threadAt}
 use Rattle.tables.proofs.Words.{length-heldProcesses, length-heldThreads}
-use Rattle.sound.specs.Lent.{storeOf, lengthsAre, soundTables}
+use Rattle.sound.specs.Lent.{Lent, decoded, viewOf, lengthsAre, soundTables}
 
 -- ---- lengths
 
-module _ (ps ts tb pb : List ℕ) (e : lengthsAre ps ts tb pb ≡ true) where
-  pub right-processes : length ps ≡ processTable
+module _ (l : Lent) (e : lengthsAre l ≡ true) where
+  pub right-processes : length (l .processes) ≡ processTable
   unfolding lengthsAre
-  right-processes = eqb-true (length ps) processTable (and-fst (eqb (length ps) processTable) _ e)
+  right-processes = eqb-true (length (l .processes)) processTable (and-fst (eqb (length (l .processes)) processTable) _ e)
 
-  pub right-threads : length ts ≡ threadTable
+  pub right-threads : length (l .threads) ≡ threadTable
   unfolding lengthsAre
-  right-threads = eqb-true (length ts) threadTable (and-fst (eqb (length ts) threadTable) _ (and-snd (eqb (length ps) processTable) _ e))
+  right-threads = eqb-true (length (l .threads)) threadTable (and-fst (eqb (length (l .threads)) threadTable) _ (and-snd (eqb (length (l .processes)) processTable) _ e))
 
-  right-buffers : (eqb (length tb) bufferBytes && eqb (length pb) bufferBytes) ≡ true
+  right-buffers : (eqb (length (l .threadBuffer)) bufferBytes && eqb (length (l .processBuffer)) bufferBytes) ≡ true
   unfolding lengthsAre
-  right-buffers = and-snd (eqb (length ts) threadTable) _ (and-snd (eqb (length ps) processTable) _ e)
+  right-buffers = and-snd (eqb (length (l .threads)) threadTable) _ (and-snd (eqb (length (l .processes)) processTable) _ e)
 
-  pub right-thread-buffer : length tb ≡ bufferBytes
-  right-thread-buffer = eqb-true (length tb) bufferBytes (and-fst (eqb (length tb) bufferBytes) (eqb (length pb) bufferBytes) right-buffers)
+  pub right-thread-buffer : length (l .threadBuffer) ≡ bufferBytes
+  right-thread-buffer = eqb-true (length (l .threadBuffer)) bufferBytes (and-fst (eqb (length (l .threadBuffer)) bufferBytes) (eqb (length (l .processBuffer)) bufferBytes) right-buffers)
 
-  pub right-process-buffer : length pb ≡ bufferBytes
-  right-process-buffer = eqb-true (length pb) bufferBytes (and-snd (eqb (length tb) bufferBytes) (eqb (length pb) bufferBytes) right-buffers)
+  pub right-process-buffer : length (l .processBuffer) ≡ bufferBytes
+  right-process-buffer = eqb-true (length (l .processBuffer)) bufferBytes (and-snd (eqb (length (l .threadBuffer)) bufferBytes) (eqb (length (l .processBuffer)) bufferBytes) right-buffers)
 
 -- tables that are as long as those
-pub as-long : (ps ts tb pb ps′ ts′ tb′ pb′ : List ℕ) → length ps′ ≡ length ps → length ts′ ≡ length ts → length tb′ ≡ length tb → length pb′ ≡ length pb
-    → lengthsAre ps ts tb pb ≡ true → lengthsAre ps′ ts′ tb′ pb′ ≡ true
+pub as-long : (l l′ : Lent) → length (l′ .processes) ≡ length (l .processes) → length (l′ .threads) ≡ length (l .threads) → length (l′ .threadBuffer) ≡ length (l .threadBuffer) → length (l′ .processBuffer) ≡ length (l .processBuffer)
+    → lengthsAre l ≡ true → lengthsAre l′ ≡ true
 unfolding lengthsAre
-as-long ps ts tb pb ps′ ts′ tb′ pb′ p t b q e = rw (p, t, b, q) e
+as-long l l′ p t b q e = rw (p, t, b, q) e
 
-module _ (ps ts tb pb : List ℕ) (e : soundTables ps ts tb pb ≡ true) where
-  pub right-lengths : lengthsAre ps ts tb pb ≡ true
+module _ (l : Lent) (e : soundTables l ≡ true) where
+  pub right-lengths : lengthsAre l ≡ true
   unfolding soundTables
-  right-lengths = and-fst (lengthsAre ps ts tb pb) _ e
+  right-lengths = and-fst (lengthsAre l) _ e
 
-  pub store-sound : sound (storeOf ps ts tb pb) ≡ true
+  pub store-sound : sound (decoded l) ≡ true
   unfolding soundTables
-  store-sound = and-snd (lengthsAre ps ts tb pb) _ e
+  store-sound = and-snd (lengthsAre l) _ e
 
-  pub processes-long : length ps ≡ processTable
-  processes-long = right-processes ps ts tb pb right-lengths
+  pub processes-long : length (l .processes) ≡ processTable
+  processes-long = right-processes l right-lengths
 
-  pub threads-long : length ts ≡ threadTable
-  threads-long = right-threads ps ts tb pb right-lengths
+  pub threads-long : length (l .threads) ≡ threadTable
+  threads-long = right-threads l right-lengths
 
-  pub thread-buffer-long : length tb ≡ bufferBytes
-  thread-buffer-long = right-thread-buffer ps ts tb pb right-lengths
+  pub thread-buffer-long : length (l .threadBuffer) ≡ bufferBytes
+  thread-buffer-long = right-thread-buffer l right-lengths
 
-  pub process-buffer-long : length pb ≡ bufferBytes
-  process-buffer-long = right-process-buffer ps ts tb pb right-lengths
+  pub process-buffer-long : length (l .processBuffer) ≡ bufferBytes
+  process-buffer-long = right-process-buffer l right-lengths
 
   -- ---- buffers
 
-  pub thread-buffer-laid : isLaid tb ≡ true
-  unfolding isLaid storeOf
-  thread-buffer-laid = and-both (eq-eqb (length tb) bufferBytes thread-buffer-long) (rule.thread-rest (storeOf ps ts tb pb) store-sound)
+  pub thread-buffer-laid : isLaid (l .threadBuffer) ≡ true
+  unfolding isLaid decoded
+  thread-buffer-laid = and-both (eq-eqb (length (l .threadBuffer)) bufferBytes thread-buffer-long) (rule.thread-rest (decoded l) store-sound)
 
-  pub process-buffer-laid : isLaid pb ≡ true
-  unfolding isLaid storeOf
-  process-buffer-laid = and-both (eq-eqb (length pb) bufferBytes process-buffer-long) (rule.process-rest (storeOf ps ts tb pb) store-sound)
+  pub process-buffer-laid : isLaid (l .processBuffer) ≡ true
+  unfolding isLaid decoded
+  process-buffer-laid = and-both (eq-eqb (length (l .processBuffer)) bufferBytes process-buffer-long) (rule.process-rest (decoded l) store-sound)
 
   -- a process below its limit finds a free slot in either buffer
-  pub room : (p : ℕ) → liveProcess (view (storeOf ps ts tb pb)) p ≡ true → queuedIn (storeOf ps ts tb pb) p < recordLimit
-      → (length (recordsOf tb) < bufferRecords) × (length (recordsOf pb) < bufferRecords)
-  unfolding recordsOf storeOf
-  room p l q = rooms.room (storeOf ps ts tb pb) store-sound p l q
+  pub room : (p : ℕ) → liveProcess (viewOf l) p ≡ true → queuedIn (decoded l) p < recordLimit
+      → (length (recordsOf (l .threadBuffer)) < bufferRecords) × (length (recordsOf (l .processBuffer)) < bufferRecords)
+  unfolding recordsOf decoded
+  room p live q = rooms.room (decoded l) store-sound p live q
 
   -- ---- places
 
-  pub one-process : (n : ℕ) → count (isProcess n) (heldProcesses ps) ≤ 1
-  unfolding storeOf view
-  one-process = rule.one-process (storeOf ps ts tb pb) store-sound
+  pub one-process : (n : ℕ) → count (isProcess n) (heldProcesses (l .processes)) ≤ 1
+  unfolding decoded view
+  one-process = rule.one-process (decoded l) store-sound
 
-  pub one-thread : (n : ℕ) → count (isThread n) (heldThreads ts) ≤ 1
-  unfolding storeOf view
-  one-thread = rule.one-thread (storeOf ps ts tb pb) store-sound
+  pub one-thread : (n : ℕ) → count (isThread n) (heldThreads (l .threads)) ≤ 1
+  unfolding decoded view
+  one-thread = rule.one-thread (decoded l) store-sound
 
 -- ---- a live id is found, and what is found is the one that the rules mean; this asks no soundness
 
-module _ (ps ts tb pb : List ℕ) where
-  pub process-listed : (n : ℕ) → liveProcess (view (storeOf ps ts tb pb)) n ≡ true → any (isProcess n) (heldProcesses ps) ≡ true
-  unfolding liveProcess view storeOf
-  process-listed n l = l
+module _ (l : Lent) where
+  pub process-listed : (n : ℕ) → liveProcess (viewOf l) n ≡ true → any (isProcess n) (heldProcesses (l .processes)) ≡ true
+  unfolding liveProcess view decoded
+  process-listed n live = live
 
-  pub thread-listed : (n : ℕ) → liveThread (view (storeOf ps ts tb pb)) n ≡ true → any (isThread n) (heldThreads ts) ≡ true
-  unfolding liveThread view storeOf
-  thread-listed n l = l
+  pub thread-listed : (n : ℕ) → liveThread (viewOf l) n ≡ true → any (isThread n) (heldThreads (l .threads)) ≡ true
+  unfolding liveThread view decoded
+  thread-listed n live = live
 
-  pub process-found : (n : ℕ) → liveProcess (view (storeOf ps ts tb pb)) n ≡ true → find (isProcess n) (heldProcesses ps) < processPlaces
-  unfolding liveProcess view storeOf
-  process-found n l = any-inside (isProcess n) (heldProcesses ps) processPlaces (length-heldProcesses ps) l
+  pub process-found : (n : ℕ) → liveProcess (viewOf l) n ≡ true → find (isProcess n) (heldProcesses (l .processes)) < processPlaces
+  unfolding liveProcess view decoded
+  process-found n live = any-inside (isProcess n) (heldProcesses (l .processes)) processPlaces (length-heldProcesses (l .processes)) live
 
-  pub thread-found : (n : ℕ) → liveThread (view (storeOf ps ts tb pb)) n ≡ true → find (isThread n) (heldThreads ts) < threadPlaces
-  unfolding liveThread view storeOf
-  thread-found n l = any-inside (isThread n) (heldThreads ts) threadPlaces (length-heldThreads ts) l
+  pub thread-found : (n : ℕ) → liveThread (viewOf l) n ≡ true → find (isThread n) (heldThreads (l .threads)) < threadPlaces
+  unfolding liveThread view decoded
+  thread-found n live = any-inside (isThread n) (heldThreads (l .threads)) threadPlaces (length-heldThreads (l .threads)) live
 
-  pub process-there : (n : ℕ) → theProcess (view (storeOf ps ts tb pb)) n ≡ processAt ps (find (isProcess n) (heldProcesses ps)) .holds
-  unfolding storeOf
-  process-there n = the-process (storeOf ps ts tb pb) n
+  pub process-there : (n : ℕ) → theProcess (viewOf l) n ≡ processAt (l .processes) (find (isProcess n) (heldProcesses (l .processes))) .holds
+  unfolding decoded
+  process-there n = the-process (decoded l) n
 
-  pub thread-there : (n : ℕ) → theThread (view (storeOf ps ts tb pb)) n ≡ threadAt ts (find (isThread n) (heldThreads ts)) .holds
-  unfolding storeOf
-  thread-there n = the-thread (storeOf ps ts tb pb) n
+  pub thread-there : (n : ℕ) → theThread (viewOf l) n ≡ threadAt (l .threads) (find (isThread n) (heldThreads (l .threads))) .holds
+  unfolding decoded
+  thread-there n = the-thread (decoded l) n

@@ -2,14 +2,13 @@
 ghost use mathlib.Core.Path.{_≡_};
 ghost use mathlib.Core.Bool.{true, _&&_, cond};
 ghost use mathlib.Core.List.{[]};
-ghost use Prim.Native.Nat.{_+_, _≤_, _<_};
+ghost use Prim.Native.Nat.{_≤_, _<_};
 ghost use lib.ListN.{length, getD};
-ghost use Rattle.limits.specs.Limits.{processPlaces, processTable, threadPlaces, threadTable, bufferRecords, bufferBytes, signals};
-ghost use Rattle.lists.specs.Lists.{all, any};
+ghost use Rattle.limits.specs.Limits.{processPlaces, processTable, threadPlaces, threadTable, bufferRecords, bufferBytes};
 ghost use Rattle.rules.specs.View.{threadQueue};
 ghost use Rattle.queue.specs.Queue.{recordsOf};
 ghost use Rattle.tables.specs.Tables.{processesOf, threadsOf, heldProcesses, processAt};
-ghost use Rattle.sound.specs.Lent.{soundTables};
+ghost use Rattle.sound.specs.Lent.{soundTables, before};
 ghost use Rattle.places.specs.Check.{placesOk, tallies, seenSets, ownQueue, isFresh, isDelivered, bumped, noted, onePlace, smallCounts, processPlace, threadPlace, threadRecordOk, processRecordOk, threadRecordsOk, processRecordsOk, withinAt, allWithin, recordsOk};
 use limits::PROCESS_MARKS;
 use limits::PROCESS_PLACES;
@@ -245,7 +244,7 @@ fn records_ok(ps: &[u64], ts: &[u64], tb: &[u8], pb: &[u8]) -> bool
 
 // Is the store sound? Any words, any bytes and any lengths are answered.
 pub fn sound(ps: &[u64], ts: &[u64], tb: &[u8], pb: &[u8]) -> bool
-    ensures { λ r. ⌜ r ≡ soundTables (now (ps .entry)) (now (ts .entry)) (now (tb .entry)) (now (pb .entry)) ⌝ }
+    ensures { λ r. ⌜ r ≡ soundTables (before ps ts tb pb) ⌝ }
 {
     if (ps.len() != PROCESS_TABLE) | (ts.len() != THREAD_TABLE) {
         return false;
@@ -265,7 +264,7 @@ pub fn sound(ps: &[u64], ts: &[u64], tb: &[u8], pb: &[u8]) -> bool
 // The same for a host that links it.
 #[no_mangle]
 pub extern "C" fn rrezhbuta_sound(ps: &[u64], ts: &[u64], tb: &[u8], pb: &[u8]) -> bool
-    ensures { λ r. ⌜ r ≡ soundTables (now (ps .entry)) (now (ts .entry)) (now (tb .entry)) (now (pb .entry)) ⌝ }
+    ensures { λ r. ⌜ r ≡ soundTables (before ps ts tb pb) ⌝ }
 {
     sound(ps, ts, tb, pb)
 }

@@ -10,7 +10,7 @@ use denote.Enum.Declared.{tagOf}
 use Rattle.lists.proofs.Bools.{clash}
 use Rattle.rules.specs.Types.{Thread, take}
 use Rattle.rules.specs.View.{View, liveThread, theThread}
-use Rattle.rules.specs.Store.{view, applyAll}
+use Rattle.rules.specs.Store.{applyAll}
 use Rattle.rules.specs.Taking.{next, takeChanges, takeAnswer}
 use Rattle.rules.specs.Refusals.{esrch, noThreadLive, rows, isClear}
 use Rattle.rules.specs.Calls.{changes, reply}
@@ -21,9 +21,10 @@ use Rattle.types.specs.declared.Taken.the-variants.{Nothing}
 use Rattle.types.specs.declared.Reply.the-variants.{Taken}
 use Rattle.types.specs.declared.Answer.the-variants.{Refused, Accepted}
 use Rattle.answers.specs.Answers.{nextOf}
-use Rattle.answers.specs.Step.{Lent, decoded, refusalOn, rowsOn, stepOn}
+use Rattle.sound.specs.Lent.{Lent, decoded, viewOf, soundTables}
+use Rattle.answers.specs.Step.{refusalOn, rowsOn, stepOn}
 use Rattle.siginfo.proofs.Numbers.{bytes-each}
-use Rattle.answers.proofs.Endings.{isSound, rows-given, refused-ends, accepted-ends}
+use Rattle.answers.proofs.Endings.{rows-given, refused-ends, accepted-ends}
 use Rattle.answers.proofs.Rows.{live-thread}
 use Rattle.types.proofs.Next.{the-type}
 use Rattle.taking.specs.Takes.{isNothing}
@@ -36,9 +37,9 @@ something cases.Nothing (inr e) = clash refl (ap (λ (k : ℕ). eqb k 0) e)
 something (cases.Mark process thread s) e = refl
 something (cases.Record r) e = refl
 
-module _ (l : Lent) (t n : ℕ) (r : n ≡ rowsOn (esrch (noThreadLive (view (decoded l)) t) ∷ []) l) where
+module _ (l : Lent) (t n : ℕ) (r : n ≡ rowsOn (esrch (noThreadLive (viewOf l) t) ∷ []) l) where
   abbrev v : View
-  v = view (decoded l)
+  v = viewOf l
 
   abbrev it : Thread
   it = theThread v t
@@ -47,14 +48,14 @@ module _ (l : Lent) (t n : ℕ) (r : n ≡ rowsOn (esrch (noThreadLive (view (de
   unfolding rows isClear
   refusal-is = r ∙ sym (rows-given (take t) l refl)
 
-  pub take-refused : (n ≡ 0 → ⊥) → (Refused n ≡ stepOn (take t) l .1) × (l ≡ stepOn (take t) l .0)
+  pub take-refused : (n ≡ 0 → ⊥) → (l, Refused n) ≡ stepOn (take t) l
   take-refused z = refused-ends (take t) l n refusal-is z
 
   module _ (z : n ≡ 0) where
     accepted : refusalOn (take t) l ≡ 0
     accepted = sym refusal-is ∙ z
 
-    pub taker-sound : isSound l ≡ true
+    pub taker-sound : soundTables l ≡ true
     taker-sound = live-thread l t n r z .0
 
     pub taker-live : liveThread v t ≡ true
@@ -65,14 +66,14 @@ module _ (l : Lent) (t n : ℕ) (r : n ≡ rowsOn (esrch (noThreadLive (view (de
           → length (m .threadBuffer) ≡ length (l .threadBuffer) → length (m .processBuffer) ≡ length (l .processBuffer)
           → ((i : ℕ) → getD (m .threadBuffer) i 0 < 256) → ((i : ℕ) → getD (m .processBuffer) i 0 < 256)
           → (a : taken.Taken) → a ≡ takeAnswer v it (nextOf x) → decoded m ≡ applyAll (takeChanges v it (nextOf x)) (decoded l)
-          → (Accepted (Taken a) ≡ stepOn (take t) l .1) × (m ≡ stepOn (take t) l .0)
+          → (m, Accepted (Taken a)) ≡ stepOn (take t) l
       unfolding changes reply
       take-made m p q b c bt bp a h d =
           accepted-ends (take t) l accepted (Taken a) (ap Taken (h ∙ ap (takeAnswer v it) k)) m (record { processes = p; threads = q; threadBuffer = b; processBuffer = c })
           (bytes-each (m .threadBuffer) bt) (bytes-each (m .processBuffer) bp) (d ∙ ap (λ y. applyAll (takeChanges v it y) (decoded l)) k)
 
       pub take-nothing : x ≡ cases.Nothing → ((i : ℕ) → getD (l .threadBuffer) i 0 < 256) → ((i : ℕ) → getD (l .processBuffer) i 0 < 256)
-          → (Accepted (Taken Nothing) ≡ stepOn (take t) l .1) × (l ≡ stepOn (take t) l .0)
+          → (l, Accepted (Taken Nothing)) ≡ stepOn (take t) l
       unfolding nextOf takeAnswer takeChanges applyAll
       take-nothing e bt bp =
           take-made l refl refl refl refl bt bp Nothing

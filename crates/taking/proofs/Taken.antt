@@ -2,7 +2,7 @@
 use Prim.Native.Nat.{ℕ, _≤_}
 use mathlib.Core.Path.{_≡_, refl, sym, ap, ap₂, subst, _∙_}
 use mathlib.Core.Bool.{true, false}
-use mathlib.Core.List.{List, _++_}
+use mathlib.Core.List.{_++_}
 use mathlib.Core.Option.{Option, some, none}
 use lib.Dec.{eqb}
 use borrow.Author.Tests.{eqb-false}
@@ -14,24 +14,25 @@ use Rattle.types.specs.declared.Action.{Action}
 use Rattle.types.specs.declared.Siginfo.{Siginfo}
 use Rattle.rules.specs.Types.{Thread, Queue, Next, noNext, nextMark, nextRecord}
 use Rattle.rules.specs.View.{View, actionOf, liveThread, theProcess, theThread, threadAction}
-use Rattle.rules.specs.Store.{Store, view, applyAll}
+use Rattle.rules.specs.Store.{Store, view}
 use Rattle.rules.specs.Taking.{nextSignal, nextQueue, nextIn, next, markInfo, deliver, delivered, takeChanges, takeAnswer}
-use Rattle.rules.specs.Fitting.{fitsAll}
 use Rattle.rules.proofs.Marks.{the-thread-id}
 use Rattle.rules.proofs.TakeFits.{take-fits}
-use Rattle.sound.specs.Lent.{storeOf, soundTables}
+use Rattle.sound.specs.Lent.{Lent, decoded, viewOf, soundTables}
 use Rattle.sound.proofs.Facts.{store-sound}
 use Rattle.answers.specs.Answers.{nextOf}
 use Rattle.types.specs.declared.Taken.{Taken}
 use Rattle.types.specs.declared.Next as declared
 use Rattle.types.specs.declared.Next.the-variants as cases
 use Rattle.effects.specs.Effects.{threadOf}
-use Rattle.effects.proofs.Chain.{first-part-fits, second-part-fits, then-part}
+use Rattle.effects.specs.Changes.{Ready}
+use Rattle.effects.proofs.Makes.{ready-as}
 use Rattle.view.specs.Named.{processNamed, threadNamed}
 use Rattle.view.proofs.Live.{owner-is}
 use Rattle.next.proofs.Nexts.{next-is-signal}
 use Rattle.taking.specs.Takes.{isNothing, infoIn, dequeueChanges}
-use Rattle.effects.proofs.Chain.{all-fit, made}
+use Rattle.effects.specs.Changes.{Ready}
+use Rattle.effects.proofs.Makes.{ready-as}
 
 -- ---- what is taken is a signal
 
@@ -79,49 +80,34 @@ module _ (v : View) (t : Thread) where
   answers (cases.Record r) n = refl
 
 -- all that the code has of a take before it changes anything: whom it takes for, what is next, its record, its action
-pub record Ready (st : Store) (t u : Thread) (x : declared.Next) (r : Siginfo) (a : Action) : Type 0 where
-  pub fitting : fitsAll (takeChanges (view st) t (nextOf x)) st ≡ true
-  pub parts : takeChanges (view st) t (nextOf x) ≡ dequeueChanges (nextOf x) ++ deliver u a (r .signal)
-  pub answering : takeAnswer (view st) t (nextOf x) ≡ delivered u a r
+pub record Known (l : Lent) (t u : Thread) (x : declared.Next) (r : Siginfo) (a : Action) : Type 0 where
+  pub ready : Ready (takeChanges (viewOf l) t (nextOf x)) l
+  pub parts : takeChanges (viewOf l) t (nextOf x) ≡ dequeueChanges (nextOf x) ++ deliver u a (r .signal)
+  pub answering : takeAnswer (viewOf l) t (nextOf x) ≡ delivered u a r
 
-module _ {st : Store} {t u : Thread} {x : declared.Next} {r : Siginfo} {a : Action} (d : Ready st t u x r a) where
-  both-fit : fitsAll (dequeueChanges (nextOf x) ++ deliver u a (r .signal)) st ≡ true
-  both-fit = all-fit (takeChanges (view st) t (nextOf x)) st (d .fitting) (dequeueChanges (nextOf x) ++ deliver u a (r .signal)) (d .parts)
-
-  pub dequeue-fits : fitsAll (dequeueChanges (nextOf x)) st ≡ true
-  dequeue-fits = first-part-fits (dequeueChanges (nextOf x)) (deliver u a (r .signal)) st both-fit
-
-  module _ (st′ : Store) (e : st′ ≡ applyAll (dequeueChanges (nextOf x)) st) where
-    pub delivering-fits : fitsAll (deliver u a (r .signal)) st′ ≡ true
-    delivering-fits = second-part-fits (dequeueChanges (nextOf x)) (deliver u a (r .signal)) st st′ e both-fit
-
-    pub taken : (st″ : Store) → st″ ≡ applyAll (deliver u a (r .signal)) st′ → st″ ≡ applyAll (takeChanges (view st) t (nextOf x)) st
-    taken st″ h =
-        made (takeChanges (view st) t (nextOf x)) st (dequeueChanges (nextOf x) ++ deliver u a (r .signal)) (d .parts) st″
-        (then-part (dequeueChanges (nextOf x)) (deliver u a (r .signal)) st st′ e st″ h)
-
-  -- of the thread, the answer reads the mask alone
-  pub answered : (z : Taken) → z ≡ delivered (threadOf 0 0 (u .mask)) a r → z ≡ takeAnswer (view st) t (nextOf x)
-  unfolding delivered
-  answered z h = h ∙ sym (d .answering)
+-- of the thread, the answer reads the mask alone
+pub answered : {l : Lent} {t u : Thread} {x : declared.Next} {r : Siginfo} {a : Action} → Known l t u x r a
+    → (z : Taken) → z ≡ delivered (threadOf 0 0 (u .mask)) a r → z ≡ takeAnswer (viewOf l) t (nextOf x)
+unfolding delivered
+answered d z h = h ∙ sym (d .answering)
 
 -- ---- sound tables, and what is read of them for a live thread
 
-module _ (ps ts tb pb : List ℕ) (e : soundTables ps ts tb pb ≡ true) (thread : ℕ) (l : liveThread (view (storeOf ps ts tb pb)) thread ≡ true) where
+module _ (l : Lent) (e : soundTables l ≡ true) (thread : ℕ) (live : liveThread (viewOf l) thread ≡ true) where
   abbrev st : Store
-  st = storeOf ps ts tb pb
+  st = decoded l
 
   abbrev t : Thread
   t = theThread (view st) thread
 
-  module _ (p : ℕ) (i : p ≡ threadNamed ts thread .process) where
-    thread-read : (m : SigSet) → m ≡ threadNamed ts thread .mask → t ≡ threadOf thread p m
-    unfolding theThread view storeOf
-    thread-read m k = λ j. threadOf (the-thread-id st thread l j) (owner-is ps ts tb pb thread p i j) (sym k j)
+  module _ (p : ℕ) (i : p ≡ threadNamed (l .threads) thread .process) where
+    thread-read : (m : SigSet) → m ≡ threadNamed (l .threads) thread .mask → t ≡ threadOf thread p m
+    unfolding theThread view decoded
+    thread-read m k = λ j. threadOf (the-thread-id st thread live j) (owner-is l thread p i j) (sym k j)
 
-    action-read : (s : ℕ) (a : Action) → a ≡ actionOf (processNamed ps p) s → a ≡ threadAction (view st) t s
-    unfolding threadAction theProcess theThread view storeOf
-    action-read s a g = g ∙ ap (λ (n : ℕ). actionOf (processNamed ps n) s) i
+    action-read : (s : ℕ) (a : Action) → a ≡ actionOf (processNamed (l .processes) p) s → a ≡ threadAction (view st) t s
+    unfolding threadAction theProcess theThread view decoded
+    action-read s a g = g ∙ ap (λ (n : ℕ). actionOf (processNamed (l .processes) n) s) i
 
   module _ (x : declared.Next) (n : nextOf x ≡ next (view st) t) (y : isNothing (nextOf x) ≡ false) (r : Siginfo) (h : r ≡ infoIn (nextOf x)) where
     pub signal-named : (1 ≤ r .signal) × (r .signal ≤ signals)
@@ -130,14 +116,14 @@ module _ (ps ts tb pb : List ℕ) (e : soundTables ps ts tb pb ≡ true) (thread
         subst Signal (ap signalIn (sym n) ∙ signal-of x ∙ ap (λ (z : Siginfo). z .signal) (sym h)) (next-signal (view st) t (ap isNothing (sym n) ∙ y)) in
         (g .low, g .high)
 
-    pub ready : (p : ℕ) → p ≡ threadNamed ts thread .process → (m : SigSet) → m ≡ threadNamed ts thread .mask → (a : Action) → a ≡ actionOf (processNamed ps p) (r .signal)
-        → Ready st t (threadOf thread p m) x r a
-    ready p i m k a g =
+    pub known : (p : ℕ) → p ≡ threadNamed (l .threads) thread .process → (m : SigSet) → m ≡ threadNamed (l .threads) thread .mask → (a : Action) → a ≡ actionOf (processNamed (l .processes) p) (r .signal)
+        → Known l t (threadOf thread p m) x r a
+    known p i m k a g =
         let v : View = view st in
         let q : t ≡ threadOf thread p m = thread-read p i m k in
         let b : threadAction v t (r .signal) ≡ a = sym (action-read p i (r .signal) a g) in
         record {
-          fitting = ap (λ (z : Next). fitsAll (takeChanges v t z) st) n ∙ take-fits st (store-sound ps ts tb pb e) thread l;
+          ready = ready-as (record { sound = e; fit = take-fits st (store-sound l e) thread live }) (sym (ap (takeChanges v t) n));
           parts =
               takes v t x y
               ∙ ap (λ (z : Siginfo). dequeueChanges (nextOf x) ++ deliver t (threadAction v t (z .signal)) (z .signal)) (sym h)

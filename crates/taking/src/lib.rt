@@ -1,22 +1,19 @@
 // The take.
 ghost use mathlib.Core.Path.{_≡_};
-ghost use mathlib.Core.Bool.{true, false};
 ghost use Rattle.rules.specs.Types as call;
 ghost use Rattle.rules.specs.Signals.{outcome};
-ghost use Rattle.rules.specs.View.{targetQueue, liveThread, theThread};
-ghost use Rattle.rules.specs.Store.{view, applyAll};
-ghost use Rattle.rules.specs.Taking.{markInfo, handlerMask, resets, reset, outcomeChanges, outcomeAnswer, deliver, delivered, takeChanges, takeAnswer};
-ghost use Rattle.rules.specs.Taking.{next as nextFor};
-ghost use Rattle.rules.specs.Fitting.{fitsAll};
-ghost use Rattle.sound.specs.Lent.{storeOf, soundTables};
+ghost use Rattle.rules.specs.View.{targetQueue};
+ghost use Rattle.rules.specs.Taking.{markInfo, handlerMask, resets, reset, outcomeChanges, outcomeAnswer, deliver, delivered};
 ghost use Rattle.answers.specs.Answers.{nextOf};
-ghost use Rattle.answers.specs.Step.{lent, stepOn};
+ghost use Rattle.answers.specs.Step.{stepped};
+ghost use Rattle.effects.specs.Changes.{ready, changed};
 ghost use Rattle.effects.specs.Effects.{threadOf};
-ghost use Rattle.taking.specs.Takes.{outcomeOf, isNothing, infoIn, dequeueChanges, handlerChanges};
+ghost use Rattle.taking.specs.Takes.{outcomeOf, infoIn, dequeueChanges, handlerChanges, takeable, took};
 use limits::KNOWN_FLAGS;
 use limits::SA_NODEFER;
 use limits::SA_RESETHAND;
 use limits::SA_SIGINFO;
+use limits::SIG_DFL;
 use limits::SIGCONT;
 use limits::SIGILL;
 use limits::SIGSTOP;
@@ -24,7 +21,6 @@ use limits::SIGTRAP;
 use limits::SIGTSTP;
 use limits::SIGTTIN;
 use limits::SIGTTOU;
-use limits::SIG_DFL;
 use sigset::SigSet;
 use types::Action;
 use types::Answer;
@@ -77,10 +73,8 @@ fn start_handler(
     a: Action,
     signal: u32,
 )
-    requires { ⌜ soundTables (now ps) (now ts) (now tb) (now pb) ≡ true ⌝ }
-    requires { ⌜ fitsAll (handlerChanges (threadOf thread process mask) a signal) (storeOf (now ps) (now ts) (now tb) (now pb)) ≡ true ⌝ }
-    ensures store { λ _. ⌜ storeOf (now (ps .exit)) (now (ts .exit)) (now (tb .exit)) (now (pb .exit)) ≡ applyAll (handlerChanges (threadOf thread process mask) a signal) (storeOf (now (ps .entry)) (now (ts .entry)) (now (tb .entry)) (now (pb .entry))) ⌝ }
-    ensures sound { λ _. ⌜ soundTables (now (ps .exit)) (now (ts .exit)) (now (tb .exit)) (now (pb .exit)) ≡ true ⌝ }
+    requires { ⌜ ready (handlerChanges (threadOf thread process mask) a signal) ps ts tb pb ⌝ }
+    ensures { λ _. ⌜ changed (handlerChanges (threadOf thread process mask) a signal) ps ts tb pb ⌝ }
 {
     effects::set_mask(ps, ts, tb, pb, thread, handler_mask(mask, a, signal));
     if is_reset(a, signal) {
@@ -121,10 +115,8 @@ fn act_by_default(
     o: Outcome,
     process: u32,
 )
-    requires { ⌜ soundTables (now ps) (now ts) (now tb) (now pb) ≡ true ⌝ }
-    requires { ⌜ fitsAll (outcomeChanges (outcomeOf o) process) (storeOf (now ps) (now ts) (now tb) (now pb)) ≡ true ⌝ }
-    ensures store { λ _. ⌜ storeOf (now (ps .exit)) (now (ts .exit)) (now (tb .exit)) (now (pb .exit)) ≡ applyAll (outcomeChanges (outcomeOf o) process) (storeOf (now (ps .entry)) (now (ts .entry)) (now (tb .entry)) (now (pb .entry))) ⌝ }
-    ensures sound { λ _. ⌜ soundTables (now (ps .exit)) (now (ts .exit)) (now (tb .exit)) (now (pb .exit)) ≡ true ⌝ }
+    requires { ⌜ ready (outcomeChanges (outcomeOf o) process) ps ts tb pb ⌝ }
+    ensures { λ _. ⌜ changed (outcomeChanges (outcomeOf o) process) ps ts tb pb ⌝ }
 {
     match o {
         Outcome::Ignores => {}
@@ -159,10 +151,8 @@ fn deliver(
     a: Action,
     signal: u32,
 )
-    requires { ⌜ soundTables (now ps) (now ts) (now tb) (now pb) ≡ true ⌝ }
-    requires { ⌜ fitsAll (deliver (threadOf thread process mask) a signal) (storeOf (now ps) (now ts) (now tb) (now pb)) ≡ true ⌝ }
-    ensures store { λ _. ⌜ storeOf (now (ps .exit)) (now (ts .exit)) (now (tb .exit)) (now (pb .exit)) ≡ applyAll (deliver (threadOf thread process mask) a signal) (storeOf (now (ps .entry)) (now (ts .entry)) (now (tb .entry)) (now (pb .entry))) ⌝ }
-    ensures sound { λ _. ⌜ soundTables (now (ps .exit)) (now (ts .exit)) (now (tb .exit)) (now (pb .exit)) ≡ true ⌝ }
+    requires { ⌜ ready (deliver (threadOf thread process mask) a signal) ps ts tb pb ⌝ }
+    ensures { λ _. ⌜ changed (deliver (threadOf thread process mask) a signal) ps ts tb pb ⌝ }
 {
     if a.handler == SIG_DFL {
         act_by_default(ps, ts, tb, pb, outcome_of(signal), process);
@@ -184,10 +174,8 @@ fn delivered(mask: SigSet, a: Action, r: Siginfo) -> Taken
 
 // The record or the mark leaves its queue.
 fn dequeue(ps: &mut [u64], ts: &mut [u64], tb: &mut [u8], pb: &mut [u8], next: Next)
-    requires { ⌜ soundTables (now ps) (now ts) (now tb) (now pb) ≡ true ⌝ }
-    requires { ⌜ fitsAll (dequeueChanges (nextOf next)) (storeOf (now ps) (now ts) (now tb) (now pb)) ≡ true ⌝ }
-    ensures store { λ _. ⌜ storeOf (now (ps .exit)) (now (ts .exit)) (now (tb .exit)) (now (pb .exit)) ≡ applyAll (dequeueChanges (nextOf next)) (storeOf (now (ps .entry)) (now (ts .entry)) (now (tb .entry)) (now (pb .entry))) ⌝ }
-    ensures sound { λ _. ⌜ soundTables (now (ps .exit)) (now (ts .exit)) (now (tb .exit)) (now (pb .exit)) ≡ true ⌝ }
+    requires { ⌜ ready (dequeueChanges (nextOf next)) ps ts tb pb ⌝ }
+    ensures { λ _. ⌜ changed (dequeueChanges (nextOf next)) ps ts tb pb ⌝ }
 {
     match next {
         Next::Nothing => {}
@@ -234,12 +222,8 @@ fn take_next(
     thread: u32,
     next: Next,
 ) -> Taken
-    requires { ⌜ soundTables (now ps) (now ts) (now tb) (now pb) ≡ true ⌝ }
-    requires { ⌜ liveThread (view (storeOf (now ps) (now ts) (now tb) (now pb))) thread ≡ true ⌝ }
-    requires { ⌜ nextOf next ≡ nextFor (view (storeOf (now ps) (now ts) (now tb) (now pb))) (theThread (view (storeOf (now ps) (now ts) (now tb) (now pb))) thread) ⌝ }
-    requires { ⌜ isNothing (nextOf next) ≡ false ⌝ }
-    ensures answer { λ r. ⌜ r ≡ takeAnswer (view (storeOf (now (ps .entry)) (now (ts .entry)) (now (tb .entry)) (now (pb .entry)))) (theThread (view (storeOf (now (ps .entry)) (now (ts .entry)) (now (tb .entry)) (now (pb .entry)))) thread) (nextOf next) ⌝ }
-    ensures store { λ r. ⌜ storeOf (now (ps .exit)) (now (ts .exit)) (now (tb .exit)) (now (pb .exit)) ≡ applyAll (takeChanges (view (storeOf (now (ps .entry)) (now (ts .entry)) (now (tb .entry)) (now (pb .entry)))) (theThread (view (storeOf (now (ps .entry)) (now (ts .entry)) (now (tb .entry)) (now (pb .entry)))) thread) (nextOf next)) (storeOf (now (ps .entry)) (now (ts .entry)) (now (tb .entry)) (now (pb .entry))) ⌝ }
+    requires { ⌜ takeable thread (nextOf next) ps ts tb pb ⌝ }
+    ensures { λ r. ⌜ took thread (nextOf next) r ps ts tb pb ⌝ }
 {
     let r = info_of(next);
     let process = view::process_of(ts, thread);
@@ -252,8 +236,7 @@ fn take_next(
 
 // A thread takes its next signal.
 pub fn take(ps: &mut [u64], ts: &mut [u64], tb: &mut [u8], pb: &mut [u8], thread: u32) -> Answer
-    ensures answer { λ r. ⌜ r ≡ stepOn (call.take thread) (lent (now (ps .entry)) (now (ts .entry)) (now (tb .entry)) (now (pb .entry))) .1 ⌝ }
-    ensures tables { λ r. ⌜ lent (now (ps .exit)) (now (ts .exit)) (now (tb .exit)) (now (pb .exit)) ≡ stepOn (call.take thread) (lent (now (ps .entry)) (now (ts .entry)) (now (tb .entry)) (now (pb .entry))) .0 ⌝ }
+    ensures { λ r. ⌜ stepped (call.take thread) r ps ts tb pb ⌝ }
 {
     let n = view::thread_refusal(ps, ts, tb, pb, thread);
     if n != 0 {

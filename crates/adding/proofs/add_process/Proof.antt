@@ -1,6 +1,7 @@
 -- `add_process` meets its contract: refused, or the process and its first thread are in their places. Assumes nothing.
 use native.Mathlib.Omega.{arith}
 use Rattle.siginfo.proofs.Numbers.{bytes-each}
+use Rattle.sound.specs.Lent.{given}
 use Rattle.adding.proofs.Added.{process-refused, process-room, first-thread-room, process-added}
 use borrow.Author.Needs.{needs}
 use Rattle.adding.proofs.add_process.Statement.{statement}
@@ -10,7 +11,7 @@ returns : tie.Need-returns
 returns c =
     let r = c .before in
     let a = r .before .before .before .before .before .before .before .before .before in
-    process-refused (a .args .ps .now) (a .args .ts .now) (a .args .tb .now) (a .args .pb .now)
+    process-refused (given (a .args .ps) (a .args .ts) (a .args .tb) (a .args .pb))
     (a .args .id) (a .args .thread) (r .add-process-refusal .result) (r .add-process-refusal .ensures) (a .args .real) (a .args .effective) (a .args .saved) (a .args .session) (a .args .mask) (c .if1 .taken)
 
 new-process-requires : tie.Need-new-process-requires
@@ -18,7 +19,7 @@ new-process-requires c κs =
     let i = c .before in
     let r = i .before in
     let a = r .before .before .before .before .before .before .before .before .before in
-    process-room (a .args .ps .now) (a .args .ts .now) (a .args .tb .now) (a .args .pb .now)
+    process-room (given (a .args .ps) (a .args .ts) (a .args .tb) (a .args .pb))
     (a .args .id) (a .args .thread) (r .add-process-refusal .result) (r .add-process-refusal .ensures) (i .if1 .left)
 
 new-thread-requires : tie.Need-new-thread-requires
@@ -26,7 +27,7 @@ new-thread-requires c κs =
     let i = c .before .before .before .before .before .before in
     let r = i .before in
     let a = r .before .before .before .before .before .before .before .before .before in
-    first-thread-room (a .args .ps .now) (a .args .ts .now) (a .args .tb .now) (a .args .pb .now)
+    first-thread-room (given (a .args .ps) (a .args .ts) (a .args .tb) (a .args .pb))
     (a .args .id) (a .args .thread) (r .add-process-refusal .result) (r .add-process-refusal .ensures) (i .if1 .left)
 
 returns-2 : tie.Need-returns-2
@@ -37,7 +38,7 @@ returns-2 c =
     let r = i .before in
     let k = r .before .before .before .before .before in
     let a = k .before .before .before .before in
-    process-added (a .args .ps .now) (a .args .ts .now) (a .args .tb .now) (a .args .pb .now)
+    process-added (given (a .args .ps) (a .args .ts) (a .args .tb) (a .args .pb))
     (a .args .id) (a .args .thread) (r .add-process-refusal .result) (r .add-process-refusal .ensures) (a .args .real) (a .args .effective) (a .args .saved) (a .args .session) (a .args .mask)
     (p .new-process .last .0) (t .new-thread .last .0) (t .before .maskable .result) (t .before .maskable .ensures) (p .new-process .ensures) (t .new-thread .ensures)
     (i .if1 .left) (search needs) (search needs)

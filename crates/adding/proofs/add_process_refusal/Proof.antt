@@ -1,6 +1,7 @@
 -- `add_process_refusal` meets its contract: the rows in order. Assumes nothing.
 use mathlib.Core.Path.{sym, _∙_}
 use borrow.Author.Tests.{not-false}
+use Rattle.sound.specs.Lent.{given}
 use Rattle.sound.proofs.Facts.{processes-long, threads-long}
 use Rattle.adding.proofs.ProcessRows.{process-fault, process-bad, process-there, process-full, process-accepted}
 use borrow.Author.Needs.{needs}
@@ -11,14 +12,14 @@ returns : tie.Need-returns
 returns c =
     let s = c .before in
     let a = s .before .before .before .before .before in
-    process-fault (a .args .ps .now) (a .args .ts .now) (a .args .tb .now) (a .args .pb .now) (a .args .id) (a .args .thread) (s .sound .result) (s .sound .ensures) (c .if1 .taken)
+    process-fault (given (a .args .ps) (a .args .ts) (a .args .tb) (a .args .pb)) (a .args .id) (a .args .thread) (s .sound .result) (s .sound .ensures) (c .if1 .taken)
 
 returns-2 : tie.Need-returns-2
 returns-2 c =
     let i = c .before in
     let s = i .before .before .before in
     let a = s .before .before .before .before .before in
-    process-bad (a .args .ps .now) (a .args .ts .now) (a .args .tb .now) (a .args .pb .now)
+    process-bad (given (a .args .ps) (a .args .ts) (a .args .tb) (a .args .pb))
     (a .args .id) (a .args .thread) (s .sound .result) (s .sound .ensures) (i .before .before .if1 .left)
     (i .before .is-id .result) (i .is-id2 .result) (i .before .is-id .ensures) (i .is-id2 .ensures) (c .if2 .taken)
 
@@ -27,14 +28,14 @@ is-process-requires c κs =
     let i = c .before in
     let s = i .before .before .before in
     let a = s .before .before .before .before .before in
-    processes-long (a .args .ps .now) (a .args .ts .now) (a .args .tb .now) (a .args .pb .now) (sym (s .sound .ensures) ∙ not-false (s .sound .result) (i .before .before .if1 .left))
+    processes-long (given (a .args .ps) (a .args .ts) (a .args .tb) (a .args .pb)) (sym (s .sound .ensures) ∙ not-false (s .sound .result) (i .before .before .if1 .left))
 
 is-thread-requires : tie.Need-is-thread-requires
 is-thread-requires c κs =
     let i = c .before .before in
     let s = i .before .before .before in
     let a = s .before .before .before .before .before in
-    threads-long (a .args .ps .now) (a .args .ts .now) (a .args .tb .now) (a .args .pb .now) (sym (s .sound .ensures) ∙ not-false (s .sound .result) (i .before .before .if1 .left))
+    threads-long (given (a .args .ps) (a .args .ts) (a .args .tb) (a .args .pb)) (sym (s .sound .ensures) ∙ not-false (s .sound .result) (i .before .before .if1 .left))
 
 returns-3 : tie.Need-returns-3
 returns-3 c =
@@ -42,7 +43,7 @@ returns-3 c =
     let i = t .before .before .before in
     let s = i .before .before .before in
     let a = s .before .before .before .before .before in
-    process-there (a .args .ps .now) (a .args .ts .now) (a .args .tb .now) (a .args .pb .now)
+    process-there (given (a .args .ps) (a .args .ts) (a .args .tb) (a .args .pb))
     (a .args .id) (a .args .thread) (s .sound .result) (s .sound .ensures) (i .before .before .if1 .left)
     (i .before .is-id .result) (i .is-id2 .result) (i .before .is-id .ensures) (i .is-id2 .ensures) (t .before .before .if2 .left)
     (t .before .is-process .result) (t .is-thread .result) (t .before .is-process .ensures) (t .is-thread .ensures) (c .if3 .taken)
@@ -53,7 +54,7 @@ has-process-place-requires c κs =
     let i = t .before .before .before in
     let s = i .before .before .before in
     let a = s .before .before .before .before .before in
-    processes-long (a .args .ps .now) (a .args .ts .now) (a .args .tb .now) (a .args .pb .now) (sym (s .sound .ensures) ∙ not-false (s .sound .result) (i .before .before .if1 .left))
+    processes-long (given (a .args .ps) (a .args .ts) (a .args .tb) (a .args .pb)) (sym (s .sound .ensures) ∙ not-false (s .sound .result) (i .before .before .if1 .left))
 
 has-thread-place-requires : tie.Need-has-thread-place-requires
 has-thread-place-requires c κs =
@@ -61,7 +62,7 @@ has-thread-place-requires c κs =
     let i = t .before .before .before in
     let s = i .before .before .before in
     let a = s .before .before .before .before .before in
-    threads-long (a .args .ps .now) (a .args .ts .now) (a .args .tb .now) (a .args .pb .now) (sym (s .sound .ensures) ∙ not-false (s .sound .result) (i .before .before .if1 .left))
+    threads-long (given (a .args .ps) (a .args .ts) (a .args .tb) (a .args .pb)) (sym (s .sound .ensures) ∙ not-false (s .sound .result) (i .before .before .if1 .left))
 
 returns-4 : tie.Need-returns-4
 returns-4 c =
@@ -70,7 +71,7 @@ returns-4 c =
     let i = t .before .before .before in
     let s = i .before .before .before in
     let a = s .before .before .before .before .before in
-    process-full (a .args .ps .now) (a .args .ts .now) (a .args .tb .now) (a .args .pb .now)
+    process-full (given (a .args .ps) (a .args .ts) (a .args .tb) (a .args .pb))
     (a .args .id) (a .args .thread) (s .sound .result) (s .sound .ensures) (i .before .before .if1 .left)
     (i .before .is-id .result) (i .is-id2 .result) (i .before .is-id .ensures) (i .is-id2 .ensures) (t .before .before .if2 .left)
     (t .before .is-process .result) (t .is-thread .result) (t .before .is-process .ensures) (t .is-thread .ensures) (q .before .before .if3 .left)
@@ -83,7 +84,7 @@ returns-5 c =
     let i = t .before .before .before in
     let s = i .before .before .before in
     let a = s .before .before .before .before .before in
-    process-accepted (a .args .ps .now) (a .args .ts .now) (a .args .tb .now) (a .args .pb .now)
+    process-accepted (given (a .args .ps) (a .args .ts) (a .args .tb) (a .args .pb))
     (a .args .id) (a .args .thread) (s .sound .result) (s .sound .ensures) (i .before .before .if1 .left)
     (i .before .is-id .result) (i .is-id2 .result) (i .before .is-id .ensures) (i .is-id2 .ensures) (t .before .before .if2 .left)
     (t .before .is-process .result) (t .is-thread .result) (t .before .is-process .ensures) (t .is-thread .ensures) (q .before .before .if3 .left)

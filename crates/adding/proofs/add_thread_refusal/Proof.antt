@@ -1,6 +1,7 @@
 -- `add_thread_refusal` meets its contract: the rows in order. Assumes nothing.
 use mathlib.Core.Path.{sym, _∙_}
 use borrow.Author.Tests.{not-false}
+use Rattle.sound.specs.Lent.{given}
 use Rattle.sound.proofs.Facts.{threads-long}
 use Rattle.adding.proofs.ThreadRows.{thread-fault, thread-bad, thread-gone, thread-there, thread-full, thread-accepted}
 use borrow.Author.Needs.{needs}
@@ -11,14 +12,14 @@ returns : tie.Need-returns
 returns c =
     let s = c .before in
     let a = s .before .before .before .before .before in
-    thread-fault (a .args .ps .now) (a .args .ts .now) (a .args .tb .now) (a .args .pb .now) (a .args .creator) (a .args .id) (s .sound .result) (s .sound .ensures) (c .if1 .taken)
+    thread-fault (given (a .args .ps) (a .args .ts) (a .args .tb) (a .args .pb)) (a .args .creator) (a .args .id) (s .sound .result) (s .sound .ensures) (c .if1 .taken)
 
 returns-2 : tie.Need-returns-2
 returns-2 c =
     let i = c .before in
     let s = i .before .before in
     let a = s .before .before .before .before .before in
-    thread-bad (a .args .ps .now) (a .args .ts .now) (a .args .tb .now) (a .args .pb .now)
+    thread-bad (given (a .args .ps) (a .args .ts) (a .args .tb) (a .args .pb))
     (a .args .creator) (a .args .id) (s .sound .result) (s .sound .ensures) (i .before .if1 .left)
     (i .is-id .result) (i .is-id .ensures) (c .if2 .taken)
 
@@ -27,7 +28,7 @@ is-thread-requires c κs =
     let i = c .before in
     let s = i .before .before in
     let a = s .before .before .before .before .before in
-    threads-long (a .args .ps .now) (a .args .ts .now) (a .args .tb .now) (a .args .pb .now) (sym (s .sound .ensures) ∙ not-false (s .sound .result) (i .before .if1 .left))
+    threads-long (given (a .args .ps) (a .args .ts) (a .args .tb) (a .args .pb)) (sym (s .sound .ensures) ∙ not-false (s .sound .result) (i .before .if1 .left))
 
 returns-3 : tie.Need-returns-3
 returns-3 c =
@@ -35,7 +36,7 @@ returns-3 c =
     let i = t .before .before in
     let s = i .before .before in
     let a = s .before .before .before .before .before in
-    thread-gone (a .args .ps .now) (a .args .ts .now) (a .args .tb .now) (a .args .pb .now)
+    thread-gone (given (a .args .ps) (a .args .ts) (a .args .tb) (a .args .pb))
     (a .args .creator) (a .args .id) (s .sound .result) (s .sound .ensures) (i .before .if1 .left)
     (i .is-id .result) (i .is-id .ensures) (t .before .if2 .left) (t .is-thread .result) (t .is-thread .ensures) (c .if3 .taken)
 
@@ -45,7 +46,7 @@ is-thread-requires-2 c κs =
     let i = t .before .before in
     let s = i .before .before in
     let a = s .before .before .before .before .before in
-    threads-long (a .args .ps .now) (a .args .ts .now) (a .args .tb .now) (a .args .pb .now) (sym (s .sound .ensures) ∙ not-false (s .sound .result) (i .before .if1 .left))
+    threads-long (given (a .args .ps) (a .args .ts) (a .args .tb) (a .args .pb)) (sym (s .sound .ensures) ∙ not-false (s .sound .result) (i .before .if1 .left))
 
 returns-4 : tie.Need-returns-4
 returns-4 c =
@@ -54,7 +55,7 @@ returns-4 c =
     let i = t .before .before in
     let s = i .before .before in
     let a = s .before .before .before .before .before in
-    thread-there (a .args .ps .now) (a .args .ts .now) (a .args .tb .now) (a .args .pb .now)
+    thread-there (given (a .args .ps) (a .args .ts) (a .args .tb) (a .args .pb))
     (a .args .creator) (a .args .id) (s .sound .result) (s .sound .ensures) (i .before .if1 .left)
     (i .is-id .result) (i .is-id .ensures) (t .before .if2 .left) (t .is-thread .result) (t .is-thread .ensures) (u .before .if3 .left)
     (u .is-thread2 .result) (u .is-thread2 .ensures) (c .if4 .taken)
@@ -66,7 +67,7 @@ has-thread-place-requires c κs =
     let i = t .before .before in
     let s = i .before .before in
     let a = s .before .before .before .before .before in
-    threads-long (a .args .ps .now) (a .args .ts .now) (a .args .tb .now) (a .args .pb .now) (sym (s .sound .ensures) ∙ not-false (s .sound .result) (i .before .if1 .left))
+    threads-long (given (a .args .ps) (a .args .ts) (a .args .tb) (a .args .pb)) (sym (s .sound .ensures) ∙ not-false (s .sound .result) (i .before .if1 .left))
 
 returns-5 : tie.Need-returns-5
 returns-5 c =
@@ -76,7 +77,7 @@ returns-5 c =
     let i = t .before .before in
     let s = i .before .before in
     let a = s .before .before .before .before .before in
-    thread-full (a .args .ps .now) (a .args .ts .now) (a .args .tb .now) (a .args .pb .now)
+    thread-full (given (a .args .ps) (a .args .ts) (a .args .tb) (a .args .pb))
     (a .args .creator) (a .args .id) (s .sound .result) (s .sound .ensures) (i .before .if1 .left)
     (i .is-id .result) (i .is-id .ensures) (t .before .if2 .left) (t .is-thread .result) (t .is-thread .ensures) (u .before .if3 .left)
     (u .is-thread2 .result) (u .is-thread2 .ensures) (q .before .if4 .left) (q .has-thread-place .result) (q .has-thread-place .ensures) (c .if5 .taken)
@@ -89,7 +90,7 @@ returns-6 c =
     let i = t .before .before in
     let s = i .before .before in
     let a = s .before .before .before .before .before in
-    thread-accepted (a .args .ps .now) (a .args .ts .now) (a .args .tb .now) (a .args .pb .now)
+    thread-accepted (given (a .args .ps) (a .args .ts) (a .args .tb) (a .args .pb))
     (a .args .creator) (a .args .id) (s .sound .result) (s .sound .ensures) (i .before .if1 .left)
     (i .is-id .result) (i .is-id .ensures) (t .before .if2 .left) (t .is-thread .result) (t .is-thread .ensures) (u .before .if3 .left)
     (u .is-thread2 .result) (u .is-thread2 .ensures) (q .before .if4 .left) (q .has-thread-place .result) (q .has-thread-place .ensures) (c .if5 .left)

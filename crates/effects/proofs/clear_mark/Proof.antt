@@ -2,12 +2,11 @@
 use mathlib.Core.Path.{refl}
 use borrow.Author.Needs.{needs}
 use borrow.Author.Tests.{ne-eqb}
-use Rattle.rules.specs.View.{targetQueue, clearMark}
-use Rattle.rules.specs.Store.{view}
+use Rattle.rules.specs.View.{targetQueue}
 use Rattle.rules.proofs.Queues.{target-process, target-thread, queue-target}
-use Rattle.sound.specs.Lent.{storeOf}
+use Rattle.sound.specs.Lent.{viewOf, given}
 use Rattle.sound.proofs.Facts.{processes-long, threads-long, process-listed, thread-listed}
-use Rattle.effects.proofs.After.{after}
+use Rattle.effects.proofs.Makes.{fits-one, makes}
 use Rattle.effects.proofs.Fitted.{unmark-queue}
 use Rattle.effects.proofs.Queues.{clear-process, clear-thread}
 use Rattle.effects.proofs.clear_mark.Statement.{statement}
@@ -16,27 +15,21 @@ use Rattle.effects.proofs.clear_mark.Tie as tie
 change-process-marks-requires : tie.Need-change-process-marks-requires
 change-process-marks-requires c κs =
     let a = c .before .before .before .before .before .before .before in
-    let ps = a .args .ps .now in
-    let ts = a .args .ts .now in
-    let tb = a .args .tb .now in
-    let pb = a .args .pb .now in
+    let l = given (a .args .ps) (a .args .ts) (a .args .tb) (a .args .pb) in
     let n = a .args .process in
     let t = a .args .thread in
-    let v = view (storeOf ps ts tb pb) in
-    (processes-long ps ts tb pb (a .pre .0), process-listed ps ts tb pb n (target-process v n t (queue-target v n t (unmark-queue v (targetQueue n t) (a .args .signal) (a .pre .1)))))
+    let v = viewOf l in
+    (processes-long l (a .pre .sound), process-listed l n (target-process v n t (queue-target v n t (unmark-queue v (targetQueue n t) (a .args .signal) (fits-one (a .pre))))))
 
 change-thread-marks-requires : tie.Need-change-thread-marks-requires
 change-thread-marks-requires c κs =
     let a = c .before .before .before .before .before .before .before in
-    let ps = a .args .ps .now in
-    let ts = a .args .ts .now in
-    let tb = a .args .tb .now in
-    let pb = a .args .pb .now in
+    let l = given (a .args .ps) (a .args .ts) (a .args .tb) (a .args .pb) in
     let n = a .args .process in
     let t = a .args .thread in
-    let v = view (storeOf ps ts tb pb) in (
-      threads-long ps ts tb pb (a .pre .0),
-      thread-listed ps ts tb pb t (target-thread v n t (queue-target v n t (unmark-queue v (targetQueue n t) (a .args .signal) (a .pre .1))) (ne-eqb t 0 (c .before .if1 .left))),
+    let v = viewOf l in (
+      threads-long l (a .pre .sound),
+      thread-listed l t (target-thread v n t (queue-target v n t (unmark-queue v (targetQueue n t) (a .args .signal) (fits-one (a .pre)))) (ne-eqb t 0 (c .before .if1 .left))),
     )
 
 returns : tie.Need-returns
@@ -45,16 +38,13 @@ returns c =
     let i = w .before .before in
     let o = i .before in
     let a = o .before .before .before .before .before in
-    let ps = a .args .ps .now in
-    let ts = a .args .ts .now in
-    let tb = a .args .tb .now in
-    let pb = a .args .pb .now in
+    let l = given (a .args .ps) (a .args .ts) (a .args .tb) (a .args .pb) in
     let n = a .args .process in
     let t = a .args .thread in
     let s = a .args .signal in
     let ps′ = w .change-process-marks .last .0 in
-    after (clearMark (targetQueue n t) s) ps ts tb pb ps′ ts tb pb (a .pre .0) (a .pre .1) (search needs) refl refl refl
-    (clear-process ps ts tb pb (a .pre .0) n t s (o .of-signal .result) (o .of-signal .ensures) (a .pre .1) (i .if1 .taken) ps′ (w .change-process-marks .ensures))
+    makes (a .pre) (search needs) refl refl refl
+    (clear-process l (a .pre .sound) n t s (o .of-signal .result) (o .of-signal .ensures) (fits-one (a .pre)) (i .if1 .taken) ps′ (w .change-process-marks .ensures))
 
 returns-2 : tie.Need-returns-2
 returns-2 c =
@@ -62,16 +52,13 @@ returns-2 c =
     let i = w .before .before in
     let o = i .before in
     let a = o .before .before .before .before .before in
-    let ps = a .args .ps .now in
-    let ts = a .args .ts .now in
-    let tb = a .args .tb .now in
-    let pb = a .args .pb .now in
+    let l = given (a .args .ps) (a .args .ts) (a .args .tb) (a .args .pb) in
     let n = a .args .process in
     let t = a .args .thread in
     let s = a .args .signal in
     let ts′ = w .change-thread-marks .last .0 in
-    after (clearMark (targetQueue n t) s) ps ts tb pb ps ts′ tb pb (a .pre .0) (a .pre .1) refl (search needs) refl refl
-    (clear-thread ps ts tb pb (a .pre .0) n t s (o .of-signal .result) (o .of-signal .ensures) (a .pre .1) (ne-eqb t 0 (i .if1 .left)) ts′ (w .change-thread-marks .ensures))
+    makes (a .pre) refl (search needs) refl refl
+    (clear-thread l (a .pre .sound) n t s (o .of-signal .result) (o .of-signal .ensures) (fits-one (a .pre)) (ne-eqb t 0 (i .if1 .left)) ts′ (w .change-thread-marks .ensures))
 
 pub clear-mark-spec : {M : Type 1} → statement M
 clear-mark-spec =

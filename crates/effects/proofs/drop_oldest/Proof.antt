@@ -2,9 +2,10 @@
 use mathlib.Core.Path.{refl}
 use borrow.Author.Needs.{needs}
 use borrow.Author.Tests.{eq-eqb, ne-eqb}
-use Rattle.rules.specs.View.{targetQueue, dropOldest}
+use Rattle.rules.specs.View.{targetQueue}
+use Rattle.sound.specs.Lent.{given}
 use Rattle.sound.proofs.Facts.{thread-buffer-long, process-buffer-long, thread-buffer-laid, process-buffer-laid}
-use Rattle.effects.proofs.After.{after}
+use Rattle.effects.proofs.Makes.{fits-one, makes}
 use Rattle.effects.proofs.Buffers.{oldest-process, oldest-thread, drop-process, drop-thread}
 use Rattle.effects.proofs.drop_oldest.Statement.{statement}
 use Rattle.effects.proofs.drop_oldest.Tie as tie
@@ -12,39 +13,33 @@ use Rattle.effects.proofs.drop_oldest.Tie as tie
 first-of-requires : tie.Need-first-of-requires
 first-of-requires c κs =
     let a = c .before .before .before .before .before .before in
-    process-buffer-long (a .args .ps .now) (a .args .ts .now) (a .args .tb .now) (a .args .pb .now) (a .pre .0)
+    process-buffer-long (given (a .args .ps) (a .args .ts) (a .args .tb) (a .args .pb)) (a .pre .sound)
 
 remove-requires : tie.Need-remove-requires
 remove-requires c κs =
     let d = c .before in
     let i = d .before .before in
     let a = i .before .before .before .before .before in
-    let ps = a .args .ps .now in
-    let ts = a .args .ts .now in
-    let tb = a .args .tb .now in
-    let pb = a .args .pb .now in
+    let l = given (a .args .ps) (a .args .ts) (a .args .tb) (a .args .pb) in
     let q = targetQueue (a .args .process) (a .args .thread) in (
-      process-buffer-laid ps ts tb pb (a .pre .0),
-      oldest-process ps ts tb pb q (a .args .signal) (d .first-of .result) (a .pre .1) (eq-eqb (a .args .thread) 0 (i .if1 .taken)) (d .first-of .ensures),
+      process-buffer-laid l (a .pre .sound),
+      oldest-process l q (a .args .signal) (d .first-of .result) (fits-one (a .pre)) (eq-eqb (a .args .thread) 0 (i .if1 .taken)) (d .first-of .ensures),
     )
 
 first-of-requires-2 : tie.Need-first-of-requires-2
 first-of-requires-2 c κs =
     let a = c .before .before .before .before .before .before in
-    thread-buffer-long (a .args .ps .now) (a .args .ts .now) (a .args .tb .now) (a .args .pb .now) (a .pre .0)
+    thread-buffer-long (given (a .args .ps) (a .args .ts) (a .args .tb) (a .args .pb)) (a .pre .sound)
 
 remove-requires-2 : tie.Need-remove-requires-2
 remove-requires-2 c κs =
     let d = c .before in
     let i = d .before .before in
     let a = i .before .before .before .before .before in
-    let ps = a .args .ps .now in
-    let ts = a .args .ts .now in
-    let tb = a .args .tb .now in
-    let pb = a .args .pb .now in
+    let l = given (a .args .ps) (a .args .ts) (a .args .tb) (a .args .pb) in
     let q = targetQueue (a .args .process) (a .args .thread) in (
-      thread-buffer-laid ps ts tb pb (a .pre .0),
-      oldest-thread ps ts tb pb q (a .args .signal) (d .first-of2 .result) (a .pre .1) (ne-eqb (a .args .thread) 0 (i .if1 .left)) (d .first-of2 .ensures),
+      thread-buffer-laid l (a .pre .sound),
+      oldest-thread l q (a .args .signal) (d .first-of2 .result) (fits-one (a .pre)) (ne-eqb (a .args .thread) 0 (i .if1 .left)) (d .first-of2 .ensures),
     )
 
 returns : tie.Need-returns
@@ -53,15 +48,12 @@ returns c =
     let d = w .before .before in
     let i = d .before .before in
     let a = i .before .before .before .before .before in
-    let ps = a .args .ps .now in
-    let ts = a .args .ts .now in
-    let tb = a .args .tb .now in
-    let pb = a .args .pb .now in
+    let l = given (a .args .ps) (a .args .ts) (a .args .tb) (a .args .pb) in
     let q = targetQueue (a .args .process) (a .args .thread) in
     let s = a .args .signal in
     let pb′ = w .remove .last .0 in
-    after (dropOldest q s) ps ts tb pb ps ts tb pb′ (a .pre .0) (a .pre .1) refl refl refl (search needs)
-    (drop-process ps ts tb pb q s (d .first-of .result) (eq-eqb (a .args .thread) 0 (i .if1 .taken)) (d .first-of .ensures) pb′ (w .remove .ensures))
+    makes (a .pre) refl refl refl (search needs)
+    (drop-process l q s (d .first-of .result) (eq-eqb (a .args .thread) 0 (i .if1 .taken)) (d .first-of .ensures) pb′ (w .remove .ensures))
 
 returns-2 : tie.Need-returns-2
 returns-2 c =
@@ -69,15 +61,12 @@ returns-2 c =
     let d = w .before .before in
     let i = d .before .before in
     let a = i .before .before .before .before .before in
-    let ps = a .args .ps .now in
-    let ts = a .args .ts .now in
-    let tb = a .args .tb .now in
-    let pb = a .args .pb .now in
+    let l = given (a .args .ps) (a .args .ts) (a .args .tb) (a .args .pb) in
     let q = targetQueue (a .args .process) (a .args .thread) in
     let s = a .args .signal in
     let tb′ = w .remove2 .last .0 in
-    after (dropOldest q s) ps ts tb pb ps ts tb′ pb (a .pre .0) (a .pre .1) refl refl (search needs) refl
-    (drop-thread ps ts tb pb q s (d .first-of2 .result) (ne-eqb (a .args .thread) 0 (i .if1 .left)) (d .first-of2 .ensures) tb′ (w .remove2 .ensures))
+    makes (a .pre) refl refl (search needs) refl
+    (drop-thread l q s (d .first-of2 .result) (ne-eqb (a .args .thread) 0 (i .if1 .left)) (d .first-of2 .ensures) tb′ (w .remove2 .ensures))
 
 pub drop-oldest-spec : {M : Type 1} → statement M
 drop-oldest-spec =

@@ -1,10 +1,8 @@
 -- `remove_process` meets its contract: its place, those of its threads and both buffers. Assumes nothing.
 use borrow.Author.Needs.{needs}
-use Rattle.rules.specs.View.{removeProcess}
-use Rattle.rules.specs.Store.{view}
-use Rattle.sound.specs.Lent.{storeOf}
+use Rattle.sound.specs.Lent.{lent, viewOf, given}
 use Rattle.sound.proofs.Facts.{processes-long, threads-long, thread-buffer-laid, process-buffer-laid}
-use Rattle.effects.proofs.After.{after}
+use Rattle.effects.proofs.Makes.{fits-one, makes}
 use Rattle.effects.proofs.Fitted.{ended-live}
 use Rattle.effects.proofs.Places.{process-inside}
 use Rattle.effects.proofs.Removed.{process-removed}
@@ -14,34 +12,31 @@ use Rattle.effects.proofs.remove_process.Tie as tie
 find-process-requires : tie.Need-find-process-requires
 find-process-requires c κs =
     let a = c .before .before .before .before .before in
-    processes-long (a .args .ps .now) (a .args .ts .now) (a .args .tb .now) (a .args .pb .now) (a .pre .0)
+    processes-long (given (a .args .ps) (a .args .ts) (a .args .tb) (a .args .pb)) (a .pre .sound)
 
 clear-process-requires : tie.Need-clear-process-requires
 clear-process-requires c κs =
     let d = c .before in
     let a = d .before .before .before .before .before .before in
-    let ps = a .args .ps .now in
-    let ts = a .args .ts .now in
-    let tb = a .args .tb .now in
-    let pb = a .args .pb .now in
+    let l = given (a .args .ps) (a .args .ts) (a .args .tb) (a .args .pb) in
     let n = a .args .process in
-    let live = ended-live (view (storeOf ps ts tb pb)) n (a .pre .1) in
-    (processes-long ps ts tb pb (a .pre .0), process-inside ps ts tb pb n (d .find-process .result) live (d .find-process .ensures))
+    let live = ended-live (viewOf l) n (fits-one (a .pre)) in
+    (processes-long l (a .pre .sound), process-inside l n (d .find-process .result) live (d .find-process .ensures))
 
 vacate-threads-requires : tie.Need-vacate-threads-requires
 vacate-threads-requires c κs =
     let a = c .before .before .before .before .before .before .before .before .before .before .before in
-    threads-long (a .args .ps .now) (a .args .ts .now) (a .args .tb .now) (a .args .pb .now) (a .pre .0)
+    threads-long (given (a .args .ps) (a .args .ts) (a .args .tb) (a .args .pb)) (a .pre .sound)
 
 discard-requires : tie.Need-discard-requires
 discard-requires c κs =
     let a = c .before .before .before .before .before .before .before .before .before .before .before .before .before .before .before in
-    thread-buffer-laid (a .args .ps .now) (a .args .ts .now) (a .args .tb .now) (a .args .pb .now) (a .pre .0)
+    thread-buffer-laid (given (a .args .ps) (a .args .ts) (a .args .tb) (a .args .pb)) (a .pre .sound)
 
 discard-requires-2 : tie.Need-discard-requires-2
 discard-requires-2 c κs =
     let a = c .before .before .before .before .before .before .before .before .before .before .before .before .before .before .before .before .before .before .before in
-    process-buffer-laid (a .args .ps .now) (a .args .ts .now) (a .args .tb .now) (a .args .pb .now) (a .pre .0)
+    process-buffer-laid (given (a .args .ps) (a .args .ts) (a .args .tb) (a .args .pb)) (a .pre .sound)
 
 returns : tie.Need-returns
 returns c =
@@ -51,17 +46,14 @@ returns c =
     let w = t .before .before .before .before in
     let d = w .before .before in
     let a = d .before .before .before .before .before .before in
-    let ps = a .args .ps .now in
-    let ts = a .args .ts .now in
-    let tb = a .args .tb .now in
-    let pb = a .args .pb .now in
+    let l = given (a .args .ps) (a .args .ts) (a .args .tb) (a .args .pb) in
     let n = a .args .process in
     let ps′ = w .clear-process .last .0 in
     let ts′ = t .vacate-threads .last .0 in
     let tb′ = b .discard .last .0 in
     let pb′ = q .discard2 .last .0 in
-    after (removeProcess n) ps ts tb pb ps′ ts′ tb′ pb′ (a .pre .0) (a .pre .1) (search needs) (search needs) (search needs) (search needs)
-    (process-removed ps ts tb pb (a .pre .0) n (d .find-process .result) ps′ ts′ tb′ pb′ (a .pre .1) (d .find-process .ensures)
+    makes (a .pre) (search needs) (search needs) (search needs) (search needs)
+    (process-removed l (a .pre .sound) n (d .find-process .result) (lent ps′ ts′ tb′ pb′) (fits-one (a .pre)) (d .find-process .ensures)
     (w .clear-process .ensures) (t .vacate-threads .ensures) (b .discard .ensures) (q .discard2 .ensures))
 
 pub remove-process-spec : {M : Type 1} → statement M

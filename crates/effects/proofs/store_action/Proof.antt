@@ -1,89 +1,46 @@
 -- `store_action` meets its contract: the discard of an ignored signal, and the action. Assumes nothing.
 use mathlib.Core.Path.{sym, _∙_}
 use borrow.Author.Needs.{needs}
-use Rattle.sound.specs.Lent.{storeOf}
-use Rattle.effects.proofs.Stores.{not-ignored-fits, not-ignored-made, discard-fits, action-then-fits, both-made}
+use Rattle.effects.proofs.Makes.{ready-as, made-as, ready-first, ready-last, made-last}
+use Rattle.effects.proofs.Stores.{stores-not-ignored, stores-both}
 use Rattle.effects.proofs.store_action.Statement.{statement}
 use Rattle.effects.proofs.store_action.Tie as tie
 
 discard-requires : tie.Need-discard-requires
 discard-requires c κs =
-    let a = c .before .before .before .before .before .before .before .before .before .before .before in
-    let ps = a .args .ps .now in
-    let ts = a .args .ts .now in
-    let tb = a .args .tb .now in
-    let pb = a .args .pb .now in
-    let st = storeOf ps ts tb pb in
-    let p = a .args .process in
-    let s = a .args .signal in
-    let i = sym (c .before .before .before .before .before .before .is-ignored .ensures) ∙ c .before .before .before .before .before .if1 .taken in
-    (a .pre .0, discard-fits p s (a .args .a) st (a .pre .1) i (c .of-signal .result) (c .of-signal .ensures))
+    let t = c .before .before .before .before .before in
+    let a = t .before .before .before .before .before .before in
+    ready-first (a .pre) (stores-both (a .args .process) (a .args .signal) (a .args .a) (sym (t .before .is-ignored .ensures) ∙ t .if1 .taken) (c .of-signal .result) (c .of-signal .ensures))
 
 set-action-requires : tie.Need-set-action-requires
 set-action-requires c κs =
     let d = c .before .before .before .before .before .before .before .before .before .before .before .before in
-    let a = c .before .before .before .before .before .before .before .before .before .before .before .before .before .before .before .before .before .before .before .before .before .before .before .before in
-    let ps = a .args .ps .now in
-    let ts = a .args .ts .now in
-    let tb = a .args .tb .now in
-    let pb = a .args .pb .now in
-    let st = storeOf ps ts tb pb in
-    let p = a .args .process in
-    let s = a .args .signal in
-    let i = sym (d .before .before .before .before .before .before .before .is-ignored .ensures) ∙ d .before .before .before .before .before .before .if1 .taken in
-    let st′ = storeOf (d .discard .last .0) (d .discard .last .1 .0) (d .discard .last .1 .1 .0) (d .discard .last .1 .1 .1 .0) in (
-      d .discard .ensures .1,
-      action-then-fits p s (a .args .a) st (a .pre .1) i (d .before .of-signal .result) (d .before .of-signal .ensures) st′ (d .discard .ensures .0),
-    )
+    let t = d .before .before .before .before .before .before in
+    let a = t .before .before .before .before .before .before in
+    let o = d .before .of-signal in
+    ready-last (a .pre) (d .discard .ensures) (stores-both (a .args .process) (a .args .signal) (a .args .a) (sym (t .before .is-ignored .ensures) ∙ t .if1 .taken) (o .result) (o .ensures))
 
 set-action-requires-2 : tie.Need-set-action-requires-2
 set-action-requires-2 c κs =
-    let a = c .before .before .before .before .before .before .before .before .before .before in
-    let ps = a .args .ps .now in
-    let ts = a .args .ts .now in
-    let tb = a .args .tb .now in
-    let pb = a .args .pb .now in
-    let st = storeOf ps ts tb pb in
-    let p = a .args .process in
-    let s = a .args .signal in
-    let i = sym (c .before .before .before .before .before .is-ignored .ensures) ∙ c .before .before .before .before .if1 .left in
-    (a .pre .0, not-ignored-fits p s (a .args .a) st (a .pre .1) i)
+    let t = c .before .before .before .before in
+    let a = t .before .before .before .before .before .before in
+    ready-as (a .pre) (stores-not-ignored (a .args .process) (a .args .signal) (a .args .a) (sym (t .before .is-ignored .ensures) ∙ t .if1 .left))
 
 returns : tie.Need-returns
 returns c =
     let w = c .before .before in
-    let d = c .before .before .before .before .before .before .before .before .before .before .before .before .before .before .before in
-    let a = c .before .before .before .before .before .before .before .before .before .before .before .before .before .before .before .before .before .before .before .before .before .before .before .before .before .before .before in
-    let ps = a .args .ps .now in
-    let ts = a .args .ts .now in
-    let tb = a .args .tb .now in
-    let pb = a .args .pb .now in
-    let st = storeOf ps ts tb pb in
-    let p = a .args .process in
-    let s = a .args .signal in
-    let i = sym (d .before .before .before .before .before .before .before .is-ignored .ensures) ∙ d .before .before .before .before .before .before .if1 .taken in
-    let ts′ = d .discard .last .1 .0 in
-    let tb′ = d .discard .last .1 .1 .0 in
-    let pb′ = d .discard .last .1 .1 .1 .0 in
-    let st′ = storeOf (d .discard .last .0) ts′ tb′ pb′ in
-    let st″ = storeOf (w .set-action .last .0) ts′ tb′ pb′ in (
-      both-made p s (a .args .a) st (a .pre .1) i (d .before .of-signal .result) (d .before .of-signal .ensures) st′ (d .discard .ensures .0) st″ (w .set-action .ensures .0),
-      w .set-action .ensures .1,
-    )
+    let d = w .before .before .before .before .before .before .before .before .before .before .before .before .before in
+    let t = d .before .before .before .before .before .before in
+    let a = t .before .before .before .before .before .before in
+    let o = d .before .of-signal in
+    made-last (d .discard .ensures) (w .set-action .ensures) (stores-both (a .args .process) (a .args .signal) (a .args .a) (sym (t .before .is-ignored .ensures) ∙ t .if1 .taken) (o .result) (o .ensures))
 
 returns-2 : tie.Need-returns-2
 returns-2 c =
     let w = c .before .before in
-    let a = c .before .before .before .before .before .before .before .before .before .before .before .before .before in
-    let ps = a .args .ps .now in
-    let ts = a .args .ts .now in
-    let tb = a .args .tb .now in
-    let pb = a .args .pb .now in
-    let st = storeOf ps ts tb pb in
-    let p = a .args .process in
-    let s = a .args .signal in
-    let i = sym (c .before .before .before .before .before .before .before .before .is-ignored .ensures) ∙ c .before .before .before .before .before .before .before .if1 .left in
-    (not-ignored-made p s (a .args .a) st (a .pre .1) i (storeOf (w .set-action2 .last .0) ts tb pb) (w .set-action2 .ensures .0), w .set-action2 .ensures .1)
+    let t = w .before .before .before .before .before in
+    let a = t .before .before .before .before .before .before in
+    made-as (w .set-action2 .ensures) (stores-not-ignored (a .args .process) (a .args .signal) (a .args .a) (sym (t .before .is-ignored .ensures) ∙ t .if1 .left))
 
 pub store-action-spec : {M : Type 1} → statement M
 store-action-spec =

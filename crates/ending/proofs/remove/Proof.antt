@@ -1,7 +1,7 @@
 -- `remove` meets its contract: the thread goes, or its process with it. Assumes nothing.
-use Rattle.sound.specs.Lent.{storeOf}
+use Rattle.sound.specs.Lent.{given}
 use Rattle.view.proofs.Live.{owner-known}
-use Rattle.ending.proofs.Ended.{thread-fits, process-fits, thread-removed, process-removed}
+use Rattle.ending.proofs.Ended.{thread-ready, process-ready, thread-removed, process-removed}
 use borrow.Author.Needs.{needs}
 use Rattle.ending.proofs.remove.Statement.{statement}
 use Rattle.ending.proofs.remove.Tie as tie
@@ -9,19 +9,19 @@ use Rattle.ending.proofs.remove.Tie as tie
 process-of-requires : tie.Need-process-of-requires
 process-of-requires c κs =
     let a = c .before .before .before .before .before in
-    owner-known (a .args .ps .now) (a .args .ts .now) (a .args .tb .now) (a .args .pb .now) (a .pre .0) (a .args .thread) (a .pre .1)
+    owner-known (given (a .args .ps) (a .args .ts) (a .args .tb) (a .args .pb)) (a .pre .0) (a .args .thread) (a .pre .1)
 
 has-other-requires : tie.Need-has-other-requires
 has-other-requires c κs =
     let a = c .before .before .before .before .before .before .before in
-    owner-known (a .args .ps .now) (a .args .ts .now) (a .args .tb .now) (a .args .pb .now) (a .pre .0) (a .args .thread) (a .pre .1) .0
+    owner-known (given (a .args .ps) (a .args .ts) (a .args .tb) (a .args .pb)) (a .pre .0) (a .args .thread) (a .pre .1) .0
 
 remove-thread-requires : tie.Need-remove-thread-requires
 remove-thread-requires c κs =
     let i = c .before .before .before .before in
     let o = i .before in
     let a = o .before .before .before .before .before .before .before .before in
-    thread-fits (a .args .ps .now) (a .args .ts .now) (a .args .tb .now) (a .args .pb .now) (a .pre .0) (a .args .thread) (a .pre .1)
+    thread-ready (given (a .args .ps) (a .args .ts) (a .args .tb) (a .args .pb)) (a .pre .0) (a .args .thread) (a .pre .1)
     (o .before .before .process-of .result) (o .before .before .process-of .ensures) (o .has-other .result) (o .has-other .ensures) (i .if1 .taken)
 
 remove-process-requires : tie.Need-remove-process-requires
@@ -29,7 +29,7 @@ remove-process-requires c κs =
     let i = c .before .before .before .before in
     let o = i .before in
     let a = o .before .before .before .before .before .before .before .before in
-    process-fits (a .args .ps .now) (a .args .ts .now) (a .args .tb .now) (a .args .pb .now) (a .pre .0) (a .args .thread) (a .pre .1)
+    process-ready (given (a .args .ps) (a .args .ts) (a .args .tb) (a .args .pb)) (a .pre .0) (a .args .thread) (a .pre .1)
     (o .before .before .process-of .result) (o .before .before .process-of .ensures) (o .has-other .result) (o .has-other .ensures) (i .if1 .left)
 
 returns : tie.Need-returns
@@ -38,9 +38,9 @@ returns c =
     let i = f .before .before .before .before .before in
     let o = i .before in
     let a = o .before .before .before .before .before .before .before .before in
-    thread-removed (a .args .ps .now) (a .args .ts .now) (a .args .tb .now) (a .args .pb .now) (a .pre .0) (a .args .thread) (a .pre .1)
+    thread-removed (given (a .args .ps) (a .args .ts) (a .args .tb) (a .args .pb)) (a .pre .0) (a .args .thread) (a .pre .1)
     (o .before .before .process-of .result) (o .before .before .process-of .ensures) (o .has-other .result) (o .has-other .ensures) (i .if1 .taken)
-    (storeOf (a .args .ps .now) (f .remove-thread .last .1 .0) (f .remove-thread .last .1 .1 .0) (f .remove-thread .last .1 .1 .1 .0)) (f .remove-thread .ensures .0)
+    (f .remove-thread .ensures)
 
 returns-2 : tie.Need-returns-2
 returns-2 c =
@@ -48,9 +48,9 @@ returns-2 c =
     let i = f .before .before .before .before .before in
     let o = i .before in
     let a = o .before .before .before .before .before .before .before .before in
-    process-removed (a .args .ps .now) (a .args .ts .now) (a .args .tb .now) (a .args .pb .now) (a .pre .0) (a .args .thread) (a .pre .1)
+    process-removed (given (a .args .ps) (a .args .ts) (a .args .tb) (a .args .pb)) (a .pre .0) (a .args .thread) (a .pre .1)
     (o .before .before .process-of .result) (o .before .before .process-of .ensures) (o .has-other .result) (o .has-other .ensures) (i .if1 .left)
-    (storeOf (f .remove-process .last .0) (f .remove-process .last .1 .0) (f .remove-process .last .1 .1 .0) (f .remove-process .last .1 .1 .1 .0)) (f .remove-process .ensures .0)
+    (f .remove-process .ensures)
 
 pub remove-spec : {M : Type 1} → statement M
 remove-spec =

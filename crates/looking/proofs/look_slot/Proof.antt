@@ -3,35 +3,35 @@ use mathlib.Core.Path.{_≡_}
 use mathlib.Core.Bool.{true}
 use native.Mathlib.Omega.{arith}
 use borrow.Author.Needs.{needs}
-use Rattle.sound.specs.Lent.{soundTables}
+use Rattle.sound.specs.Lent.{soundTables, given}
 use Rattle.sound.proofs.Facts.{thread-buffer-long, process-buffer-long}
 use Rattle.looking.proofs.Looks.{look-sound, look-live, found-small, slot-refused, slot-nothing, slot-mark, slot-shared, slot-own}
 use Rattle.looking.proofs.look_slot.Statement.{statement}
 use Rattle.looking.proofs.look_slot.Tie as tie
 
 -- past the refusal the tables are sound
-sound-here : (c : tie.Else1) → soundTables (c .before .before .before .before .before .before .args .ps .now) (c .before .before .before .before .before .before .args .ts .now) (c .before .before .before .before .before .before .args .tb .now) (c .before .before .before .before .before .before .args .pb .now) ≡ true
+sound-here : (c : tie.Else1) → soundTables (given (c .before .before .before .before .before .before .args .ps) (c .before .before .before .before .before .before .args .ts) (c .before .before .before .before .before .before .args .tb) (c .before .before .before .before .before .before .args .pb)) ≡ true
 sound-here c =
     let a = c .before .before .before .before .before .before in
-    look-sound (a .args .ps .now) (a .args .ts .now) (a .args .tb .now) (a .args .pb .now) (a .args .thread) (c .before .thread-refusal .result) (c .before .thread-refusal .ensures) (c .if1 .left)
+    look-sound (given (a .args .ps) (a .args .ts) (a .args .tb) (a .args .pb)) (a .args .thread) (c .before .thread-refusal .result) (c .before .thread-refusal .ensures) (c .if1 .left)
 
 returns : tie.Need-returns
 returns c =
     let a = c .before .before .before .before .before .before in
-    slot-refused (a .args .ps .now) (a .args .ts .now) (a .args .tb .now) (a .args .pb .now) (a .args .thread) (c .before .thread-refusal .result) (c .before .thread-refusal .ensures) (c .if1 .taken)
+    slot-refused (given (a .args .ps) (a .args .ts) (a .args .tb) (a .args .pb)) (a .args .thread) (c .before .thread-refusal .result) (c .before .thread-refusal .ensures) (c .if1 .taken)
 
 next-of-requires : tie.Need-next-of-requires
 next-of-requires c κs =
     let a = c .before .before .before .before .before .before in (
       sound-here c,
-      look-live (a .args .ps .now) (a .args .ts .now) (a .args .tb .now) (a .args .pb .now) (a .args .thread) (c .before .thread-refusal .result) (c .before .thread-refusal .ensures) (c .if1 .left),
+      look-live (given (a .args .ps) (a .args .ts) (a .args .tb) (a .args .pb)) (a .args .thread) (c .before .thread-refusal .result) (c .before .thread-refusal .ensures) (c .if1 .left),
     )
 
 first-of-requires : tie.Need-first-of-requires
 first-of-requires c κs =
     let d = c .before .before .before .before .before in
     let a = d .before .before .before .before .before .before .before in
-    process-buffer-long (a .args .ps .now) (a .args .ts .now) (a .args .tb .now) (a .args .pb .now) (sound-here (d .before))
+    process-buffer-long (given (a .args .ps) (a .args .ts) (a .args .tb) (a .args .pb)) (sound-here (d .before))
 
 add-result : tie.Need-add-result
 add-result c = omega (arith, found-small _ _ _ (c .first-of .ensures))
@@ -44,13 +44,13 @@ returns-2 c =
     let d = c .before .before .before .before .before .before in
     let a = d .before .before .before .before .before .before .before in
     let m = c .before .before .before .before .r .given in
-    slot-shared (a .args .ps .now) (a .args .ts .now) (a .args .tb .now) (a .args .pb .now) (a .args .thread) (d .before .before .thread-refusal .result) (d .before .before .thread-refusal .ensures) (d .before .if1 .left) (d .next-of .result) (d .next-of .ensures) (m .0 .0) (m .1) (c .first-of .result) (c .before .if2 .taken) (c .first-of .ensures)
+    slot-shared (given (a .args .ps) (a .args .ts) (a .args .tb) (a .args .pb)) (a .args .thread) (d .before .before .thread-refusal .result) (d .before .before .thread-refusal .ensures) (d .before .if1 .left) (d .next-of .result) (d .next-of .ensures) (m .0 .0) (m .1) (c .first-of .result) (c .before .if2 .taken) (c .first-of .ensures)
 
 first-of-requires-2 : tie.Need-first-of-requires-2
 first-of-requires-2 c κs =
     let d = c .before .before .before .before .before in
     let a = d .before .before .before .before .before .before .before in
-    thread-buffer-long (a .args .ps .now) (a .args .ts .now) (a .args .tb .now) (a .args .pb .now) (sound-here (d .before))
+    thread-buffer-long (given (a .args .ps) (a .args .ts) (a .args .tb) (a .args .pb)) (sound-here (d .before))
 
 add-result-3 : tie.Need-add-result-3
 add-result-3 c = omega (arith, found-small _ _ _ (c .first-of2 .ensures))
@@ -59,21 +59,21 @@ returns-3 : tie.Need-returns-3
 returns-3 c =
     let d = c .before .before in
     let a = d .before .before .before .before .before .before .before in
-    slot-nothing (a .args .ps .now) (a .args .ts .now) (a .args .tb .now) (a .args .pb .now) (a .args .thread) (d .before .before .thread-refusal .result) (d .before .before .thread-refusal .ensures) (d .before .if1 .left) (d .next-of .result) (d .next-of .ensures) (c .enum-told .given .1)
+    slot-nothing (given (a .args .ps) (a .args .ts) (a .args .tb) (a .args .pb)) (a .args .thread) (d .before .before .thread-refusal .result) (d .before .before .thread-refusal .ensures) (d .before .if1 .left) (d .next-of .result) (d .next-of .ensures) (c .enum-told .given .1)
 
 returns-4 : tie.Need-returns-4
 returns-4 c =
     let d = c .before .before in
     let a = d .before .before .before .before .before .before .before in
     let m = c .enum-told2 .given in
-    slot-mark (a .args .ps .now) (a .args .ts .now) (a .args .tb .now) (a .args .pb .now) (a .args .thread) (d .before .before .thread-refusal .result) (d .before .before .thread-refusal .ensures) (d .before .if1 .left) (d .next-of .result) (d .next-of .ensures) (m .0 .0) (m .0 .1 .0) (m .0 .1 .1 .0) (m .1)
+    slot-mark (given (a .args .ps) (a .args .ts) (a .args .tb) (a .args .pb)) (a .args .thread) (d .before .before .thread-refusal .result) (d .before .before .thread-refusal .ensures) (d .before .if1 .left) (d .next-of .result) (d .next-of .ensures) (m .0 .0) (m .0 .1 .0) (m .0 .1 .1 .0) (m .1)
 
 returns-5 : tie.Need-returns-5
 returns-5 c =
     let d = c .before .before .before .before .before .before in
     let a = d .before .before .before .before .before .before .before in
     let m = c .before .before .before .before .r .given in
-    slot-own (a .args .ps .now) (a .args .ts .now) (a .args .tb .now) (a .args .pb .now) (a .args .thread) (d .before .before .thread-refusal .result) (d .before .before .thread-refusal .ensures) (d .before .if1 .left) (d .next-of .result) (d .next-of .ensures) (m .0 .0) (m .1) (c .first-of2 .result) (c .before .if2 .left) (c .first-of2 .ensures)
+    slot-own (given (a .args .ps) (a .args .ts) (a .args .tb) (a .args .pb)) (a .args .thread) (d .before .before .thread-refusal .result) (d .before .before .thread-refusal .ensures) (d .before .if1 .left) (d .next-of .result) (d .next-of .ensures) (m .0 .0) (m .1) (c .first-of2 .result) (c .before .if2 .left) (c .first-of2 .ensures)
 
 pub look-slot-spec : {M : Type 1} → statement M
 look-slot-spec =

@@ -1,6 +1,7 @@
 -- `who` meets its contract. Assumes nothing.
 use native.Mathlib.Omega.{arith}
 use borrow.Author.Needs.{needs}
+use Rattle.sound.specs.Lent.{given}
 use Rattle.sound.proofs.Facts.{threads-long}
 use Rattle.looking.proofs.Takers.{id-read, who-refused, who-sound, who-none, who-inside, who-fits, who-takes}
 use Rattle.looking.proofs.who.Statement.{statement}
@@ -9,18 +10,18 @@ use Rattle.looking.proofs.who.Tie as tie
 returns : tie.Need-returns
 returns c =
     let a = c .before .before .before .before .before .before in
-    who-refused (a .args .ps .now) (a .args .ts .now) (a .args .tb .now) (a .args .pb .now) (a .args .process) (c .before .process-refusal .result) (c .before .process-refusal .ensures) (c .if1 .taken)
+    who-refused (given (a .args .ps) (a .args .ts) (a .args .tb) (a .args .pb)) (a .args .process) (c .before .process-refusal .result) (c .before .process-refusal .ensures) (c .if1 .taken)
 
 taker-place-requires : tie.Need-taker-place-requires
 taker-place-requires c κs =
     let a = c .before .before .before .before .before .before in
-    who-sound (a .args .ps .now) (a .args .ts .now) (a .args .tb .now) (a .args .pb .now) (a .args .process) (c .before .process-refusal .result) (c .before .process-refusal .ensures) (c .if1 .left)
+    who-sound (given (a .args .ps) (a .args .ts) (a .args .tb) (a .args .pb)) (a .args .process) (c .before .process-refusal .result) (c .before .process-refusal .ensures) (c .if1 .left)
 
 returns-2 : tie.Need-returns-2
 returns-2 c =
     let d = c .before .before .before in
     let a = d .before .before .before .before .before in
-    who-none (a .args .ps .now) (a .args .ts .now) (a .args .tb .now) (a .args .pb .now) (a .args .process) (d .process-refusal .result) (d .process-refusal .ensures) (c .before .before .if1 .left)
+    who-none (given (a .args .ps) (a .args .ts) (a .args .tb) (a .args .pb)) (a .args .process) (d .process-refusal .result) (d .process-refusal .ensures) (c .before .before .if1 .left)
     (c .before .taker-place .result) (c .before .taker-place .ensures) (c .if2 .taken)
 
 thread-field-at-requires : tie.Need-thread-field-at-requires
@@ -28,10 +29,10 @@ thread-field-at-requires c κs =
     let d = c .before .before .before in
     let a = d .before .before .before .before .before in
     let z = c .before .before .if1 .left in (
-      threads-long (a .args .ps .now) (a .args .ts .now) (a .args .tb .now) (a .args .pb .now)
-          (who-sound (a .args .ps .now) (a .args .ts .now) (a .args .tb .now) (a .args .pb .now) (a .args .process) (d .process-refusal .result) (d .process-refusal .ensures) z),
+      threads-long (given (a .args .ps) (a .args .ts) (a .args .tb) (a .args .pb))
+          (who-sound (given (a .args .ps) (a .args .ts) (a .args .tb) (a .args .pb)) (a .args .process) (d .process-refusal .result) (d .process-refusal .ensures) z),
       (
-        who-inside (a .args .ps .now) (a .args .ts .now) (a .args .tb .now) (a .args .pb .now) (a .args .process) (d .process-refusal .result) (d .process-refusal .ensures) z
+        who-inside (given (a .args .ps) (a .args .ts) (a .args .tb) (a .args .pb)) (a .args .process) (d .process-refusal .result) (d .process-refusal .ensures) z
             (c .before .taker-place .result) (c .before .taker-place .ensures) (c .if2 .left),
         omega arith,
       ),
@@ -45,7 +46,7 @@ cast-taker c =
     let w = c .thread-field-at .result in
     omega (
       arith,
-      who-fits (a .args .ps .now) (a .args .ts .now) (a .args .tb .now) (a .args .pb .now) (a .args .process) (d .process-refusal .result) (d .process-refusal .ensures) (c .before .before .before .if1 .left)
+      who-fits (given (a .args .ps) (a .args .ts) (a .args .tb) (a .args .pb)) (a .args .process) (d .process-refusal .result) (d .process-refusal .ensures) (c .before .before .before .if1 .left)
           p (c .before .before .taker-place .ensures) (c .before .if2 .left) w (id-read (a .args .ts .now) p w (c .thread-field-at .ensures)),
     )
 
@@ -55,7 +56,7 @@ returns-3 c =
     let a = d .before .before .before .before .before in
     let p = c .before .before .taker-place .result in
     let w = c .thread-field-at .result in
-    who-takes (a .args .ps .now) (a .args .ts .now) (a .args .tb .now) (a .args .pb .now) (a .args .process) (d .process-refusal .result) (d .process-refusal .ensures) (c .before .before .before .if1 .left)
+    who-takes (given (a .args .ps) (a .args .ts) (a .args .tb) (a .args .pb)) (a .args .process) (d .process-refusal .result) (d .process-refusal .ensures) (c .before .before .before .if1 .left)
     p (c .before .before .taker-place .ensures) (c .before .if2 .left) w (id-read (a .args .ts .now) p w (c .thread-field-at .ensures))
 
 pub who-spec : {M : Type 1} → statement M

@@ -1,7 +1,7 @@
 -- `sigpending` meets its contract: refused, or the pending set. Assumes nothing.
 use Rattle.rules.specs.Types.{pending}
-use Rattle.answers.specs.Step.{lent}
-use Rattle.answers.proofs.Endings.{refused-ends}
+use Rattle.sound.specs.Lent.{given}
+use Rattle.answers.proofs.Endings.{answer-of, refused-ends}
 use Rattle.answers.proofs.Rows.{live-thread}
 use Rattle.masks.proofs.Pending.{pending-refusal, pending-answered}
 use borrow.Author.Needs.{needs}
@@ -11,30 +11,21 @@ use Rattle.masks.proofs.sigpending.Tie as tie
 returns : tie.Need-returns
 returns c =
     let a = c .before .before .before .before .before .before in
-    let ps = a .args .ps .now in
-    let ts = a .args .ts .now in
-    let tb = a .args .tb .now in
-    let pb = a .args .pb .now in
+    let l = given (a .args .ps) (a .args .ts) (a .args .tb) (a .args .pb) in
     let n = c .before .thread-refusal .result in
-    refused-ends (pending (a .args .thread)) (lent ps ts tb pb) n (pending-refusal (lent ps ts tb pb) (a .args .thread) n (c .before .thread-refusal .ensures)) (c .if1 .taken) .0
+    answer-of (refused-ends (pending (a .args .thread)) l n (pending-refusal l (a .args .thread) n (c .before .thread-refusal .ensures)) (c .if1 .taken))
 
 blocked-requires : tie.Need-blocked-requires
 blocked-requires c κs =
     let a = c .before .before .before .before .before .before in
-    let ps = a .args .ps .now in
-    let ts = a .args .ts .now in
-    let tb = a .args .tb .now in
-    let pb = a .args .pb .now in
-    live-thread (lent ps ts tb pb) (a .args .thread) (c .before .thread-refusal .result) (c .before .thread-refusal .ensures) (c .if1 .left)
+    let l = given (a .args .ps) (a .args .ts) (a .args .tb) (a .args .pb) in
+    live-thread l (a .args .thread) (c .before .thread-refusal .result) (c .before .thread-refusal .ensures) (c .if1 .left)
 
 returns-2 : tie.Need-returns-2
 returns-2 c =
     let a = c .before .before .before .before .before .before .before in
-    let ps = a .args .ps .now in
-    let ts = a .args .ts .now in
-    let tb = a .args .tb .now in
-    let pb = a .args .pb .now in
-    pending-answered (lent ps ts tb pb) (a .args .thread) (c .before .before .thread-refusal .result) (c .before .before .thread-refusal .ensures) (c .before .if1 .left) (c .blocked .result) (c .blocked .ensures)
+    let l = given (a .args .ps) (a .args .ts) (a .args .tb) (a .args .pb) in
+    pending-answered l (a .args .thread) (c .before .before .thread-refusal .result) (c .before .before .thread-refusal .ensures) (c .before .if1 .left) (c .blocked .result) (c .blocked .ensures)
 
 pub sigpending-spec : {M : Type 1} → statement M
 sigpending-spec = tie.close (tie.spec (λ c κs. search needs) returns blocked-requires returns-2)

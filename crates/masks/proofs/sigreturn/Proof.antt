@@ -1,6 +1,6 @@
 -- `sigreturn` meets its contract: it is sigmask with way 2. Assumes nothing.
-use mathlib.Core.Path.{ap, _∙_}
-use Rattle.answers.specs.Step.{lent}
+use mathlib.Core.Path.{_∙_}
+use Rattle.sound.specs.Lent.{given}
 use Rattle.masks.specs.Given.{newSet}
 use Rattle.masks.proofs.Masks.{return-is}
 use borrow.Author.Needs.{needs}
@@ -12,12 +12,8 @@ unfolding newSet
 returns c =
     let w = c .before .before .before .before .before .before .before .before in
     let a = c .before .before .before .before .before .before .before .before .before .before .before .before .before .before .before .before .before in
-    let ps = a .args .ps .now in
-    let ts = a .args .ts .now in
-    let tb = a .args .tb .now in
-    let pb = a .args .pb .now in
-    let e = return-is (lent ps ts tb pb) (a .args .thread) (a .args .saved) in
-    (w .sigmask .ensures .0 ∙ ap (λ r. r .1) e, w .sigmask .ensures .1 ∙ ap (λ r. r .0) e)
+    let l = given (a .args .ps) (a .args .ts) (a .args .tb) (a .args .pb) in
+    w .sigmask .ensures ∙ return-is l (a .args .thread) (a .args .saved)
 
 pub sigreturn-spec : {M : Type 1} → statement M
 sigreturn-spec =

@@ -3,8 +3,7 @@ use borrow.Author.Needs.{needs}
 use Rattle.next.proofs.next_of.Statement.{statement}
 use Rattle.next.proofs.next_of.Tie as tie
 use Rattle.rules.specs.View.{theThread}
-use Rattle.rules.specs.Store.{view}
-use Rattle.sound.specs.Lent.{storeOf}
+use Rattle.sound.specs.Lent.{viewOf, given}
 use Rattle.sound.proofs.Facts.{threads-long, thread-buffer-long, process-buffer-long, thread-listed}
 use Rattle.view.proofs.Live.{owner-good, own-queue}
 use Rattle.next.proofs.Nexts.{nothing-next, own-next, shared-next}
@@ -12,17 +11,17 @@ use Rattle.next.proofs.Nexts.{nothing-next, own-next, shared-next}
 returns : tie.Need-returns
 returns c =
     let a = c .before .before .before .before .before .before in
-    nothing-next (view (storeOf (a .args .ps .now) (a .args .ts .now) (a .args .tb .now) (a .args .pb .now)))
-    (theThread (view (storeOf (a .args .ps .now) (a .args .ts .now) (a .args .tb .now) (a .args .pb .now))) (a .args .thread))
+    nothing-next (viewOf (given (a .args .ps) (a .args .ts) (a .args .tb) (a .args .pb)))
+    (theThread (viewOf (given (a .args .ps) (a .args .ts) (a .args .tb) (a .args .pb))) (a .args .thread))
     (c .before .next-signal .result) (c .before .next-signal .ensures) (c .if1 .taken)
 
 process-of-requires : tie.Need-process-of-requires
 process-of-requires c κs =
     let a = c .before .before .before .before .before .before in (
-      threads-long (a .args .ps .now) (a .args .ts .now) (a .args .tb .now) (a .args .pb .now) (a .pre .0),
+      threads-long (given (a .args .ps) (a .args .ts) (a .args .tb) (a .args .pb)) (a .pre .0),
       (
-        thread-listed (a .args .ps .now) (a .args .ts .now) (a .args .tb .now) (a .args .pb .now) (a .args .thread) (a .pre .1),
-        owner-good (a .args .ps .now) (a .args .ts .now) (a .args .tb .now) (a .args .pb .now) (a .pre .0) (a .args .thread) (a .pre .1),
+        thread-listed (given (a .args .ps) (a .args .ts) (a .args .tb) (a .args .pb)) (a .args .thread) (a .pre .1),
+        owner-good (given (a .args .ps) (a .args .ts) (a .args .tb) (a .args .pb)) (a .pre .0) (a .args .thread) (a .pre .1),
       ),
     )
 
@@ -30,32 +29,32 @@ pending-of-requires : tie.Need-pending-of-requires
 pending-of-requires c κs =
     let a = c .before .before .before .before .before .before .before in (
       a .pre .0,
-      own-queue (a .args .ps .now) (a .args .ts .now) (a .args .tb .now) (a .args .pb .now) (a .pre .0) (a .args .thread) (a .pre .1) (c .process-of .result) (c .process-of .ensures),
+      own-queue (given (a .args .ps) (a .args .ts) (a .args .tb) (a .args .pb)) (a .pre .0) (a .args .thread) (a .pre .1) (c .process-of .result) (c .process-of .ensures),
     )
 
 next-in-requires : tie.Need-next-in-requires
 next-in-requires c κs =
     let a = c .before .before .before .before .before .before .before .before .before .before in
-    thread-buffer-long (a .args .ps .now) (a .args .ts .now) (a .args .tb .now) (a .args .pb .now) (a .pre .0)
+    thread-buffer-long (given (a .args .ps) (a .args .ts) (a .args .tb) (a .args .pb)) (a .pre .0)
 
 returns-2 : tie.Need-returns-2
 returns-2 c =
     let d = c .before .before .before in
     let a = d .before .before .before .before .before .before .before .before in
-    own-next (a .args .ps .now) (a .args .ts .now) (a .args .tb .now) (a .args .pb .now) (a .args .thread) (d .before .process-of .result) (d .before .before .before .next-signal .result)
+    own-next (given (a .args .ps) (a .args .ts) (a .args .tb) (a .args .pb)) (a .args .thread) (d .before .process-of .result) (d .before .before .before .next-signal .result)
     (a .pre .1) (d .before .process-of .ensures) (d .before .before .before .next-signal .ensures) (d .before .before .if1 .left) (c .next-in .result)
     (d .pending-of .result) (c .before .before .has .result) (d .pending-of .ensures) (c .before .before .has .ensures) (c .before .if2 .taken) (c .next-in .ensures)
 
 next-in-requires-2 : tie.Need-next-in-requires-2
 next-in-requires-2 c κs =
     let a = c .before .before .before .before .before .before .before .before .before .before in
-    process-buffer-long (a .args .ps .now) (a .args .ts .now) (a .args .tb .now) (a .args .pb .now) (a .pre .0)
+    process-buffer-long (given (a .args .ps) (a .args .ts) (a .args .tb) (a .args .pb)) (a .pre .0)
 
 returns-3 : tie.Need-returns-3
 returns-3 c =
     let d = c .before .before .before in
     let a = d .before .before .before .before .before .before .before .before in
-    shared-next (a .args .ps .now) (a .args .ts .now) (a .args .tb .now) (a .args .pb .now) (a .args .thread) (d .before .process-of .result) (d .before .before .before .next-signal .result)
+    shared-next (given (a .args .ps) (a .args .ts) (a .args .tb) (a .args .pb)) (a .args .thread) (d .before .process-of .result) (d .before .before .before .next-signal .result)
     (a .pre .1) (d .before .process-of .ensures) (d .before .before .before .next-signal .ensures) (d .before .before .if1 .left) (c .next-in2 .result)
     (d .pending-of .result) (c .before .before .has .result) (d .pending-of .ensures) (c .before .before .has .ensures) (c .before .if2 .left) (c .next-in2 .ensures)
 

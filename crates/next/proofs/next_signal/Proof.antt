@@ -1,5 +1,6 @@
 -- `next_signal` meets its contract. Assumes nothing.
 use borrow.Author.Needs.{needs}
+use Rattle.sound.specs.Lent.{given}
 use Rattle.next.proofs.next_signal.Statement.{statement}
 use Rattle.next.proofs.next_signal.Tie as tie
 use Rattle.sound.proofs.Facts.{processes-long, threads-long, thread-listed}
@@ -9,52 +10,52 @@ use Rattle.next.proofs.Signals.{signal-stopped, signal-taken}
 process-of-requires : tie.Need-process-of-requires
 process-of-requires c κs =
     let a = c .before .before .before .before in (
-      threads-long (a .args .ps .now) (a .args .ts .now) (a .args .tb .now) (a .args .pb .now) (a .pre .0),
+      threads-long (given (a .args .ps) (a .args .ts) (a .args .tb) (a .args .pb)) (a .pre .0),
       (
-        thread-listed (a .args .ps .now) (a .args .ts .now) (a .args .tb .now) (a .args .pb .now) (a .args .thread) (a .pre .1),
-        owner-good (a .args .ps .now) (a .args .ts .now) (a .args .tb .now) (a .args .pb .now) (a .pre .0) (a .args .thread) (a .pre .1),
+        thread-listed (given (a .args .ps) (a .args .ts) (a .args .tb) (a .args .pb)) (a .args .thread) (a .pre .1),
+        owner-good (given (a .args .ps) (a .args .ts) (a .args .tb) (a .args .pb)) (a .pre .0) (a .args .thread) (a .pre .1),
       ),
     )
 
 is-stopped-requires : tie.Need-is-stopped-requires
 is-stopped-requires c κs =
     let a = c .before .before .before .before .before in (
-      processes-long (a .args .ps .now) (a .args .ts .now) (a .args .tb .now) (a .args .pb .now) (a .pre .0),
-      process-held (a .args .ps .now) (a .args .ts .now) (a .args .tb .now) (a .args .pb .now) (a .pre .0) (a .args .thread) (a .pre .1) (c .process-of .result) (c .process-of .ensures),
+      processes-long (given (a .args .ps) (a .args .ts) (a .args .tb) (a .args .pb)) (a .pre .0),
+      process-held (given (a .args .ps) (a .args .ts) (a .args .tb) (a .args .pb)) (a .pre .0) (a .args .thread) (a .pre .1) (c .process-of .result) (c .process-of .ensures),
     )
 
 returns : tie.Need-returns
 returns c =
     let a = c .before .before .before .before .before .before .before in
-    signal-stopped (a .args .ps .now) (a .args .ts .now) (a .args .tb .now) (a .args .pb .now) (a .args .thread) (c .before .before .process-of .result) (c .before .before .process-of .ensures)
+    signal-stopped (given (a .args .ps) (a .args .ts) (a .args .tb) (a .args .pb)) (a .args .thread) (c .before .before .process-of .result) (c .before .before .process-of .ensures)
     (c .before .is-stopped .result) (c .before .is-stopped .ensures) (c .if1 .taken)
 
 pending-of-requires : tie.Need-pending-of-requires
 pending-of-requires c κs =
     let a = c .before .before .before .before .before .before .before in (
       a .pre .0,
-      own-queue (a .args .ps .now) (a .args .ts .now) (a .args .tb .now) (a .args .pb .now) (a .pre .0) (a .args .thread) (a .pre .1) (c .before .before .process-of .result) (c .before .before .process-of .ensures),
+      own-queue (given (a .args .ps) (a .args .ts) (a .args .tb) (a .args .pb)) (a .pre .0) (a .args .thread) (a .pre .1) (c .before .before .process-of .result) (c .before .before .process-of .ensures),
     )
 
 pending-of-requires-2 : tie.Need-pending-of-requires-2
 pending-of-requires-2 c κs =
     let a = c .before .before .before .before .before .before .before .before in (
       a .pre .0,
-      shared-queue (a .args .ps .now) (a .args .ts .now) (a .args .tb .now) (a .args .pb .now) (a .pre .0) (a .args .thread) (a .pre .1) (c .before .before .before .process-of .result) (c .before .before .before .process-of .ensures),
+      shared-queue (given (a .args .ps) (a .args .ts) (a .args .tb) (a .args .pb)) (a .pre .0) (a .args .thread) (a .pre .1) (c .before .before .before .process-of .result) (c .before .before .before .process-of .ensures),
     )
 
 mask-of-requires : tie.Need-mask-of-requires
 mask-of-requires c κs =
     let a = c .before .before .before .before .before .before .before .before .before .before in (
-      threads-long (a .args .ps .now) (a .args .ts .now) (a .args .tb .now) (a .args .pb .now) (a .pre .0),
-      thread-listed (a .args .ps .now) (a .args .ts .now) (a .args .tb .now) (a .args .pb .now) (a .args .thread) (a .pre .1),
+      threads-long (given (a .args .ps) (a .args .ts) (a .args .tb) (a .args .pb)) (a .pre .0),
+      thread-listed (given (a .args .ps) (a .args .ts) (a .args .tb) (a .args .pb)) (a .args .thread) (a .pre .1),
     )
 
 returns-2 : tie.Need-returns-2
 returns-2 c =
     let d = c .before .before .before .before .before .before in
     let a = d .before .before .before .before .before .before .before in
-    signal-taken (a .args .ps .now) (a .args .ts .now) (a .args .tb .now) (a .args .pb .now) (a .args .thread) (d .before .before .process-of .result) (d .before .before .process-of .ensures)
+    signal-taken (given (a .args .ps) (a .args .ts) (a .args .tb) (a .args .pb)) (a .args .thread) (d .before .before .process-of .result) (d .before .before .process-of .ensures)
     (d .before .is-stopped .result) (d .before .is-stopped .ensures) (a .pre .1) (d .if1 .left)
     (c .before .before .before .before .before .pending-of .result) (c .before .before .before .before .pending-of2 .result) (c .before .before .before .union .result)
     (c .before .before .mask-of .result) (c .before .without .result) (c .lowest .result)

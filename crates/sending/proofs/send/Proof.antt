@@ -4,15 +4,12 @@ use borrow.Author.Needs.{needs}
 use native.Mathlib.Omega.{arith}
 use Rattle.siginfo.proofs.Numbers.{bytes-each}
 use Rattle.types.specs.declared.Reply.the-variants.{Sent}
-use Rattle.rules.specs.Store.{view}
-use Rattle.rules.specs.Sending.{sendChanges}
-use Rattle.rules.specs.Calls.{changes}
-use Rattle.answers.specs.Step.{lent, decoded}
+use Rattle.sound.specs.Lent.{lent, viewOf, given}
 use Rattle.answers.proofs.Endings.{refused-ends, accepted-ends}
-use Rattle.effects.proofs.Chain.{made}
+use Rattle.effects.proofs.Makes.{made-as}
 use Rattle.sending.specs.Generations.{generationOf}
 use Rattle.sending.specs.Decisions.{sendCall}
-use Rattle.sending.proofs.Refused.{allowed-fits}
+use Rattle.sending.proofs.Refused.{allowed-ready}
 use Rattle.sending.proofs.Carried.{send-makes, send-answers, when-refused, when-allowed}
 use Rattle.sending.proofs.send.Statement.{statement}
 use Rattle.sending.proofs.send.Tie as tie
@@ -22,19 +19,19 @@ generate-requires c κs =
     let d = c .before .before .before .before .before .decision2 .given in
     let j = c .before .before .before .before .before .before .before .judge in
     let a = c .before .before .before .before .before .before .before .before .before .before .before .before .before .before .before .before in
-    let l = lent (a .args .ps .now) (a .args .ts .now) (a .args .tb .now) (a .args .pb .now) in
+    let l = given (a .args .ps) (a .args .ts) (a .args .tb) (a .args .pb) in
     let x = a .args in
     let f = d .0 .0 in
     let r = d .0 .1 .0 in
     let y = when-allowed l (x .queued) (x .by) (x .to) (x .thread) (x .signal) (x .value) (j .result) (j .ensures) f r (d .1) in
-    allowed-fits l (x .by) (x .to) (x .thread) (x .signal) (x .value) (x .queued) (y .0) (generationOf f) r (y .1 .0) (y .1 .1)
+    allowed-ready l (x .by) (x .to) (x .thread) (x .signal) (x .value) (x .queued) (y .0) (generationOf f) r (y .1 .0) (y .1 .1)
 
 returns : tie.Need-returns
 returns c =
     let d = c .before .decision .given in
     let j = c .before .before .before .judge in
     let a = c .before .before .before .before .before .before .before .before .before .before .before .before in
-    let l = lent (a .args .ps .now) (a .args .ts .now) (a .args .tb .now) (a .args .pb .now) in
+    let l = given (a .args .ps) (a .args .ts) (a .args .tb) (a .args .pb) in
     let x = a .args in
     let y = when-refused l (x .queued) (x .by) (x .to) (x .thread) (x .signal) (x .value) (j .result) (j .ensures) (d .0 .0) (d .1) in
     refused-ends (sendCall (x .queued) (x .by) (x .to) (x .thread) (x .signal) (x .value)) l (d .0 .0) (y .0) (y .1)
@@ -48,7 +45,7 @@ returns-2 c =
     let d = w .before .before .before .before .before .before .decision2 .given in
     let j = w .before .before .before .before .before .before .before .before .judge in
     let a = w .before .before .before .before .before .before .before .before .before .before .before .before .before .before .before .before .before in
-    let l = lent (a .args .ps .now) (a .args .ts .now) (a .args .tb .now) (a .args .pb .now) in
+    let l = given (a .args .ps) (a .args .ts) (a .args .tb) (a .args .pb) in
     let x = a .args in
     let f = d .0 .0 in
     let r = d .0 .1 .0 in
@@ -56,14 +53,13 @@ returns-2 c =
     let k = w .generate in
     let m = lent (k .last .0) (k .last .1 .0) (k .last .1 .1 .0) (k .last .1 .1 .1 .0) in
     let call = sendCall (x .queued) (x .by) (x .to) (x .thread) (x .signal) (x .value) in
-    let v = view (decoded l) in
+    let v = viewOf l in
     accepted-ends call l (y .0) (Sent (c .sent .result))
     (ap Sent (c .sent .ensures) ∙ send-answers v (x .by) (x .to) (x .thread) (x .signal) (x .value) (x .queued) (generationOf f) (y .1 .0)) m
     (record { processes = k .kept .0; threads = k .kept .1 .0; threadBuffer = k .kept .1 .1 .0; processBuffer = k .kept .1 .1 .1 .0 })
     (bytes-each (m .threadBuffer) (λ i. omega (arith, c .before .before .before .slice-known7 .given i)))
     (bytes-each (m .processBuffer) (λ i. omega (arith, c .before .slice-known8 .given i)))
-    (made (changes v call) (decoded l) (sendChanges (generationOf f) r)
-    (send-makes v (x .by) (x .to) (x .thread) (x .signal) (x .value) (x .queued) (a .pre) (generationOf f) r (y .1 .0) (y .1 .1)) (decoded m) (k .ensures .0))
+    (made-as (k .ensures) (send-makes v (x .by) (x .to) (x .thread) (x .signal) (x .value) (x .queued) (a .pre) (generationOf f) r (y .1 .0) (y .1 .1)) .store)
 
 pub send-spec : {M : Type 1} → statement M
 send-spec =

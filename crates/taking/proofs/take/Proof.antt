@@ -1,7 +1,7 @@
 -- `take` meets its contract: refused, with nothing to take, or taken. Assumes nothing.
 use native.Mathlib.Omega.{arith}
 use borrow.Author.Needs.{needs}
-use Rattle.answers.specs.Step.{lent}
+use Rattle.sound.specs.Lent.{lent, given}
 use Rattle.taking.proofs.Call.{something, take-made, take-nothing, take-refused, taker-live, taker-sound}
 use Rattle.taking.proofs.take.Statement.{statement}
 use Rattle.taking.proofs.take.Tie as tie
@@ -9,11 +9,7 @@ use Rattle.taking.proofs.take.Tie as tie
 returns : tie.Need-returns
 returns c =
     let a = c .before .before .before .before .before .before .before .before .before .before in
-    let ps = a .args .ps .now in
-    let ts = a .args .ts .now in
-    let tb = a .args .tb .now in
-    let pb = a .args .pb .now in
-    let l = lent ps ts tb pb in
+    let l = given (a .args .ps) (a .args .ts) (a .args .tb) (a .args .pb) in
     let t = a .args .thread in
     let n = c .before .thread-refusal in
     take-refused l t (n .result) (n .ensures) (c .if1 .taken)
@@ -21,11 +17,7 @@ returns c =
 next-of-requires : tie.Need-next-of-requires
 next-of-requires c κs =
     let a = c .before .before .before .before .before .before .before .before .before .before .before .before .before .before in
-    let ps = a .args .ps .now in
-    let ts = a .args .ts .now in
-    let tb = a .args .tb .now in
-    let pb = a .args .pb .now in
-    let l = lent ps ts tb pb in
+    let l = given (a .args .ps) (a .args .ts) (a .args .tb) (a .args .pb) in
     let t = a .args .thread in
     let n = c .before .before .before .before .before .thread-refusal in
     let z = c .before .before .before .before .if1 .left in
@@ -34,11 +26,7 @@ next-of-requires c κs =
 returns-2 : tie.Need-returns-2
 returns-2 c =
     let a = c .before .before .before .before .before .before .before .before .before .before .before .before .before .before .before .before .before in
-    let ps = a .args .ps .now in
-    let ts = a .args .ts .now in
-    let tb = a .args .tb .now in
-    let pb = a .args .pb .now in
-    let l = lent ps ts tb pb in
+    let l = given (a .args .ps) (a .args .ts) (a .args .tb) (a .args .pb) in
     let t = a .args .thread in
     let n = c .before .before .before .before .before .before .before .before .thread-refusal in
     let x = c .before .before .next-of in
@@ -49,25 +37,17 @@ returns-2 c =
 take-next-requires : tie.Need-take-next-requires
 take-next-requires c κs =
     let a = c .before .before .before .before .before .before .before .before .before .before .before .before .before .before .before .before .before .before .before .before in
-    let ps = a .args .ps .now in
-    let ts = a .args .ts .now in
-    let tb = a .args .tb .now in
-    let pb = a .args .pb .now in
-    let l = lent ps ts tb pb in
+    let l = given (a .args .ps) (a .args .ts) (a .args .tb) (a .args .pb) in
     let t = a .args .thread in
     let n = c .before .before .before .before .before .before .before .before .before .before .before .thread-refusal in
     let z = c .before .before .before .before .before .before .before .before .before .before .if1 .left in
     let x = c .before .before .before .before .before .next-of in
-    (taker-sound l t (n .result) (n .ensures) z, (taker-live l t (n .result) (n .ensures) z, (x .ensures, something (x .result) (c .before .before .before .before .match .keys2))))
+    record { sound = taker-sound l t (n .result) (n .ensures) z; live = taker-live l t (n .result) (n .ensures) z; next = x .ensures; something = something (x .result) (c .before .before .before .before .match .keys2) }
 
 returns-3 : tie.Need-returns-3
 returns-3 c =
     let a = c .before .before .before .before .before .before .before .before .before .before .before .before .before .before .before .before .before .before .before .before .before .before .before .before .before .before .before .before .before in
-    let ps = a .args .ps .now in
-    let ts = a .args .ts .now in
-    let tb = a .args .tb .now in
-    let pb = a .args .pb .now in
-    let l = lent ps ts tb pb in
+    let l = given (a .args .ps) (a .args .ts) (a .args .tb) (a .args .pb) in
     let t = a .args .thread in
     let n = c .before .before .before .before .before .before .before .before .before .before .before .before .before .before .before .before .before .before .before .before .thread-refusal in
     let x = c .before .before .before .before .before .before .before .before .before .before .before .before .before .before .next-of in
@@ -76,7 +56,7 @@ returns-3 c =
     (search needs) (search needs) (search needs) (search needs)
     (λ i. omega (arith, c .before .before .slice-known7 .given i))
     (λ i. omega (arith, c .slice-known8 .given i))
-    (w .result) (w .ensures .0) (w .ensures .1)
+    (w .result) (w .ensures .answer) (w .ensures .tables .store)
 
 pub take-spec : {M : Type 1} → statement M
 take-spec =
