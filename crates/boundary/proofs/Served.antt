@@ -5,7 +5,7 @@ use mathlib.Core.Bool.{Bool, true, false, not, cond}
 use mathlib.Core.List.{List, _++_}
 use native.Mathlib.Omega.{arith}
 use lib.Dec.{ltb}
-use lib.ListN.{drop}
+use lib.ListN.{length, drop}
 use borrow.Author.Tests.{eq-eqb, ne-eqb, ltb-false, not-true}
 use Rattle.limits.specs.Limits.{EFAULT, EINVAL, callClear, answerWords}
 use Rattle.lists.specs.Lists.{padded}
@@ -15,7 +15,8 @@ use Rattle.types.specs.declared.Answer.the-variants.{Refused}
 use Rattle.rules.specs.Types.{Call}
 use Rattle.sound.specs.Lent.{Lent, lengthsAre, soundTables}
 use Rattle.answers.specs.Step.{stepOn}
-use Rattle.boundary.specs.Boundary.{Arguments, isCall, numbered, wordsOf, errnoOf, written, usable, accepted, serveOn}
+use Rattle.answers.proofs.Endings.{tables-of, answer-of}
+use Rattle.boundary.specs.Boundary.{Arguments, isCall, numbered, wordsOf, errnoOf, written, usable, accepted, serveOn, servedBy, served}
 
 -- ---- errno 14's row
 
@@ -56,35 +57,44 @@ unfolding errnoOf
 no-errno true e = omega (arith, e)
 no-errno false e = omega (arith, e)
 
-module _ (n : ℕ) (g : Arguments) (room : ℕ) (l : Lent) (out : List ℕ) where
+module _ (n : ℕ) (g : Arguments) (l : Lent) (out : List ℕ) where
+  abbrev room : ℕ
+  room = length out
+
   -- what is promised of the number returned, of the tables and of the words
   abbrev Ends : ℕ → Lent → List ℕ → Type 0
-  Ends r m o = (r ≡ errnoOf (serveOn n g room l .1)) × ((m ≡ serveOn n g room l .0) × (o ≡ written (serveOn n g room l .1) out))
+  Ends r m o = record { tables = m; words = o; errno = r } ≡ served n g out l
 
-  ends : (x : Lent × Answer) → serveOn n g room l ≡ x → (r : ℕ) (m : Lent) (o : List ℕ) → r ≡ errnoOf (x .1) → m ≡ x .0 → o ≡ written (x .1) out → Ends r m o
-  ends x e r m o p q s =
-      (p ∙ ap (λ (y : Lent × Answer). errnoOf (y .1)) (sym e), (q ∙ ap (λ (y : Lent × Answer). y .0) (sym e), s ∙ ap (λ (y : Lent × Answer). written (y .1) out) (sym e)))
+  ends : (x : Lent × Answer) → serveOn n g room l ≡ x → (r : ℕ) (m : Lent) (o : List ℕ) → r ≡ errnoOf (x .1) → m ≡ x .0
+      → o ≡ written (x .1) out → Ends r m o
+  unfolding served servedBy
+  ends x e r m o p q s = (λ i. record { tables = q i; words = s i; errno = p i }) ∙ ap (servedBy out) (sym e)
 
   pub turned-away : accepted n room ≡ false → (r : ℕ) → r ≡ cond (usable n l) EINVAL EFAULT → Ends r l out
   unfolding serveOn errnoOf
   turned-away f r e =
-      ends (l, Refused (cond (usable n l) EINVAL EFAULT)) (cond-false (stepOn (numbered n g) l) (l, Refused (cond (usable n l) EINVAL EFAULT)) f) r l out e refl
+      ends (l, Refused (cond (usable n l) EINVAL EFAULT))
+      (cond-false (stepOn (numbered n g) l) (l, Refused (cond (usable n l) EINVAL EFAULT)) f) r l out e refl
       (kept-words (Refused (cond (usable n l) EINVAL EFAULT)) out (no-errno (usable n l)))
 
-  module _ (t : accepted n room ≡ true) (c : Call) (e : c ≡ numbered n g) (a : Answer) (m : Lent) (h : a ≡ stepOn c l .1) (k : m ≡ stepOn c l .0) where
+  module _ (t : accepted n room ≡ true) (c : Call) (e : c ≡ numbered n g) (a : Answer) (m : Lent) (h : (m, a) ≡ stepOn c l) where
     is-step : serveOn n g room l ≡ stepOn c l
     unfolding serveOn
-    is-step = cond-true (stepOn (numbered n g) l) (l, Refused (cond (usable n l) EINVAL EFAULT)) t ∙ ap (λ (x : Call). stepOn x l) (sym e)
+    is-step =
+        cond-true (stepOn (numbered n g) l) (l, Refused (cond (usable n l) EINVAL EFAULT)) t
+        ∙ ap (λ (x : Call). stepOn x l) (sym e)
 
     pub step-refused : (r : ℕ) → r ≡ errnoOf a → (r ≡ 0 → ⊥) → Ends r m out
     step-refused r i f =
-        ends (stepOn c l) is-step r m out (i ∙ ap errnoOf h) k
-        (kept-words (stepOn c l .1) out (λ z. f (i ∙ ap errnoOf h ∙ z)))
+        ends (stepOn c l) is-step r m out (i ∙ ap errnoOf (answer-of h)) (tables-of h)
+        (kept-words (stepOn c l .1) out (λ z. f (i ∙ ap errnoOf (answer-of h) ∙ z)))
 
-    pub step-answered : (r : ℕ) → r ≡ errnoOf a → r ≡ 0 → (ws o : List ℕ) → ws ≡ padded 0 answerWords (wordsOf a) → o ≡ ws ++ drop answerWords out → Ends 0 m o
+    pub step-answered : (r : ℕ) → r ≡ errnoOf a → r ≡ 0 → (ws o : List ℕ) → ws ≡ padded 0 answerWords (wordsOf a)
+        → o ≡ ws ++ drop answerWords out → Ends 0 m o
     unfolding written
     step-answered r i z ws o w p =
-        let none : errnoOf (stepOn c l .1) ≡ 0 = ap errnoOf (sym h) ∙ sym i ∙ z in
-        ends (stepOn c l) is-step 0 m o (sym none) k
-        (p ∙ ap (λ (x : List ℕ). x ++ drop answerWords out) (w ∙ ap (λ (x : Answer). padded 0 answerWords (wordsOf x)) h)
+        let none : errnoOf (stepOn c l .1) ≡ 0 = ap errnoOf (sym (answer-of h)) ∙ sym i ∙ z in
+        ends (stepOn c l) is-step 0 m o (sym none) (tables-of h)
+        (p
+        ∙ ap (λ (x : List ℕ). x ++ drop answerWords out) (w ∙ ap (λ (x : Answer). padded 0 answerWords (wordsOf x)) (answer-of h))
         ∙ sym (cond-true (padded 0 answerWords (wordsOf (stepOn c l .1)) ++ drop answerWords out) out (eq-eqb (errnoOf (stepOn c l .1)) 0 none)))

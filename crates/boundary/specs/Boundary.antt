@@ -4,7 +4,7 @@ use mathlib.Core.Bool.{Bool, not, _&&_, cond}
 use mathlib.Core.List.{List, [], _∷_, _++_}
 use mathlib.Core.Option.{Option, some, none}
 use lib.Dec.{eqb, ltb}
-use lib.ListN.{getD, drop}
+use lib.ListN.{getD, drop, length}
 use Rattle.limits.specs.Limits.{EFAULT, EINVAL, callClear, callSigreturn, answerDone, answerTested, answerActed, answerDropped, answerAbsorbed, answerMarked, answerKept, answerOldAction, answerOldMask, answerPendingSet, answerNextNothing, answerNextMark, answerNextRecord, answerCanTake, answerNoneCan, answerNothing, answerHandler, answerEnd, answerStop, answerNoAction, answerWords}
 use Rattle.lists.specs.Lists.{padded}
 use Rattle.sigset.specs.Set.{bits}
@@ -140,3 +140,15 @@ accepted n room = isCall n && not (ltb room answerWords)
 -- errno 22 where there is not, after 14; else the call
 unfoldable pub serveOn : (number : ℕ) → Arguments → (room : ℕ) → Lent → Lent × Answer
 serveOn n g room l = cond (accepted n room) (stepOn (numbered n g) l) (l, Refused (cond (usable n l) EINVAL EFAULT))
+
+-- what it comes to: the tables, the lent words, and the number that is returned
+pub record Served : Type 0 where
+  pub tables : Lent
+  pub words : List ℕ
+  pub errno : ℕ
+
+unfoldable pub servedBy : (out : List ℕ) → Lent × Answer → Served
+servedBy out s = record { tables = s .0; words = written (s .1) out; errno = errnoOf (s .1) }
+
+unfoldable pub served : (number : ℕ) → Arguments → (out : List ℕ) → Lent → Served
+served n g out l = servedBy out (serveOn n g (length out) l)

@@ -11,7 +11,7 @@ ghost use Rattle.sound.specs.Lent.{given, before, after};
 ghost use Rattle.actions.specs.Given.{newAction};
 ghost use Rattle.masks.specs.Given.{newSet};
 ghost use Rattle.calls.specs.Calls.{callOf};
-ghost use Rattle.boundary.specs.Boundary.{arguments, whereGiven, isCall, numbered, accepted, usable, sentWord, nextWords, takenWords, replyWords, wordsOf, errnoOf, written, serveOn};
+ghost use Rattle.boundary.specs.Boundary.{arguments, whereGiven, isCall, numbered, accepted, usable, sentWord, nextWords, takenWords, replyWords, wordsOf, errnoOf, served};
 use actions::GivenAction;
 use calls::Call;
 use limits::ANSWER_ABSORBED;
@@ -313,9 +313,8 @@ pub fn serve(
     y: u64,
     z: u64,
 ) -> u64
-    ensures errno { λ r. ⌜ r ≡ errnoOf (serveOn number (arguments a b c d e f x y z) (length (now (out .entry))) (before ps ts tb pb) .1) ⌝ }
-    ensures tables { λ r. ⌜ after ps ts tb pb ≡ serveOn number (arguments a b c d e f x y z) (length (now (out .entry))) (before ps ts tb pb) .0 ⌝ }
-    ensures answer { λ r. ⌜ now (out .exit) ≡ written (serveOn number (arguments a b c d e f x y z) (length (now (out .entry))) (before ps ts tb pb) .1) (now (out .entry)) ⌝ }
+    ensures { λ r. ⌜ record { tables = after ps ts tb pb; words = now (out .exit); errno = r }
+        ≡ served number (arguments a b c d e f x y z) (now (out .entry)) (before ps ts tb pb) ⌝ }
 {
     if !is_accepted(number, out.len()) {
         return refusal(ps, ts, tb, pb, number) as u64;

@@ -14,13 +14,18 @@ use Rattle.sound.specs.Lent.{Lent, viewOf}
 use Rattle.answers.specs.Step.{refusalOn, stepOn}
 use Rattle.answers.proofs.Endings.{refused-tables, tables-same}
 
-pub asked : (c : Call) (l : Lent) → Bytes (l .threadBuffer) → Bytes (l .processBuffer) → changes (viewOf l) c ≡ [] → l ≡ stepOn c l .0
-asked c l bt bp h =
-    split (eqb (refusalOn c l) 0)
-    (λ e. tables-same c l (eqb-true (refusalOn c l) 0 e) bt bp h)
-    (λ e. refused-tables c l (eqb-false (refusalOn c l) 0 e))
+-- by the answer that it gave
+pub asked : (c : Call) (l : Lent) (r : Answer) → r ≡ stepOn c l .1 → Bytes (l .threadBuffer) → Bytes (l .processBuffer)
+    → changes (viewOf l) c ≡ [] → (l, r) ≡ stepOn c l
+asked c l r a bt bp h = λ i. (same i, a i)
+  where
+    same : l ≡ stepOn c l .0
+    same =
+        split (eqb (refusalOn c l) 0)
+        (λ e. tables-same c l (eqb-true (refusalOn c l) 0 e) bt bp h)
+        (λ e. refused-tables c l (eqb-false (refusalOn c l) 0 e))
 
 -- the call is this case of the enum
 module _ (c k : declared.Call) (e : c ≡ k) (l m : Lent) (r : Answer) where
-  pub by-case : r ≡ stepOn (callOf k) l .1 → m ≡ stepOn (callOf k) l .0 → (m, r) ≡ stepOn (callOf c) l
-  by-case a t = subst (m, λ (x : declared.Call). (r) ≡ stepOn (callOf x) l) (sym e) (a, t)
+  pub by-case : (m, r) ≡ stepOn (callOf k) l → (m, r) ≡ stepOn (callOf c) l
+  by-case h = subst (λ (x : declared.Call). (m, r) ≡ stepOn (callOf x) l) (sym e) h

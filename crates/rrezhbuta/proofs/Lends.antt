@@ -3,7 +3,7 @@
 --     Lease        a `&κ mut [T]`: its lifetime and the share of it, where it lies, its ghost name, its list, and that it has room.        leaseOf      from a parameter
 --     ref, val, token, lent, gone      of one: its denotation, its machine value, its lifetime's token, what it owns, and what is left of it at exit, with the list zs
 --     unused       it is not used any more: its last list is the one it had
---     Lends        the five tables.        lendsOf     from a call's parameters.        Facts       what a call ensures of them, at its numbers
+--     Lends        the five tables.        lendsOf     from a call's parameters.        held, Facts       what the host holds, and what a call ensures of it
 --     lives5, shares5, refs5, vals5    their lifetimes, the shares of these, and the tables as denotations and as machine values
 --     alive, owns5, left5      their tokens, what they own and what is left of them, with X for the parameters after them.        lives4, .., four, owns4, left4      the same of all but the row of records
 --     apart, whole     the row of records is told from the others, and put to them.        with4, with5, still4, still5       another X.        unused4      none of the others is used any more
@@ -32,7 +32,8 @@ use Rattle.threads.specs.declared.Thread.{Thread}
 use Rattle.threads.proofs.Thread as T
 use Rattle.threads.proofs.Thread.Laws as T′
 use Rattle.threads.proofs.Lent.{at-list, gives-up}
-use Rattle.rrezhbuta.specs.Kernel.{errnoAt, processesAt, threadBufferAt, processBufferAt, answerAt, threadsAt}
+use Rattle.boundary.specs.Boundary.{Arguments}
+use Rattle.rrezhbuta.specs.Entry.{Host, host, callOn}
 
 abbrev pub elem : Ty
 elem = pointee (T.the-row .written)
@@ -145,15 +146,12 @@ module _ (L : Lends) where
     abbrev pub alive : Item 𝓤
     alive = ‵ (token (L .ps)) ⊛ (‵ (token (L .tb)) ⊛ (‵ (token (L .pb)) ⊛ (‵ (token (L .out)) ⊛ (‵ (token (L .ts)) ⊛ ‵ ftrue))))
 
-  module _ (number a b c d e f x y z : ℕ) where
-    abbrev pub Facts : (r : ℕ) (ps tb pb out : List ℕ) (ts : List Thread) → Type 0
-    Facts r ps tb pb out ts =
-        (r ≡ errnoAt (L .ps .list) (L .tb .list) (L .pb .list) (L .out .list) (L .ts .list) number a b c d e f x y z)
-        × (ps ≡ processesAt (L .ps .list) (L .tb .list) (L .pb .list) (L .out .list) (L .ts .list) number a b c d e f x y z)
-        × (tb ≡ threadBufferAt (L .ps .list) (L .tb .list) (L .pb .list) (L .out .list) (L .ts .list) number a b c d e f x y z)
-        × (pb ≡ processBufferAt (L .ps .list) (L .tb .list) (L .pb .list) (L .out .list) (L .ts .list) number a b c d e f x y z)
-        × (out ≡ answerAt (L .ps .list) (L .tb .list) (L .pb .list) (L .out .list) (L .ts .list) number a b c d e f x y z)
-        × (ts ≡ threadsAt (L .ps .list) (L .tb .list) (L .pb .list) (L .out .list) (L .ts .list) number a b c d e f x y z)
+  -- what the host holds
+  abbrev pub held : Host
+  held = host (L .ps .list) (L .tb .list) (L .pb .list) (L .out .list) (L .ts .list)
+
+  abbrev pub Facts : (number : ℕ) → Arguments → (r : ℕ) (ps tb pb out : List ℕ) (ts : List Thread) → Type 0
+  Facts number g r ps tb pb out ts = (host ps tb pb out ts, r) ≡ callOn number g held
 
 module _ {M : Type 1} {𝓤 : URA M} {H : Heap 𝓤} {A : Atoms 𝓤} {K : Type 0} {W : Given 𝓤 H A} {Γ : List (Item 𝓤)} {G : Goal 𝓤 H} where
   pub apart : K → (L : Lends) {X : Fml} → Step K W (four L ∷ ‵ (token (L .ts)) ∷ ‵ (owns4 L ftrue) ∷ ‵ (lent (L .ts)) ∷ Γ) G (alive L ∷ ‵ (owns5 L X) ∷ Γ) G

@@ -17,11 +17,11 @@ use Rattle.answers.specs.Step.{committed, stepOn}
 use Rattle.rules.specs.Calls.{step, lookPart}
 use Rattle.rules.specs.Sound.{sound}
 use Rattle.looking.specs.Looks.{partBytes, lookBytes, slotNumber, lookSlot}
-use Rattle.boundary.specs.Boundary.{arguments, numbered, errnoOf, written, usable, accepted, serveOn}
+use Rattle.boundary.specs.Boundary.{Arguments, numbered, errnoOf, written, usable, accepted, serveOn, servedBy, served}
 use Rattle.threads.specs.declared.Thread.{Thread}
-use Rattle.threads.specs.Records.{wordsOf, recordsOf}
+use Rattle.threads.specs.Records.{wordsOf}
 use Rattle.threads.proofs.Words.{words-length, records-back}
-use Rattle.rrezhbuta.specs.Kernel.{served, errnoAt, processesAt, threadBufferAt, processBufferAt, answerAt, threadsAt, lookAt, slotAt}
+use Rattle.rrezhbuta.specs.Entry.{Host, host, handedBack, callOn, lookAt, slotAt}
 
 not-so : (b : Bool) → T (not b) → b ≡ false
 not-so true t = absurd t
@@ -53,32 +53,29 @@ module _ (ps tb pb : List ℕ) (ts : List Thread) (o : T (not (eqb (length ts) t
   unfolding slotAt lookSlot
   no-slot-here thread = sym (cond-false (slotNumber (lookPart thread (decoded before))) 0 short)
 
-  module _ (out : List ℕ) (number a b c d e f x y z : ℕ) where
+  module _ (out : List ℕ) (number : ℕ) (g : Arguments) where
     abbrev refusal : Lent × Answer
     refusal = (before, Refused EFAULT)
 
-    refused-here : served ps tb pb out ts number a b c d e f x y z ≡ refusal
-    unfolding served serveOn stepOn
+    refused-here : serveOn number g (length out) before ≡ refusal
+    unfolding serveOn stepOn
     refused-here =
         split (accepted number (length out))
-        (λ t. cond-true (stepOn (numbered number (arguments a b c d e f x y z)) before) (before, Refused (cond (usable number before) EINVAL EFAULT)) t
-        ∙ cond-false (committed before (step (numbered number (arguments a b c d e f x y z)) (decoded before))) refusal short)
-        (λ t. cond-false (stepOn (numbered number (arguments a b c d e f x y z)) before) (before, Refused (cond (usable number before) EINVAL EFAULT)) t
+        (λ t.
+        cond-true (stepOn (numbered number g) before) (before, Refused (cond (usable number before) EINVAL EFAULT)) t
+        ∙ cond-false (committed before (step (numbered number g) (decoded before))) refusal short)
+        (λ t.
+        cond-false (stepOn (numbered number g) before) (before, Refused (cond (usable number before) EINVAL EFAULT)) t
         ∙ ap (λ (k : Bool). (before, Refused (cond k EINVAL EFAULT))) (unusable number))
 
-    wrong-length-here : (EFAULT ≡ errnoAt ps tb pb out ts number a b c d e f x y z) × (ps ≡ processesAt ps tb pb out ts number a b c d e f x y z) × (tb ≡ threadBufferAt ps tb pb out ts number a b c d e f x y z) × (pb ≡ processBufferAt ps tb pb out ts number a b c d e f x y z) × (out ≡ answerAt ps tb pb out ts number a b c d e f x y z) × (ts ≡ threadsAt ps tb pb out ts number a b c d e f x y z)
-    unfolding errnoAt processesAt threadBufferAt processBufferAt answerAt threadsAt errnoOf written
-    wrong-length-here = (
-      ap (λ (k : Lent × Answer). errnoOf (k .1)) (sym refused-here),
-      ap (λ (k : Lent × Answer). k .0 .processes) (sym refused-here),
-      ap (λ (k : Lent × Answer). k .0 .threadBuffer) (sym refused-here),
-      ap (λ (k : Lent × Answer). k .0 .processBuffer) (sym refused-here),
-      ap (λ (k : Lent × Answer). written (k .1) out) (sym refused-here),
-      sym (records-back ts) ∙ ap (λ (k : Lent × Answer). recordsOf (length ts) (k .0 .threads)) (sym refused-here),
-    )
+    wrong-length-here : (host ps tb pb out ts, EFAULT) ≡ callOn number g (host ps tb pb out ts)
+    unfolding callOn handedBack served servedBy errnoOf written
+    wrong-length-here =
+        ap (λ (us : List Thread). (host ps tb pb out us, EFAULT)) (sym (records-back ts))
+        ∙ ap (λ (k : Lent × Answer). handedBack (length ts) (servedBy out k)) (sym refused-here)
 
-pub wrong-length : (ps tb pb out : List ℕ) (ts : List Thread) (number a b c d e f x y z : ℕ) → T (not (eqb (length ts) threadPlaces)) → (EFAULT ≡ errnoAt ps tb pb out ts number a b c d e f x y z) × (ps ≡ processesAt ps tb pb out ts number a b c d e f x y z) × (tb ≡ threadBufferAt ps tb pb out ts number a b c d e f x y z) × (pb ≡ processBufferAt ps tb pb out ts number a b c d e f x y z) × (out ≡ answerAt ps tb pb out ts number a b c d e f x y z) × (ts ≡ threadsAt ps tb pb out ts number a b c d e f x y z)
-wrong-length ps tb pb out ts number a b c d e f x y z o = wrong-length-here ps tb pb ts o out number a b c d e f x y z
+pub wrong-length : (h : Host) (number : ℕ) (g : Arguments) → T (not (eqb (length (h .threads)) threadPlaces)) → (h, EFAULT) ≡ callOn number g h
+wrong-length h number g o = wrong-length-here (h .processes) (h .threadBuffer) (h .processBuffer) (h .threads) o (h .answer) number g
 
 pub no-look : (ps tb pb : List ℕ) (ts : List Thread) (thread : ℕ) (r : List ℕ) → T (not (eqb (length ts) threadPlaces)) → length r ≡ 0 → r ≡ lookAt ps tb pb ts thread
 no-look ps tb pb ts thread r o e = no-look-here ps tb pb ts o thread r e

@@ -35,7 +35,7 @@ use Rattle.effects.proofs.Places.{thread-changed}
 use Rattle.threads.specs.declared.Thread.{Thread}
 use Rattle.threads.specs.Records.{noThread, withMask, hasId, withMaskAt, recordTo, wordsOf, recordsOf}
 use Rattle.threads.proofs.Words.{words-length, records-back}
-use Rattle.rrezhbuta.specs.Kernel.{maskIn}
+use Rattle.rrezhbuta.specs.Entry.{maskIn}
 
 -- ---- a row of records, as the places that its words say
 
@@ -144,7 +144,7 @@ module _ (ps tb pb : List ℕ) (ts : List Thread) (e : length ts ≡ threadPlace
     amended =
         let i = find (hasId t) ts in
         ap threadWordsOf
-        (thread-changed ps (wordsOf ts) tb pb s t live masked
+        (thread-changed before s t live masked
         ∙ ap (λ k. set (threadsOf (wordsOf ts)) k (masked (threadAt (wordsOf ts) k))) live-found
         ∙ ap (λ xs. set xs i (masked (getD xs i freeThread))) (words-places ts e)
         ∙ ap (λ x. set (map placeOf ts) i (masked x)) (List·getD-map placeOf ts i noThread)

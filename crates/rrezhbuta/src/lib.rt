@@ -3,7 +3,8 @@ ghost use mathlib.Core.Path.{_≡_};
 ghost use lib.ListN.{length};
 ghost use Rattle.limits.specs.Limits.{threadTable, callSigmask};
 ghost use Rattle.threads.specs.Records.{withMaskAt};
-ghost use Rattle.rrezhbuta.specs.Kernel.{errnoAt, processesAt, threadBufferAt, processBufferAt, answerAt, threadsAt, outAt, maskIn, lookAt, slotAt};
+ghost use Rattle.boundary.specs.Boundary.{arguments};
+ghost use Rattle.rrezhbuta.specs.Entry.{host, callOn, hostBefore, hostAfter, maskIn, lookAt, slotAt};
 use limits::CALL_SIGMASK;
 use limits::CALL_SIGRETURN;
 use limits::EFAULT;
@@ -46,11 +47,8 @@ fn work(
     y: u64,
     z: u64,
 ) -> Out
-    ensures { λ r. ⌜ (r ≡ outAt (now (ps .entry)) (now (tb .entry)) (now (pb .entry)) (now (out .entry)) ts number a b c d e f x y z)
-        × (now (ps .exit) ≡ processesAt (now (ps .entry)) (now (tb .entry)) (now (pb .entry)) (now (out .entry)) ts number a b c d e f x y z)
-        × (now (tb .exit) ≡ threadBufferAt (now (ps .entry)) (now (tb .entry)) (now (pb .entry)) (now (out .entry)) ts number a b c d e f x y z)
-        × (now (pb .exit) ≡ processBufferAt (now (ps .entry)) (now (tb .entry)) (now (pb .entry)) (now (out .entry)) ts number a b c d e f x y z)
-        × (now (out .exit) ≡ answerAt (now (ps .entry)) (now (tb .entry)) (now (pb .entry)) (now (out .entry)) ts number a b c d e f x y z) ⌝ }
+    ensures { λ r. ⌜ (host (now (ps .exit)) (now (tb .exit)) (now (pb .exit)) (now (out .exit)) (r .ts), r .errno)
+        ≡ callOn number (arguments a b c d e f x y z) (host (now (ps .entry)) (now (tb .entry)) (now (pb .entry)) (now (out .entry)) ts) ⌝ }
 {
     let mut ws = threads::words_of(ts);
     let errno = boundary::serve(ps, &mut ws, tb, pb, out, number, a, b, c, d, e, f, x, y, z);
@@ -84,12 +82,8 @@ fn mask_work(
     given: u32,
     set: u64,
 ) -> MaskChange
-    ensures { λ r. ⌜ (r .errno ≡ errnoAt (now (ps .entry)) (now (tb .entry)) (now (pb .entry)) (now (out .entry)) ts callSigmask thread way given 0 0 0 set 0 0)
-        × (withMaskAt (r .thread) (r .mask) ts ≡ threadsAt (now (ps .entry)) (now (tb .entry)) (now (pb .entry)) (now (out .entry)) ts callSigmask thread way given 0 0 0 set 0 0)
-        × (now (ps .exit) ≡ processesAt (now (ps .entry)) (now (tb .entry)) (now (pb .entry)) (now (out .entry)) ts callSigmask thread way given 0 0 0 set 0 0)
-        × (now (tb .exit) ≡ threadBufferAt (now (ps .entry)) (now (tb .entry)) (now (pb .entry)) (now (out .entry)) ts callSigmask thread way given 0 0 0 set 0 0)
-        × (now (pb .exit) ≡ processBufferAt (now (ps .entry)) (now (tb .entry)) (now (pb .entry)) (now (out .entry)) ts callSigmask thread way given 0 0 0 set 0 0)
-        × (now (out .exit) ≡ answerAt (now (ps .entry)) (now (tb .entry)) (now (pb .entry)) (now (out .entry)) ts callSigmask thread way given 0 0 0 set 0 0) ⌝ }
+    ensures { λ r. ⌜ (host (now (ps .exit)) (now (tb .exit)) (now (pb .exit)) (now (out .exit)) (withMaskAt (r .thread) (r .mask) ts), r .errno)
+        ≡ callOn callSigmask (arguments thread way given 0 0 0 set 0 0) (host (now (ps .entry)) (now (tb .entry)) (now (pb .entry)) (now (out .entry)) ts) ⌝ }
 {
     let mut ws = threads::words_of(ts);
     let errno = boundary::serve(
@@ -136,12 +130,7 @@ fn serve(
     y: u64,
     z: u64,
 ) -> u64
-    ensures { λ r. ⌜ (r ≡ errnoAt (now (ps .entry)) (now (tb .entry)) (now (pb .entry)) (now (out .entry)) (now (ts .entry)) number a b c d e f x y z)
-        × (now (ps .exit) ≡ processesAt (now (ps .entry)) (now (tb .entry)) (now (pb .entry)) (now (out .entry)) (now (ts .entry)) number a b c d e f x y z)
-        × (now (tb .exit) ≡ threadBufferAt (now (ps .entry)) (now (tb .entry)) (now (pb .entry)) (now (out .entry)) (now (ts .entry)) number a b c d e f x y z)
-        × (now (pb .exit) ≡ processBufferAt (now (ps .entry)) (now (tb .entry)) (now (pb .entry)) (now (out .entry)) (now (ts .entry)) number a b c d e f x y z)
-        × (now (out .exit) ≡ answerAt (now (ps .entry)) (now (tb .entry)) (now (pb .entry)) (now (out .entry)) (now (ts .entry)) number a b c d e f x y z)
-        × (now (ts .exit) ≡ threadsAt (now (ps .entry)) (now (tb .entry)) (now (pb .entry)) (now (out .entry)) (now (ts .entry)) number a b c d e f x y z) ⌝ }
+    ensures { λ r. ⌜ (hostAfter ps tb pb out ts, r) ≡ callOn number (arguments a b c d e f x y z) (hostBefore ps tb pb out ts) ⌝ }
 {
     if ts.len() != THREAD_PLACES {
         return EFAULT as u64;
@@ -164,12 +153,7 @@ fn serve_mask(
     given: u32,
     set: u64,
 ) -> u64
-    ensures { λ r. ⌜ (r ≡ errnoAt (now (ps .entry)) (now (tb .entry)) (now (pb .entry)) (now (out .entry)) (now (ts .entry)) callSigmask thread way given 0 0 0 set 0 0)
-        × (now (ps .exit) ≡ processesAt (now (ps .entry)) (now (tb .entry)) (now (pb .entry)) (now (out .entry)) (now (ts .entry)) callSigmask thread way given 0 0 0 set 0 0)
-        × (now (tb .exit) ≡ threadBufferAt (now (ps .entry)) (now (tb .entry)) (now (pb .entry)) (now (out .entry)) (now (ts .entry)) callSigmask thread way given 0 0 0 set 0 0)
-        × (now (pb .exit) ≡ processBufferAt (now (ps .entry)) (now (tb .entry)) (now (pb .entry)) (now (out .entry)) (now (ts .entry)) callSigmask thread way given 0 0 0 set 0 0)
-        × (now (out .exit) ≡ answerAt (now (ps .entry)) (now (tb .entry)) (now (pb .entry)) (now (out .entry)) (now (ts .entry)) callSigmask thread way given 0 0 0 set 0 0)
-        × (now (ts .exit) ≡ threadsAt (now (ps .entry)) (now (tb .entry)) (now (pb .entry)) (now (out .entry)) (now (ts .entry)) callSigmask thread way given 0 0 0 set 0 0) ⌝ }
+    ensures { λ r. ⌜ (hostAfter ps tb pb out ts, r) ≡ callOn callSigmask (arguments thread way given 0 0 0 set 0 0) (hostBefore ps tb pb out ts) ⌝ }
 {
     if ts.len() != THREAD_PLACES {
         return EFAULT as u64;
@@ -201,12 +185,7 @@ pub extern "C" fn rrezhbuta_call(
     y: u64,
     z: u64,
 ) -> u64
-    ensures { λ r. ⌜ (r ≡ errnoAt (now (ps .entry)) (now (tb .entry)) (now (pb .entry)) (now (out .entry)) (now (ts .entry)) number a b c d e f x y z)
-        × (now (ps .exit) ≡ processesAt (now (ps .entry)) (now (tb .entry)) (now (pb .entry)) (now (out .entry)) (now (ts .entry)) number a b c d e f x y z)
-        × (now (tb .exit) ≡ threadBufferAt (now (ps .entry)) (now (tb .entry)) (now (pb .entry)) (now (out .entry)) (now (ts .entry)) number a b c d e f x y z)
-        × (now (pb .exit) ≡ processBufferAt (now (ps .entry)) (now (tb .entry)) (now (pb .entry)) (now (out .entry)) (now (ts .entry)) number a b c d e f x y z)
-        × (now (out .exit) ≡ answerAt (now (ps .entry)) (now (tb .entry)) (now (pb .entry)) (now (out .entry)) (now (ts .entry)) number a b c d e f x y z)
-        × (now (ts .exit) ≡ threadsAt (now (ps .entry)) (now (tb .entry)) (now (pb .entry)) (now (out .entry)) (now (ts .entry)) number a b c d e f x y z) ⌝ }
+    ensures { λ r. ⌜ (hostAfter ps tb pb out ts, r) ≡ callOn number (arguments a b c d e f x y z) (hostBefore ps tb pb out ts) ⌝ }
 {
     if number == CALL_SIGMASK {
         return serve_mask(ps, tb, pb, out, ts, a, b, c, x);

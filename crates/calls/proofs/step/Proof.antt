@@ -15,7 +15,7 @@ returns c =
     let a = c .before .before .before .before .before .before .before .before .before .before .before .before .before .before .before .before .before .before .before in
     let r = c .before .before .before .before .before .before .before .before .clear in
     by-case (a .args .c) _ (c .before .before .before .before .before .before .before .before .before .before .before .before .before .enum-told .given .1) (given (a .args .ps) (a .args .ts) (a .args .tb) (a .args .pb))
-    (lent (r .last .0) (r .last .1 .0) (r .last .1 .1 .0) (r .last .1 .1 .1 .0)) (r .result) (r .ensures .0) (r .ensures .1)
+    (lent (r .last .0) (r .last .1 .0) (r .last .1 .1 .0) (r .last .1 .1 .1 .0)) (r .result) (r .ensures)
 
 returns-2 : tie.Need-returns-2
 unfolding callOf
@@ -23,7 +23,7 @@ returns-2 c =
     let a = c .before .before .before .before .before .before .before .before .before .before .before .before .before .before .before .before .before .before .before .before in
     let r = c .before .before .before .before .before .before .before .before .add-process in
     by-case (a .args .c) _ (c .before .before .before .before .before .before .before .before .before .before .before .before .before .before .c .given .1) (given (a .args .ps) (a .args .ts) (a .args .tb) (a .args .pb))
-    (lent (r .last .0) (r .last .1 .0) (r .last .1 .1 .0) (r .last .1 .1 .1 .0)) (r .result) (r .ensures .0) (r .ensures .1)
+    (lent (r .last .0) (r .last .1 .0) (r .last .1 .1 .0) (r .last .1 .1 .1 .0)) (r .result) (r .ensures)
 
 returns-3 : tie.Need-returns-3
 unfolding callOf
@@ -31,7 +31,7 @@ returns-3 c =
     let a = c .before .before .before .before .before .before .before .before .before .before .before .before .before .before .before .before .before .before .before .before in
     let r = c .before .before .before .before .before .before .before .before .add-thread in
     by-case (a .args .c) _ (c .before .before .before .before .before .before .before .before .before .before .before .before .before .before .c2 .given .1) (given (a .args .ps) (a .args .ts) (a .args .tb) (a .args .pb))
-    (lent (r .last .0) (r .last .1 .0) (r .last .1 .1 .0) (r .last .1 .1 .1 .0)) (r .result) (r .ensures .0) (r .ensures .1)
+    (lent (r .last .0) (r .last .1 .0) (r .last .1 .1 .0) (r .last .1 .1 .1 .0)) (r .result) (r .ensures)
 
 returns-4 : tie.Need-returns-4
 unfolding callOf
@@ -39,7 +39,7 @@ returns-4 c =
     let a = c .before .before .before .before .before .before .before .before .before .before .before .before .before .before .before .before .before .before .before .before in
     let r = c .before .before .before .before .before .before .before .before .end-process in
     by-case (a .args .c) _ (c .before .before .before .before .before .before .before .before .before .before .before .before .before .before .c3 .given .1) (given (a .args .ps) (a .args .ts) (a .args .tb) (a .args .pb))
-    (lent (r .last .0) (r .last .1 .0) (r .last .1 .1 .0) (r .last .1 .1 .1 .0)) (r .result) (r .ensures .0) (r .ensures .1)
+    (lent (r .last .0) (r .last .1 .0) (r .last .1 .1 .0) (r .last .1 .1 .1 .0)) (r .result) (r .ensures)
 
 returns-5 : tie.Need-returns-5
 unfolding callOf
@@ -47,7 +47,7 @@ returns-5 c =
     let a = c .before .before .before .before .before .before .before .before .before .before .before .before .before .before .before .before .before .before .before .before in
     let r = c .before .before .before .before .before .before .before .before .end-thread in
     by-case (a .args .c) _ (c .before .before .before .before .before .before .before .before .before .before .before .before .before .before .c4 .given .1) (given (a .args .ps) (a .args .ts) (a .args .tb) (a .args .pb))
-    (lent (r .last .0) (r .last .1 .0) (r .last .1 .1 .0) (r .last .1 .1 .1 .0)) (r .result) (r .ensures .0) (r .ensures .1)
+    (lent (r .last .0) (r .last .1 .0) (r .last .1 .1 .0) (r .last .1 .1 .1 .0)) (r .result) (r .ensures)
 
 returns-6 : tie.Need-returns-6
 unfolding callOf
@@ -55,7 +55,7 @@ returns-6 c =
     let a = c .before .before .before .before .before .before .before .before .before .before .before .before .before .before .before .before .before .before .before .before in
     let r = c .before .before .before .before .before .before .before .before .kill in
     by-case (a .args .c) _ (c .before .before .before .before .before .before .before .before .before .before .before .before .before .before .c5 .given .1) (given (a .args .ps) (a .args .ts) (a .args .tb) (a .args .pb))
-    (lent (r .last .0) (r .last .1 .0) (r .last .1 .1 .0) (r .last .1 .1 .1 .0)) (r .result) (r .ensures .0) (r .ensures .1)
+    (lent (r .last .0) (r .last .1 .0) (r .last .1 .1 .0) (r .last .1 .1 .1 .0)) (r .result) (r .ensures)
 
 returns-7 : tie.Need-returns-7
 unfolding callOf
@@ -63,7 +63,7 @@ returns-7 c =
     let a = c .before .before .before .before .before .before .before .before .before .before .before .before .before .before .before .before .before .before .before .before in
     let r = c .before .before .before .before .before .before .before .before .sigqueue in
     by-case (a .args .c) _ (c .before .before .before .before .before .before .before .before .before .before .before .before .before .before .c6 .given .1) (given (a .args .ps) (a .args .ts) (a .args .tb) (a .args .pb))
-    (lent (r .last .0) (r .last .1 .0) (r .last .1 .1 .0) (r .last .1 .1 .1 .0)) (r .result) (r .ensures .0) (r .ensures .1)
+    (lent (r .last .0) (r .last .1 .0) (r .last .1 .1 .0) (r .last .1 .1 .1 .0)) (r .result) (r .ensures)
 
 returns-8 : tie.Need-returns-8
 unfolding callOf
@@ -71,7 +71,7 @@ returns-8 c =
     let a = c .before .before .before .before .before .before .before .before .before .before .before .before .before .before .before .before .before .before .before .before in
     let r = c .before .before .before .before .before .before .before .before .sigaction in
     by-case (a .args .c) _ (c .before .before .before .before .before .before .before .before .before .before .before .before .before .before .c7 .given .1) (given (a .args .ps) (a .args .ts) (a .args .tb) (a .args .pb))
-    (lent (r .last .0) (r .last .1 .0) (r .last .1 .1 .0) (r .last .1 .1 .1 .0)) (r .result) (r .ensures .0) (r .ensures .1)
+    (lent (r .last .0) (r .last .1 .0) (r .last .1 .1 .0) (r .last .1 .1 .1 .0)) (r .result) (r .ensures)
 
 returns-9 : tie.Need-returns-9
 unfolding callOf
@@ -79,31 +79,31 @@ returns-9 c =
     let a = c .before .before .before .before .before .before .before .before .before .before .before .before .before .before .before .before .before .before .before .before in
     let r = c .before .before .before .before .before .before .before .before .sigmask in
     by-case (a .args .c) _ (c .before .before .before .before .before .before .before .before .before .before .before .before .before .before .c8 .given .1) (given (a .args .ps) (a .args .ts) (a .args .tb) (a .args .pb))
-    (lent (r .last .0) (r .last .1 .0) (r .last .1 .1 .0) (r .last .1 .1 .1 .0)) (r .result) (r .ensures .0) (r .ensures .1)
+    (lent (r .last .0) (r .last .1 .0) (r .last .1 .1 .0) (r .last .1 .1 .1 .0)) (r .result) (r .ensures)
 
 returns-10 : tie.Need-returns-10
 unfolding callOf changes
 returns-10 c =
     let a = c .before .before .before .before .before .before .before .before .before .before .before .before in
     let l = given (a .args .ps) (a .args .ts) (a .args .tb) (a .args .pb) in
-    by-case (a .args .c) _ (c .before .before .before .before .before .before .c9 .given .1) l l (c .sigpending .result) (c .sigpending .ensures)
-    (asked _ l (bytes-each (a .args .tb .now) (λ i. omega (arith, c .before .before .before .before .before .before .before .before .before .slice-known3 .given i))) (bytes-each (a .args .pb .now) (λ i. omega (arith, c .before .before .before .before .before .before .before .before .slice-known4 .given i))) refl)
+    by-case (a .args .c) _ (c .before .before .before .before .before .before .c9 .given .1) l l (c .sigpending .result)
+    (asked _ l (c .sigpending .result) (c .sigpending .ensures) (bytes-each (a .args .tb .now) (λ i. omega (arith, c .before .before .before .before .before .before .before .before .before .slice-known3 .given i))) (bytes-each (a .args .pb .now) (λ i. omega (arith, c .before .before .before .before .before .before .before .before .slice-known4 .given i))) refl)
 
 returns-11 : tie.Need-returns-11
 unfolding callOf changes
 returns-11 c =
     let a = c .before .before .before .before .before .before .before .before .before .before .before .before in
     let l = given (a .args .ps) (a .args .ts) (a .args .tb) (a .args .pb) in
-    by-case (a .args .c) _ (c .before .before .before .before .before .before .c10 .given .1) l l (c .look .result) (c .look .ensures)
-    (asked _ l (bytes-each (a .args .tb .now) (λ i. omega (arith, c .before .before .before .before .before .before .before .before .before .slice-known3 .given i))) (bytes-each (a .args .pb .now) (λ i. omega (arith, c .before .before .before .before .before .before .before .before .slice-known4 .given i))) refl)
+    by-case (a .args .c) _ (c .before .before .before .before .before .before .c10 .given .1) l l (c .look .result)
+    (asked _ l (c .look .result) (c .look .ensures) (bytes-each (a .args .tb .now) (λ i. omega (arith, c .before .before .before .before .before .before .before .before .before .slice-known3 .given i))) (bytes-each (a .args .pb .now) (λ i. omega (arith, c .before .before .before .before .before .before .before .before .slice-known4 .given i))) refl)
 
 returns-12 : tie.Need-returns-12
 unfolding callOf changes
 returns-12 c =
     let a = c .before .before .before .before .before .before .before .before .before .before .before .before in
     let l = given (a .args .ps) (a .args .ts) (a .args .tb) (a .args .pb) in
-    by-case (a .args .c) _ (c .before .before .before .before .before .before .c11 .given .1) l l (c .who .result) (c .who .ensures)
-    (asked _ l (bytes-each (a .args .tb .now) (λ i. omega (arith, c .before .before .before .before .before .before .before .before .before .slice-known3 .given i))) (bytes-each (a .args .pb .now) (λ i. omega (arith, c .before .before .before .before .before .before .before .before .slice-known4 .given i))) refl)
+    by-case (a .args .c) _ (c .before .before .before .before .before .before .c11 .given .1) l l (c .who .result)
+    (asked _ l (c .who .result) (c .who .ensures) (bytes-each (a .args .tb .now) (λ i. omega (arith, c .before .before .before .before .before .before .before .before .before .slice-known3 .given i))) (bytes-each (a .args .pb .now) (λ i. omega (arith, c .before .before .before .before .before .before .before .before .slice-known4 .given i))) refl)
 
 returns-13 : tie.Need-returns-13
 unfolding callOf
@@ -111,7 +111,7 @@ returns-13 c =
     let a = c .before .before .before .before .before .before .before .before .before .before .before .before .before .before .before .before .before .before .before .before in
     let r = c .before .before .before .before .before .before .before .before .take in
     by-case (a .args .c) _ (c .before .before .before .before .before .before .before .before .before .before .before .before .before .before .c12 .given .1) (given (a .args .ps) (a .args .ts) (a .args .tb) (a .args .pb))
-    (lent (r .last .0) (r .last .1 .0) (r .last .1 .1 .0) (r .last .1 .1 .1 .0)) (r .result) (r .ensures .0) (r .ensures .1)
+    (lent (r .last .0) (r .last .1 .0) (r .last .1 .1 .0) (r .last .1 .1 .1 .0)) (r .result) (r .ensures)
 
 returns-14 : tie.Need-returns-14
 unfolding callOf
@@ -119,7 +119,7 @@ returns-14 c =
     let a = c .before .before .before .before .before .before .before .before .before .before .before .before .before .before .before .before .before .before .before .before in
     let r = c .before .before .before .before .before .before .before .before .sigreturn in
     by-case (a .args .c) _ (c .before .before .before .before .before .before .before .before .before .before .before .before .before .before .c13 .given .1) (given (a .args .ps) (a .args .ts) (a .args .tb) (a .args .pb))
-    (lent (r .last .0) (r .last .1 .0) (r .last .1 .1 .0) (r .last .1 .1 .1 .0)) (r .result) (r .ensures .0) (r .ensures .1)
+    (lent (r .last .0) (r .last .1 .0) (r .last .1 .1 .0) (r .last .1 .1 .1 .0)) (r .result) (r .ensures)
 
 pub step-spec : {M : Type 1} → statement M
 step-spec =

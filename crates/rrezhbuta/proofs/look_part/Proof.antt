@@ -34,7 +34,7 @@ use denote.Triple.Table.{entered, cited}
 use denote.Triple.Walked.{says}
 use Rattle.limits.specs.Limits.{threadPlaces}
 use Rattle.threads.specs.declared.Thread.{Thread}
-use Rattle.rrezhbuta.specs.Kernel.{lookAt}
+use Rattle.rrezhbuta.specs.Entry.{lookAt}
 use Rattle.threads.proofs.Thread as T
 use Rattle.threads.proofs.Thread.Laws as T′
 use Rattle.threads.proofs.load as ld

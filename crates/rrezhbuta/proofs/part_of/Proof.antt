@@ -5,7 +5,7 @@ use Prim.Native.Nat.{ℕ}
 use borrow.Author.Needs.{needs}
 use Rattle.sound.specs.Lent.{lent}
 use Rattle.looking.specs.Looks.{lookBytes}
-use Rattle.rrezhbuta.specs.Kernel.{lookAt}
+use Rattle.rrezhbuta.specs.Entry.{lookAt}
 use Rattle.rrezhbuta.proofs.part_of.Statement.{statement}
 use Rattle.rrezhbuta.proofs.part_of.Tie as tie
 

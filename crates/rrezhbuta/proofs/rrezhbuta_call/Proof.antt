@@ -28,7 +28,8 @@ use denote.Triple.Table.{entered, cited}
 use denote.Triple.Walked.{says}
 use Rattle.limits.specs.Limits.{callSigmask, sigSetmask}
 use Rattle.threads.specs.declared.Thread.{Thread}
-use Rattle.rrezhbuta.proofs.Lends.{elem, slice, val, Lends, lendsOf, lives5, shares5, refs5, vals5, owns5, left5, alive, Facts, with5, still5}
+use Rattle.boundary.specs.Boundary.{arguments}
+use Rattle.rrezhbuta.proofs.Lends.{elem, slice, val, Lends, lendsOf, lives5, shares5, refs5, vals5, owns5, left5, alive, held, Facts, with5, still5}
 use Rattle.rrezhbuta.proofs.Routes.{mask-route, return-route}
 use Rattle.rrezhbuta.proofs.Walk.{Cell, spare, holds, slots, cells, frees-all, copied, reborrows, figures, words, Numbers, Small, numbers, spelled, told, are-small, Truths, truths, Its, ends-by, meets-by, calls-by}
 use Rattle.threads.proofs.Thread as T
@@ -92,7 +93,7 @@ module _ {M : Type 1} (𝓤 : URA M) (H : Heap 𝓤) (A : Atoms 𝓤) (W : Given
   abbrev Post : Val → SProp 𝓤
   Post = Me 𝓤 H A mem run .post bound
 
-  exits : (r : ℕ) (w : Val) (ps tb pb out : List ℕ) (ts : List Thread) (X : Fml) → Facts L number a b c d e f x y z r ps tb pb out ts
+  exits : (r : ℕ) (w : Val) (ps tb pb out : List ℕ) (ts : List Thread) (X : Fml) → Facts L number (arguments a b c d e f x y z) r ps tb pb out ts
       → ent 𝓤 (⋆ 𝓤 H A (‵ (u64 .own r (w ∷ [])) ∷ alive L ∷ ‵ (left5 L ps tb pb out ts X) ∷ [])) (Post w)
   exits r w ps tb pb out ts X e =
       qed W (‵ (u64 .own r (w ∷ [])) ∷ alive L ∷ ‵ (left5 L ps tb pb out ts X) ∷ []) ∵
@@ -147,7 +148,7 @@ module _ {M : Type 1} (𝓤 : URA M) (H : Heap 𝓤) (A : Atoms 𝓤) (W : Given
           reborrows ! 86 8 6 (L .out .room .0) refl refl refl refl refl refl refl refl $
           reborrows ! 84 4 2 (L .ts .room .0) refl refl refl refl refl refl refl refl $
           use2 W (raw (Serve 𝓤 H A mem run .pre to-serve)) asks-serve $
-          calls-by ! fm sv.ended (sv.clauses 𝓤 H A mem run) known-serve to-serve (λ r zs. Facts L number a b c d e f x y z r (zs .0) (zs .1 .0) (zs .1 .1 .0) (zs .1 .1 .1 .0) (zs .1 .1 .1 .1 .0)) (λ r zs. id⊢ 𝓤 _)
+          calls-by ! fm sv.ended (sv.clauses 𝓤 H A mem run) known-serve to-serve (λ r zs. Facts L number (arguments a b c d e f x y z) r (zs .0) (zs .1 .0) (zs .1 .1 .0) (zs .1 .1 .1 .0) (zs .1 .1 .1 .1 .0)) (λ r zs. id⊢ 𝓤 _)
           (and-then ! (copied ! 17 refl) (and-then ! (copied ! 13 refl) (and-then ! (copied ! 9 refl) (and-then ! (copied ! 5 refl) (and-then ! (copied ! 1 refl)
           (and-then ! (copied ! 81 refl) (and-then ! (copied ! 79 refl) (and-then ! (copied ! 77 refl) (and-then ! (copied ! 75 refl) (and-then ! (copied ! 73 refl)
           (and-then ! (copied ! 71 refl) (and-then ! (copied ! 69 refl) (and-then ! (copied ! 67 refl) (and-then ! (copied ! 65 refl) (and-then ! (copied ! 63 refl)
@@ -168,14 +169,14 @@ module _ {M : Type 1} (𝓤 : URA M) (H : Heap 𝓤) (A : Atoms 𝓤) (W : Given
           reborrows ! 84 24 22 (L .ts .room .0) refl refl refl refl refl refl refl refl $
           use0 W (‵ (Numbers (masked a sigSetmask 1 x))) (numbers 𝓤 H A W (masked a sigSetmask 1 x) (small .1 .0, (lit< tt, (lit< tt, (small .1 .1 .1 .1 .1 .1 .1 .0, tt))))) $
           move ! (2 ∷ 0 ∷ []) $ with5 ! L $ move ! (1 ∷ 0 ∷ []) $ use2 W (raw (Mask 𝓤 H A mem run .pre (to-mask a sigSetmask 1 x))) (asks-mask a sigSetmask 1 x) $
-          calls-by ! fm sm.ended (sm.clauses 𝓤 H A mem run) known-mask (to-mask a sigSetmask 1 x) (λ r zs. Facts L callSigmask a sigSetmask 1 0 0 0 x 0 0 r (zs .0) (zs .1 .0) (zs .1 .1 .0) (zs .1 .1 .1 .0) (zs .1 .1 .1 .1 .0)) (λ r zs. id⊢ 𝓤 _)
+          calls-by ! fm sm.ended (sm.clauses 𝓤 H A mem run) known-mask (to-mask a sigSetmask 1 x) (λ r zs. Facts L callSigmask (arguments a sigSetmask 1 0 0 0 x 0 0) r (zs .0) (zs .1 .0) (zs .1 .1 .0) (zs .1 .1 .1 .0) (zs .1 .1 .1 .1 .0)) (λ r zs. id⊢ 𝓤 _)
           (and-then ! (copied ! 37 refl) (and-then ! (copied ! 33 refl) (and-then ! (copied ! 29 refl) (and-then ! (copied ! 25 refl) (and-then ! (copied ! 21 refl)
           (and-then ! (copied ! 79 refl) (and-then ! (lit ! tt) (and-then ! (lit ! tt) (and-then ! (copied ! 67 refl) (no-more !)))))))))) (λ w r zs had is.
           land ! (from ! (stop !)) (init ! 95 refl (uint-lawful 𝓤 H A W w64 .typed r _ is .0)) $ returns-within ! Post refl (look ! 95 refl) $
           forget ! 95 refl $ forget ! 63 refl $ forget ! 41 refl $ forget ! 39 refl $ forget ! 37 refl $ forget ! 35 refl $ forget ! 33 refl $
           forget ! 31 refl $ forget ! 29 refl $ forget ! 27 refl $ forget ! 25 refl $ forget ! 23 refl $
           frees-all ! 3 Frame refl $ by ! (exits r w (zs .0) (zs .1 .0) (zs .1 .1 .0) (zs .1 .1 .1 .0) (zs .1 .1 .1 .1 .0) (Truths 4)
-          (let m = return-route (L .ps .list) (L .tb .list) (L .pb .list) (L .out .list) (L .ts .list) number a b c d e f x y z same in (had .0 ∙ m .0, had .1 ∙ m .1, had .2 ∙ m .2, had .3 ∙ m .3, had .4 ∙ m .4, had .5 ∙ m .5)))))
+          (had ∙ return-route (held L) number a b c d e f x y z same))))
           (λ other. skips ! $ exec ! C Λ En mir.t-5 (atRet En Post) $ forget ! 62 refl $ serves)
 
       begins : Sq W (alive L ∷ ‵ Owns ∷ cells Frame []) (runs C Λ En mir.t-1 (atRet En Post))
@@ -188,14 +189,14 @@ module _ {M : Type 1} (𝓤 : URA M) (H : Heap 𝓤) (A : Atoms 𝓤) (W : Given
           reborrows ! 84 44 42 (L .ts .room .0) refl refl refl refl refl refl refl refl $
           use0 W (‵ (Numbers (masked a b c x))) (numbers 𝓤 H A W (masked a b c x) (small .1 .0, (small .1 .1 .0, (small .1 .1 .1 .0, (small .1 .1 .1 .1 .1 .1 .1 .0, tt))))) $
           move ! (2 ∷ 0 ∷ []) $ with5 ! L $ move ! (1 ∷ 0 ∷ []) $ use2 W (raw (Mask 𝓤 H A mem run .pre (to-mask a b c x))) (asks-mask a b c x) $
-          calls-by ! fm sm.ended (sm.clauses 𝓤 H A mem run) known-mask (to-mask a b c x) (λ r zs. Facts L callSigmask a b c 0 0 0 x 0 0 r (zs .0) (zs .1 .0) (zs .1 .1 .0) (zs .1 .1 .1 .0) (zs .1 .1 .1 .1 .0)) (λ r zs. id⊢ 𝓤 _)
+          calls-by ! fm sm.ended (sm.clauses 𝓤 H A mem run) known-mask (to-mask a b c x) (λ r zs. Facts L callSigmask (arguments a b c 0 0 0 x 0 0) r (zs .0) (zs .1 .0) (zs .1 .1 .0) (zs .1 .1 .1 .0) (zs .1 .1 .1 .1 .0)) (λ r zs. id⊢ 𝓤 _)
           (and-then ! (copied ! 57 refl) (and-then ! (copied ! 53 refl) (and-then ! (copied ! 49 refl) (and-then ! (copied ! 45 refl) (and-then ! (copied ! 41 refl)
           (and-then ! (copied ! 79 refl) (and-then ! (copied ! 77 refl) (and-then ! (copied ! 75 refl) (and-then ! (copied ! 67 refl) (no-more !)))))))))) (λ w r zs had is.
           land ! (from ! (stop !)) (init ! 95 refl (uint-lawful 𝓤 H A W w64 .typed r _ is .0)) $ returns-within ! Post refl (look ! 95 refl) $
           forget ! 95 refl $ forget ! 63 refl $ forget ! 61 refl $ forget ! 59 refl $ forget ! 57 refl $ forget ! 55 refl $ forget ! 53 refl $
           forget ! 51 refl $ forget ! 49 refl $ forget ! 47 refl $ forget ! 45 refl $ forget ! 43 refl $
           frees-all ! 3 Frame refl $ by ! (exits r w (zs .0) (zs .1 .0) (zs .1 .1 .0) (zs .1 .1 .1 .0) (zs .1 .1 .1 .1 .0) (Truths 4)
-          (let m = mask-route (L .ps .list) (L .tb .list) (L .pb .list) (L .out .list) (L .ts .list) number a b c d e f x y z same in (had .0 ∙ m .0, had .1 ∙ m .1, had .2 ∙ m .2, had .3 ∙ m .3, had .4 ∙ m .4, had .5 ∙ m .5)))))
+          (had ∙ mask-route (held L) number a b c d e f x y z same))))
           (λ other. skips ! $ exec ! C Λ En mir.t-3 (atRet En Post) $ forget ! 62 refl $ asks-return)
 
     walk : ent 𝓤 (onEntry 𝓤 H A self.signature (lives5 L) (shares5 L) arg at) (WpFn 𝓤 H C Λ code.function passed Post)

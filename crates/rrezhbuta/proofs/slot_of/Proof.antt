@@ -5,7 +5,7 @@ use Prim.Native.Nat.{ℕ}
 use borrow.Author.Needs.{needs}
 use Rattle.sound.specs.Lent.{lent}
 use Rattle.looking.specs.Looks.{lookSlot}
-use Rattle.rrezhbuta.specs.Kernel.{slotAt}
+use Rattle.rrezhbuta.specs.Entry.{slotAt}
 use Rattle.rrezhbuta.proofs.slot_of.Statement.{statement}
 use Rattle.rrezhbuta.proofs.slot_of.Tie as tie
 
