@@ -13,15 +13,16 @@ use Rattle.siginfo.specs.Bytes.{Bytes}
 use Rattle.types.specs.declared.Action.{Action}
 use Rattle.rules.specs.Types.{action, oldAction}
 use Rattle.rules.specs.View.{liveProcess, actionOf}
-use Rattle.rules.specs.Store.{view, applyAll}
+use Rattle.rules.specs.Store.{applyAll}
 use Rattle.rules.specs.Refusals.{overLast, badAction, noProcessLive, rows, isClear, einval, esrch}
 use Rattle.rules.specs.Actions.{stored, storeChanges, actionChanges}
 use Rattle.rules.specs.Calls.{changes, answer}
 use Rattle.rules.specs.Fitting.{fitsAll}
 use Rattle.rules.proofs.SendFits.{action-fits}
 use Rattle.sound.proofs.Facts.{store-sound}
-use Rattle.answers.specs.Step.{Lent, decoded, refusalOn, stepOn}
-use Rattle.answers.proofs.Endings.{AsLong, isSound, accepted-tables-sound, accepted-rows, same-ends, accepted-ends}
+use Rattle.sound.specs.Lent.{Lent, decoded, viewOf, soundTables}
+use Rattle.answers.specs.Step.{refusalOn, stepOn}
+use Rattle.answers.proofs.Endings.{AsLong, accepted-tables-sound, accepted-rows, same-ends, accepted-ends}
 use Rattle.answers.proofs.Rows.{refuses-fault, refuses-at, refuses-none}
 use Rattle.effects.proofs.Chain.{made, all-fit}
 use Rattle.view.specs.Named.{processNamed}
@@ -38,30 +39,30 @@ asked-signal s new b =
 module _ (l : Lent) (p s : ℕ) (new : Option Action) where
   -- ---- the refusal, as code tries the rows
 
-  pub action-fault : isSound l ≡ false → EFAULT ≡ refusalOn (action p s new) l
+  pub action-fault : soundTables l ≡ false → EFAULT ≡ refusalOn (action p s new) l
   unfolding isClear
   action-fault = refuses-fault (action p s new) l refl
 
-  module _ (e : isSound l ≡ true) where
+  module _ (e : soundTables l ≡ true) where
     pub action-bad : badAction s new ≡ true → EINVAL ≡ refusalOn (action p s new) l
     unfolding rows isClear
     action-bad b = refuses-at (action p s new) l refl e [] (einval (badAction s new)) _ refl tt b
 
     module _ (b : badAction s new ≡ false) where
-      pub action-gone : noProcessLive (view (decoded l)) p ≡ true → ESRCH ≡ refusalOn (action p s new) l
+      pub action-gone : noProcessLive (viewOf l) p ≡ true → ESRCH ≡ refusalOn (action p s new) l
       unfolding rows isClear
-      action-gone g = refuses-at (action p s new) l refl e (einval (badAction s new) ∷ []) (esrch (noProcessLive (view (decoded l)) p)) [] refl (b, tt) g
+      action-gone g = refuses-at (action p s new) l refl e (einval (badAction s new) ∷ []) (esrch (noProcessLive (viewOf l) p)) [] refl (b, tt) g
 
-      pub action-none : noProcessLive (view (decoded l)) p ≡ false → 0 ≡ refusalOn (action p s new) l
+      pub action-none : noProcessLive (viewOf l) p ≡ false → 0 ≡ refusalOn (action p s new) l
       unfolding rows isClear
       action-none g = refuses-none (action p s new) l refl e (b, (g, tt))
 
   -- ---- accepted
 
   pub record Accepted : Type 0 where
-    pub sound : isSound l ≡ true
+    pub sound : soundTables l ≡ true
     pub fine : badAction s new ≡ false
-    pub live : liveProcess (view (decoded l)) p ≡ true
+    pub live : liveProcess (viewOf l) p ≡ true
 
   module _ (e : refusalOn (action p s new) l ≡ 0) where
     pub action-accepted : Accepted
@@ -71,12 +72,12 @@ module _ (l : Lent) (p s : ℕ) (new : Option Action) where
         record {
           sound = accepted-tables-sound (action p s new) l refl e;
           fine = h .0;
-          live = not-false (liveProcess (view (decoded l)) p) (h .1 .0);
+          live = not-false (liveProcess (viewOf l) p) (h .1 .0);
         }
 
     -- by the action that was read
     module _ (old : Action) (o : old ≡ actionOf (processNamed (l .processes) p) s) where
-      answered : oldAction old ≡ answer (view (decoded l)) (action p s new)
+      answered : oldAction old ≡ answer (viewOf l) (action p s new)
       unfolding answer
       answered = ap oldAction (o ∙ ap (λ x. actionOf x s) (process-named (l .processes) (l .threads) (l .threadBuffer) (l .processBuffer) p))
 

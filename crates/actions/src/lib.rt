@@ -6,7 +6,8 @@ ghost use Rattle.rules.specs.Store.{view};
 ghost use Rattle.rules.specs.Actions.{stored};
 ghost use Rattle.rules.specs.Refusals.{badAction};
 ghost use Rattle.answers.specs.Answers.{answerOf};
-ghost use Rattle.answers.specs.Step.{lent, refusalOn, stepOn};
+ghost use Rattle.sound.specs.Lent.{given, before, after};
+ghost use Rattle.answers.specs.Step.{refusalOn, stepOn};
 ghost use Rattle.actions.specs.Given.{newAction};
 use answers::Answer;
 use limits::EFAULT;
@@ -56,7 +57,7 @@ fn action_refusal(
     signal: u32,
     new: GivenAction,
 ) -> u32
-    ensures { λ r. ⌜ r ≡ refusalOn (call.action process signal (newAction new)) (lent (now (ps .entry)) (now (ts .entry)) (now (tb .entry)) (now (pb .entry))) ⌝ }
+    ensures { λ r. ⌜ r ≡ refusalOn (call.action process signal (newAction new)) (before ps ts tb pb) ⌝ }
 {
     if !sound::sound(ps, ts, tb, pb) {
         return EFAULT;
@@ -80,8 +81,8 @@ pub fn sigaction(
     signal: u32,
     new: GivenAction,
 ) -> Answer
-    ensures answer { λ r. ⌜ answerOf r ≡ stepOn (call.action process signal (newAction new)) (lent (now (ps .entry)) (now (ts .entry)) (now (tb .entry)) (now (pb .entry))) .1 ⌝ }
-    ensures tables { λ r. ⌜ lent (now (ps .exit)) (now (ts .exit)) (now (tb .exit)) (now (pb .exit)) ≡ stepOn (call.action process signal (newAction new)) (lent (now (ps .entry)) (now (ts .entry)) (now (tb .entry)) (now (pb .entry))) .0 ⌝ }
+    ensures answer { λ r. ⌜ answerOf r ≡ stepOn (call.action process signal (newAction new)) (before ps ts tb pb) .1 ⌝ }
+    ensures tables { λ r. ⌜ after ps ts tb pb ≡ stepOn (call.action process signal (newAction new)) (before ps ts tb pb) .0 ⌝ }
 {
     let n = action_refusal(ps, ts, tb, pb, process, signal, new);
     if n != 0 {

@@ -20,16 +20,16 @@ use Rattle.rules.specs.Refusals.{rows, isClear, fault, table, refusalOf, noThre
 use Rattle.rules.specs.Calls.{changes, answer}
 use Rattle.rules.proofs.RefusalTable.{Off}
 use Rattle.tables.specs.Tables.{processesOf, threadsOf, heldProcesses, heldThreads}
-use Rattle.sound.specs.Lent.{storeOf, soundTables}
+use Rattle.sound.specs.Lent.{Lent, lent, decoded, viewOf, lengthsAre, soundTables, given}
 use Rattle.effects.proofs.Places.{with-all}
 use Rattle.sound.proofs.Facts.{right-processes, right-threads, threads-long}
 use Rattle.effects.specs.Effects.{threadOf}
 use Rattle.view.specs.Named.{threadNamed}
 use Rattle.answers.specs.declared.Answer.the-variants.{Refused, Done}
 use Rattle.answers.specs.Answers.{answerOf}
-use Rattle.answers.specs.Step.{Lent, lent, refusalOn, stepOn}
+use Rattle.answers.specs.Step.{refusalOn, stepOn}
 use Rattle.view.proofs.Live.{owner-known}
-use Rattle.answers.proofs.Endings.{longAs, accepted-long, accepted-rows, accepted-tables-sound, refused-ends, accepted-ends}
+use Rattle.answers.proofs.Endings.{accepted-long, accepted-rows, accepted-tables-sound, refused-ends, accepted-ends}
 
 -- ---- a process
 
@@ -41,20 +41,20 @@ undecided id real effective saved session thread mask l = refl
 
 module _ (ps ts tb pb : List ℕ) (id thread n : ℕ) (r : n ≡ refusalOn (addProcess id 0 0 0 0 thread empty) (lent ps ts tb pb)) where
   module _ (z : n ≡ 0) where
-    process-long : longAs (lent ps ts tb pb) ≡ true
+    process-long : lengthsAre (lent ps ts tb pb) ≡ true
     process-long = accepted-long (addProcess id 0 0 0 0 thread empty) (lent ps ts tb pb) (sym r ∙ z)
 
-    places : (noProcessPlace (view (storeOf ps ts tb pb)) || noThreadPlace (view (storeOf ps ts tb pb))) ≡ false
+    places : (noProcessPlace (viewOf (lent ps ts tb pb)) || noThreadPlace (viewOf (lent ps ts tb pb))) ≡ false
     unfolding rows
     places = accepted-rows (addProcess id 0 0 0 0 thread empty) (lent ps ts tb pb) (sym r ∙ z) .1 .1 .0
 
     pub process-room : (length ps ≡ processTable) × (any isFreeProcess (heldProcesses ps) ≡ true)
-    unfolding noProcessPlace view storeOf
+    unfolding noProcessPlace view decoded
     process-room =
         (right-processes ps ts tb pb process-long, not-false (any isFreeProcess (heldProcesses ps)) (or-fst-false (not (any isFreeProcess (heldProcesses ps))) _ places))
 
     pub first-thread-room : (length ts ≡ threadTable) × (any isFreeThread (heldThreads ts) ≡ true)
-    unfolding noThreadPlace noProcessPlace view storeOf
+    unfolding noThreadPlace noProcessPlace view decoded
     first-thread-room =
         (right-threads ps ts tb pb process-long, not-false (any isFreeThread (heldThreads ts)) (or-snd-false (not (any isFreeProcess (heldProcesses ps))) _ places))
 
@@ -71,8 +71,8 @@ module _ (ps ts tb pb : List ℕ) (id thread n : ℕ) (r : n ≡ refusalOn (addP
     module _ (ps′ ts′ : List ℕ) (given : SigSet) (g : given ≡ maskable mask)
         (p : processesOf ps′ ≡ fill isFreeProcess (addedProcess id real effective saved session) (processesOf ps))
         (t : threadsOf ts′ ≡ fill isFreeThread (threadOf thread id given) (threadsOf ts)) where
-      process-made : storeOf ps′ ts′ tb pb ≡ applyAll (changes (view (storeOf ps ts tb pb)) call) (storeOf ps ts tb pb)
-      unfolding storeOf changes addProcessChanges applyAll apply
+      process-made : decoded (lent ps′ ts′ tb pb) ≡ applyAll (changes (viewOf (lent ps ts tb pb)) call) (decoded (lent ps ts tb pb))
+      unfolding decoded changes addProcessChanges applyAll apply
       process-made =
           let f : threadsOf ts′ ≡ fill isFreeThread (threadOf thread id (maskable mask)) (threadsOf ts) =
           t ∙ ap (λ (m : SigSet). fill isFreeThread (threadOf thread id m) (threadsOf ts)) g in
@@ -93,28 +93,28 @@ module _ (ps ts tb pb : List ℕ) (creator id n : ℕ) (r : n ≡ refusalOn (add
   thread-refused = refused-ends (addThread creator id) (lent ps ts tb pb) n r
 
   module _ (z : n ≡ 0) where
-    off : All Off (rows (view (storeOf ps ts tb pb)) (addThread creator id))
+    off : All Off (rows (viewOf (lent ps ts tb pb)) (addThread creator id))
     off = accepted-rows (addThread creator id) (lent ps ts tb pb) (sym r ∙ z)
 
-    tables-sound : soundTables ps ts tb pb ≡ true
+    tables-sound : soundTables (lent ps ts tb pb) ≡ true
     unfolding isClear
     tables-sound = accepted-tables-sound (addThread creator id) (lent ps ts tb pb) refl (sym r ∙ z)
 
     pub creator-owned : (length ts ≡ threadTable) × ((any (isThread creator) (heldThreads ts) ≡ true) × (goodId (threadNamed ts creator .process) ≡ true))
     unfolding rows noThreadLive
-    creator-owned = owner-known ps ts tb pb tables-sound creator (not-false (liveThread (view (storeOf ps ts tb pb)) creator) (off .1 .0))
+    creator-owned = owner-known ps ts tb pb tables-sound creator (not-false (liveThread (viewOf (lent ps ts tb pb)) creator) (off .1 .0))
 
     pub creator-found : (length ts ≡ threadTable) × (any (isThread creator) (heldThreads ts) ≡ true)
     creator-found = (creator-owned .0, creator-owned .1 .0)
 
     pub thread-room : (length ts ≡ threadTable) × (any isFreeThread (heldThreads ts) ≡ true)
-    unfolding rows noThreadPlace view storeOf
+    unfolding rows noThreadPlace view decoded
     thread-room = (threads-long ps ts tb pb tables-sound, not-false (any isFreeThread (heldThreads ts)) (off .1 .1 .1 .0))
 
     module _ (ts′ : List ℕ) (process : ℕ) (mask : SigSet) (o : process ≡ threadNamed ts creator .process) (m : mask ≡ threadNamed ts creator .mask)
         (t : threadsOf ts′ ≡ fill isFreeThread (threadOf id process mask) (threadsOf ts)) where
-      thread-made : storeOf ps ts′ tb pb ≡ applyAll (changes (view (storeOf ps ts tb pb)) (addThread creator id)) (storeOf ps ts tb pb)
-      unfolding storeOf changes addThreadChanges applyAll apply theThread view
+      thread-made : decoded (lent ps ts′ tb pb) ≡ applyAll (changes (viewOf (lent ps ts tb pb)) (addThread creator id)) (decoded (lent ps ts tb pb))
+      unfolding decoded changes addThreadChanges applyAll apply theThread view
       thread-made =
           let f : threadsOf ts′ ≡ fill isFreeThread (threadOf id (threadNamed ts creator .process) (threadNamed ts creator .mask)) (threadsOf ts) =
           t ∙ ap₂ (λ (k : ℕ) (s : SigSet). fill isFreeThread (threadOf id k s) (threadsOf ts)) o m in

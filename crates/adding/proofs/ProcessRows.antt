@@ -13,13 +13,13 @@ use Rattle.rules.specs.Store.{isFreeProcess, isFreeThread, view}
 use Rattle.rules.specs.Sound.{goodId}
 use Rattle.rules.specs.Refusals.{Row, rows, isClear, badId, noProcessPlace, noThreadPlace, einval, eexist, eagain}
 use Rattle.tables.specs.Tables.{heldProcesses, heldThreads}
-use Rattle.sound.specs.Lent.{storeOf, soundTables}
-use Rattle.answers.specs.Step.{lent, refusalOn}
+use Rattle.sound.specs.Lent.{lent, decoded, viewOf, soundTables}
+use Rattle.answers.specs.Step.{refusalOn}
 use Rattle.answers.proofs.Rows.{refuses-fault, refuses-at, refuses-none}
 
 module _ (ps ts tb pb : List ℕ) (id thread : ℕ) where
   abbrev v : View
-  v = view (storeOf ps ts tb pb)
+  v = viewOf (lent ps ts tb pb)
 
   abbrev bad : Row
   bad = einval (badId id || badId thread)
@@ -36,13 +36,13 @@ module _ (ps ts tb pb : List ℕ) (id thread : ℕ) where
   abbrev answered : ℕ → Type 0
   answered n = n ≡ refusalOn call (lent ps ts tb pb)
 
-  module _ (s : Bool) (e : s ≡ soundTables ps ts tb pb) where
+  module _ (s : Bool) (e : s ≡ soundTables (lent ps ts tb pb)) where
     pub process-fault : not s ≡ true → answered EFAULT
     unfolding isClear
     process-fault k = refuses-fault call (lent ps ts tb pb) refl (sym e ∙ not-true s k)
 
     module _ (k : not s ≡ false) (g h : Bool) (eg : g ≡ goodId id) (eh : h ≡ goodId thread) where
-      sound-so : soundTables ps ts tb pb ≡ true
+      sound-so : soundTables (lent ps ts tb pb) ≡ true
       sound-so = sym e ∙ not-false s k
 
       bad-is : (b : Bool) → (not g || not h) ≡ b → bad .applies ≡ b
@@ -55,7 +55,7 @@ module _ (ps ts tb pb : List ℕ) (id thread : ℕ) where
 
       module _ (q : (not g || not h) ≡ false) (p t : Bool) (ep : p ≡ any (isProcess id) (heldProcesses ps)) (et : t ≡ any (isThread thread) (heldThreads ts)) where
         there-is : (b : Bool) → (p || t) ≡ b → there .applies ≡ b
-        unfolding liveProcess liveThread view storeOf
+        unfolding liveProcess liveThread view decoded
         there-is b w = ap₂ (λ (x y : Bool). x || y) (sym ep) (sym et) ∙ w
 
         pub process-there : (p || t) ≡ true → answered EEXIST
@@ -64,7 +64,7 @@ module _ (ps ts tb pb : List ℕ) (id thread : ℕ) where
 
         module _ (w : (p || t) ≡ false) (a b : Bool) (ea : a ≡ any isFreeProcess (heldProcesses ps)) (eb : b ≡ any isFreeThread (heldThreads ts)) where
           full-is : (x : Bool) → (not a || not b) ≡ x → full .applies ≡ x
-          unfolding noProcessPlace noThreadPlace view storeOf
+          unfolding noProcessPlace noThreadPlace view decoded
           full-is x f = ap₂ (λ (y z : Bool). not y || not z) (sym ea) (sym eb) ∙ f
 
           pub process-full : (not a || not b) ≡ true → answered EAGAIN

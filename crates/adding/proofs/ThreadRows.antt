@@ -12,14 +12,14 @@ use Rattle.rules.specs.Store.{isFreeThread, view}
 use Rattle.rules.specs.Sound.{goodId}
 use Rattle.rules.specs.Refusals.{Row, rows, isClear, badId, noThreadLive, noThreadPlace, einval, esrch, eexist, eagain}
 use Rattle.tables.specs.Tables.{heldThreads}
-use Rattle.sound.specs.Lent.{storeOf, soundTables}
-use Rattle.answers.specs.Step.{lent, refusalOn}
+use Rattle.sound.specs.Lent.{lent, decoded, viewOf, soundTables}
+use Rattle.answers.specs.Step.{refusalOn}
 use Rattle.answers.proofs.Rows.{refuses-fault, refuses-at, refuses-none}
 use Rattle.view.proofs.Live.{no-thread}
 
 module _ (ps ts tb pb : List ℕ) (creator id : ℕ) where
   abbrev v : View
-  v = view (storeOf ps ts tb pb)
+  v = viewOf (lent ps ts tb pb)
 
   abbrev bad : Row
   bad = einval (badId id)
@@ -36,13 +36,13 @@ module _ (ps ts tb pb : List ℕ) (creator id : ℕ) where
   abbrev answered : ℕ → Type 0
   answered n = n ≡ refusalOn (addThread creator id) (lent ps ts tb pb)
 
-  module _ (s : Bool) (e : s ≡ soundTables ps ts tb pb) where
+  module _ (s : Bool) (e : s ≡ soundTables (lent ps ts tb pb)) where
     pub thread-fault : not s ≡ true → answered EFAULT
     unfolding isClear
     thread-fault k = refuses-fault (addThread creator id) (lent ps ts tb pb) refl (sym e ∙ not-true s k)
 
     module _ (k : not s ≡ false) (g : Bool) (eg : g ≡ goodId id) where
-      sound-so : soundTables ps ts tb pb ≡ true
+      sound-so : soundTables (lent ps ts tb pb) ≡ true
       sound-so = sym e ∙ not-false s k
 
       bad-is : (b : Bool) → not g ≡ b → bad .applies ≡ b
@@ -63,7 +63,7 @@ module _ (ps ts tb pb : List ℕ) (creator id : ℕ) where
 
         module _ (w : not p ≡ false) (t : Bool) (et : t ≡ any (isThread id) (heldThreads ts)) where
           there-is : (b : Bool) → t ≡ b → there .applies ≡ b
-          unfolding liveThread view storeOf
+          unfolding liveThread view decoded
           there-is b f = sym et ∙ f
 
           pub thread-there : t ≡ true → answered EEXIST
@@ -73,7 +73,7 @@ module _ (ps ts tb pb : List ℕ) (creator id : ℕ) where
 
           module _ (f : t ≡ false) (a : Bool) (ea : a ≡ any isFreeThread (heldThreads ts)) where
             full-is : (b : Bool) → not a ≡ b → full .applies ≡ b
-            unfolding noThreadPlace view storeOf
+            unfolding noThreadPlace view decoded
             full-is b h = ap not (sym ea) ∙ h
 
             pub thread-full : not a ≡ true → answered EAGAIN

@@ -4,7 +4,8 @@ ghost use Rattle.sigset.specs.Set.{empty};
 ghost use Rattle.rules.specs.Types as call;
 ghost use Rattle.rules.specs.Store.{view};
 ghost use Rattle.answers.specs.Answers.{answerOf};
-ghost use Rattle.answers.specs.Step.{lent, refusalOn, stepOn};
+ghost use Rattle.sound.specs.Lent.{before, after};
+ghost use Rattle.answers.specs.Step.{refusalOn, stepOn};
 use answers::Answer;
 use limits::EAGAIN;
 use limits::EEXIST;
@@ -15,7 +16,7 @@ use sigset::SigSet;
 
 // The user ids, the session id and the mask decide nothing.
 fn add_process_refusal(ps: &[u64], ts: &[u64], tb: &[u8], pb: &[u8], id: u32, thread: u32) -> u32
-    ensures { λ r. ⌜ r ≡ refusalOn (call.addProcess id 0 0 0 0 thread empty) (lent (now (ps .entry)) (now (ts .entry)) (now (tb .entry)) (now (pb .entry))) ⌝ }
+    ensures { λ r. ⌜ r ≡ refusalOn (call.addProcess id 0 0 0 0 thread empty) (before ps ts tb pb) ⌝ }
 {
     if !sound::sound(ps, ts, tb, pb) {
         return EFAULT;
@@ -46,8 +47,8 @@ pub fn add_process(
     thread: u32,
     mask: SigSet,
 ) -> Answer
-    ensures answer { λ r. ⌜ answerOf r ≡ stepOn (call.addProcess id real effective saved session thread mask) (lent (now (ps .entry)) (now (ts .entry)) (now (tb .entry)) (now (pb .entry))) .1 ⌝ }
-    ensures tables { λ r. ⌜ lent (now (ps .exit)) (now (ts .exit)) (now (tb .exit)) (now (pb .exit)) ≡ stepOn (call.addProcess id real effective saved session thread mask) (lent (now (ps .entry)) (now (ts .entry)) (now (tb .entry)) (now (pb .entry))) .0 ⌝ }
+    ensures answer { λ r. ⌜ answerOf r ≡ stepOn (call.addProcess id real effective saved session thread mask) (before ps ts tb pb) .1 ⌝ }
+    ensures tables { λ r. ⌜ after ps ts tb pb ≡ stepOn (call.addProcess id real effective saved session thread mask) (before ps ts tb pb) .0 ⌝ }
 {
     let n = add_process_refusal(ps, ts, tb, pb, id, thread);
     if n != 0 {
@@ -59,7 +60,7 @@ pub fn add_process(
 }
 
 fn add_thread_refusal(ps: &[u64], ts: &[u64], tb: &[u8], pb: &[u8], creator: u32, id: u32) -> u32
-    ensures { λ r. ⌜ r ≡ refusalOn (call.addThread creator id) (lent (now (ps .entry)) (now (ts .entry)) (now (tb .entry)) (now (pb .entry))) ⌝ }
+    ensures { λ r. ⌜ r ≡ refusalOn (call.addThread creator id) (before ps ts tb pb) ⌝ }
 {
     if !sound::sound(ps, ts, tb, pb) {
         return EFAULT;
@@ -88,8 +89,8 @@ pub fn add_thread(
     creator: u32,
     id: u32,
 ) -> Answer
-    ensures answer { λ r. ⌜ answerOf r ≡ stepOn (call.addThread creator id) (lent (now (ps .entry)) (now (ts .entry)) (now (tb .entry)) (now (pb .entry))) .1 ⌝ }
-    ensures tables { λ r. ⌜ lent (now (ps .exit)) (now (ts .exit)) (now (tb .exit)) (now (pb .exit)) ≡ stepOn (call.addThread creator id) (lent (now (ps .entry)) (now (ts .entry)) (now (tb .entry)) (now (pb .entry))) .0 ⌝ }
+    ensures answer { λ r. ⌜ answerOf r ≡ stepOn (call.addThread creator id) (before ps ts tb pb) .1 ⌝ }
+    ensures tables { λ r. ⌜ after ps ts tb pb ≡ stepOn (call.addThread creator id) (before ps ts tb pb) .0 ⌝ }
 {
     let n = add_thread_refusal(ps, ts, tb, pb, creator, id);
     if n != 0 {

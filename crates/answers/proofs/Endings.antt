@@ -11,7 +11,7 @@ use Rattle.lists.proofs.Bools.{split, clash, and-both}
 use Rattle.siginfo.specs.Bytes.{Bytes}
 use Rattle.rules.specs.Types.{Call, Answer, refused}
 use Rattle.rules.specs.View.{Change}
-use Rattle.rules.specs.Store.{view, applyAll}
+use Rattle.rules.specs.Store.{applyAll}
 use Rattle.rules.specs.Sound.{sound, lengthsRight}
 use Rattle.rules.specs.Refusals.{Row, refusal, rows, isClear, fault, table, refusalOf}
 use Rattle.rules.specs.Calls.{changes, answer, stages, runStages, finish, step, isRefused}
@@ -21,22 +21,16 @@ use Rattle.rules.proofs.ClausesByTable.{lengths-by}
 use Rattle.tables.specs.Tables.{processesOf, threadsOf, processWordsOf, threadWordsOf}
 use Rattle.tables.proofs.Words.{length-processesOf, length-threadsOf, all-actionsLong, words-back, thread-words-back}
 use Rattle.queue.proofs.Buffer.{length-slotsOf, buffer-is}
-use Rattle.sound.specs.Lent.{storeOf, lengthsAre, soundTables}
+use Rattle.sound.specs.Lent.{Lent, lent, decoded, viewOf, lengthsAre, soundTables}
 use Rattle.sound.proofs.Facts.{as-long, right-processes, right-threads, right-thread-buffer, right-process-buffer}
 use Rattle.answers.specs.declared.Answer.the-variants.{Refused}
 use Rattle.answers.specs.Answers.{answerOf}
-use Rattle.answers.specs.Step.{Lent, lent, decoded, encoded, refusalOn, rowsOn, committed, stepOn}
-
-abbrev pub longAs : Lent → Bool
-longAs l = lengthsAre (l .processes) (l .threads) (l .threadBuffer) (l .processBuffer)
-
-abbrev pub isSound : Lent → Bool
-isSound l = soundTables (l .processes) (l .threads) (l .threadBuffer) (l .processBuffer)
+use Rattle.answers.specs.Step.{encoded, refusalOn, rowsOn, committed, stepOn}
 
 -- ---- words and bytes are determined by what they say
 
-pub words-of : (l : Lent) → longAs l ≡ true → Bytes (l .threadBuffer) → Bytes (l .processBuffer) → encoded (decoded l) ≡ l
-unfolding encoded storeOf
+pub words-of : (l : Lent) → lengthsAre l ≡ true → Bytes (l .threadBuffer) → Bytes (l .processBuffer) → encoded (decoded l) ≡ l
+unfolding encoded decoded
 words-of l e bt bp =
     let a : processWordsOf (processesOf (l .processes)) ≡ l .processes =
     words-back (l .processes) (right-processes (l .processes) (l .threads) (l .threadBuffer) (l .processBuffer) e) in
@@ -50,7 +44,7 @@ words-of l e bt bp =
 
 -- what the tables say has the right number of places and slots, whatever they hold
 pub places-right : (l : Lent) → lengthsRight (decoded l) ≡ true
-unfolding storeOf
+unfolding decoded
 places-right l =
     lengths-by (decoded l)
     (record {
@@ -63,34 +57,34 @@ places-right l =
 
 -- ---- the rows in order, as code tries them
 
-pub rows-fault : (rs : List Row) (l : Lent) → isSound l ≡ false → EFAULT ≡ rowsOn rs l
+pub rows-fault : (rs : List Row) (l : Lent) → soundTables l ≡ false → EFAULT ≡ rowsOn rs l
 unfolding rowsOn
 rows-fault rs l e = rw e
 
-pub rows-sound : (rs : List Row) (l : Lent) → isSound l ≡ true → (n : ℕ) → n ≡ refusal rs → n ≡ rowsOn rs l
+pub rows-sound : (rs : List Row) (l : Lent) → soundTables l ≡ true → (n : ℕ) → n ≡ refusal rs → n ≡ rowsOn rs l
 unfolding rowsOn
 rows-sound rs l e n h = rw e h
 
 module _ (c : Call) (l : Lent) where
   -- of a call other than clearing
-  pub rows-given : isClear c ≡ false → refusalOn c l ≡ rowsOn (rows (view (decoded l)) c) l
+  pub rows-given : isClear c ≡ false → refusalOn c l ≡ rowsOn (rows (viewOf l) c) l
   unfolding refusalOn rowsOn soundTables refusalOf table refusal fault
-  rows-given k = split (longAs l) (λ a. rw (a, k) (split (sound (decoded l)) (λ s. rw s) (λ s. rw s))) (λ a. rw a)
+  rows-given k = split (lengthsAre l) (λ a. rw (a, k) (split (sound (decoded l)) (λ s. rw s) (λ s. rw s))) (λ a. rw a)
 
-  pub accepted-long : refusalOn c l ≡ 0 → longAs l ≡ true
+  pub accepted-long : refusalOn c l ≡ 0 → lengthsAre l ≡ true
   unfolding refusalOn
-  accepted-long e = split (longAs l) (λ a. a) (λ a. clash (ap (λ (n : ℕ). eqb n 0) (sym (ap (λ (b : Bool). cond b (refusalOf (decoded l) c) EFAULT) a) ∙ e)) refl)
+  accepted-long e = split (lengthsAre l) (λ a. a) (λ a. clash (ap (λ (n : ℕ). eqb n 0) (sym (ap (λ (b : Bool). cond b (refusalOf (decoded l) c) EFAULT) a) ∙ e)) refl)
 
   pub accepted-rules : refusalOn c l ≡ 0 → refusalOf (decoded l) c ≡ 0
   unfolding refusalOn
   accepted-rules e = sym (ap (λ (b : Bool). cond b (refusalOf (decoded l) c) EFAULT) (accepted-long e)) ∙ e
 
-  pub accepted-tables-sound : isClear c ≡ false → refusalOn c l ≡ 0 → isSound l ≡ true
+  pub accepted-tables-sound : isClear c ≡ false → refusalOn c l ≡ 0 → soundTables l ≡ true
   unfolding soundTables
   accepted-tables-sound k e = and-both (accepted-long e) (accepted-sound (decoded l) c k (accepted-rules e))
 
   -- no row below 14 applies
-  pub accepted-rows : refusalOn c l ≡ 0 → All Off (rows (view (decoded l)) c)
+  pub accepted-rows : refusalOn c l ≡ 0 → All Off (rows (viewOf l) c)
   unfolding table
   accepted-rows e = accepted-off (decoded l) c (accepted-rules e) .1
 
@@ -100,7 +94,7 @@ module _ (c : Call) (l : Lent) where
     refused-step : stepOn c l ≡ (l, refused (refusalOn c l))
     unfolding stepOn committed refusalOn isRefused
     refused-step =
-        split (longAs l)
+        split (lengthsAre l)
         (λ a.
         let r : refusalOn c l ≡ refusalOf (decoded l) c = ap (λ (b : Bool). cond b (refusalOf (decoded l) c) EFAULT) a in
         let s : step c (decoded l) .1 ≡ refused (refusalOf (decoded l) c) = refused-number c (decoded l) (λ z. n (r ∙ z)) in
@@ -116,26 +110,26 @@ module _ (c : Call) (l : Lent) where
   -- ---- accepted
 
   module _ (e : refusalOn c l ≡ 0) where
-    step-is : step c (decoded l) ≡ (applyAll (changes (view (decoded l)) c) (decoded l), answer (view (decoded l)) c)
+    step-is : step c (decoded l) ≡ (applyAll (changes (viewOf l) c) (decoded l), answer (viewOf l) c)
     unfolding step finish stages runStages
     step-is = ap (λ (n : ℕ). finish n c (decoded l)) (accepted-rules e)
 
-    pub accepted-step : stepOn c l ≡ (encoded (applyAll (changes (view (decoded l)) c) (decoded l)), answer (view (decoded l)) c)
+    pub accepted-step : stepOn c l ≡ (encoded (applyAll (changes (viewOf l) c) (decoded l)), answer (viewOf l) c)
     unfolding stepOn committed
-    accepted-step = rw (accepted-long e, step-is, accepted-answers (view (decoded l)) c)
+    accepted-step = rw (accepted-long e, step-is, accepted-answers (viewOf l) c)
 
     -- the tables after it, from what they say
-    pub tables-after : (m : Lent) → longAs m ≡ true → Bytes (m .threadBuffer) → Bytes (m .processBuffer)
-        → decoded m ≡ applyAll (changes (view (decoded l)) c) (decoded l) → m ≡ stepOn c l .0
+    pub tables-after : (m : Lent) → lengthsAre m ≡ true → Bytes (m .threadBuffer) → Bytes (m .processBuffer)
+        → decoded m ≡ applyAll (changes (viewOf l) c) (decoded l) → m ≡ stepOn c l .0
     tables-after m a bt bp h = sym (words-of m a bt bp) ∙ ap encoded h ∙ sym (ap (λ x. x .0) accepted-step)
 
     -- a call that changes nothing
-    pub tables-same : Bytes (l .threadBuffer) → Bytes (l .processBuffer) → changes (view (decoded l)) c ≡ [] → l ≡ stepOn c l .0
+    pub tables-same : Bytes (l .threadBuffer) → Bytes (l .processBuffer) → changes (viewOf l) c ≡ [] → l ≡ stepOn c l .0
     unfolding applyAll
     tables-same bt bp h = tables-after l (accepted-long e) bt bp (sym (ap (λ (cs : List Change). applyAll cs (decoded l)) h))
 
     -- of a call that only answers, all there is to show
-    pub answer-after : (a : Answer) → a ≡ answer (view (decoded l)) c → a ≡ stepOn c l .1
+    pub answer-after : (a : Answer) → a ≡ answer (viewOf l) c → a ≡ stepOn c l .1
     answer-after a h = h ∙ sym (ap (λ x. x .1) accepted-step)
 
 -- ---- both, the answer and the tables
@@ -147,7 +141,7 @@ pub record AsLong (l m : Lent) : Type 0 where
   pub threadBuffer : length (m .threadBuffer) ≡ length (l .threadBuffer)
   pub processBuffer : length (m .processBuffer) ≡ length (l .processBuffer)
 
-long-after : (l m : Lent) → AsLong l m → longAs l ≡ true → longAs m ≡ true
+long-after : (l m : Lent) → AsLong l m → lengthsAre l ≡ true → lengthsAre m ≡ true
 long-after l m s =
     as-long (l .processes) (l .threads) (l .threadBuffer) (l .processBuffer) (m .processes) (m .threads) (m .threadBuffer) (m .processBuffer)
     (s .processes) (s .threads) (s .threadBuffer) (s .processBuffer)
@@ -160,10 +154,10 @@ module _ (c : Call) (l : Lent) where
       let k : refusalOn c l ≡ 0 → ⊥ = λ e. z (r ∙ e) in
       (ap refused r ∙ refused-answer c l k, refused-tables c l k)
 
-  module _ (e : refusalOn c l ≡ 0) (a : Answer) (h : a ≡ answer (view (decoded l)) c) where
-    pub same-ends : Bytes (l .threadBuffer) → Bytes (l .processBuffer) → changes (view (decoded l)) c ≡ [] → (a ≡ stepOn c l .1) × (l ≡ stepOn c l .0)
+  module _ (e : refusalOn c l ≡ 0) (a : Answer) (h : a ≡ answer (viewOf l) c) where
+    pub same-ends : Bytes (l .threadBuffer) → Bytes (l .processBuffer) → changes (viewOf l) c ≡ [] → (a ≡ stepOn c l .1) × (l ≡ stepOn c l .0)
     same-ends bt bp k = (answer-after c l e a h, tables-same c l e bt bp k)
 
     pub accepted-ends : (m : Lent) → AsLong l m → Bytes (m .threadBuffer) → Bytes (m .processBuffer)
-        → decoded m ≡ applyAll (changes (view (decoded l)) c) (decoded l) → (a ≡ stepOn c l .1) × (m ≡ stepOn c l .0)
+        → decoded m ≡ applyAll (changes (viewOf l) c) (decoded l) → (a ≡ stepOn c l .1) × (m ≡ stepOn c l .0)
     accepted-ends m s bt bp k = (answer-after c l e a h, tables-after c l e m (long-after l m s (accepted-long c l e)) bt bp k)

@@ -9,15 +9,15 @@ use Rattle.lists.specs.Lists.{All}
 use Rattle.lists.proofs.Bools.{split}
 use Rattle.rules.specs.Types.{Call, endProcess, endThread}
 use Rattle.rules.specs.View.{liveProcess, liveThread}
-use Rattle.rules.specs.Store.{view}
 use Rattle.rules.specs.Refusals.{Row, refusal, rows, isClear, esrch, noProcessLive, noThreadLive}
 use Rattle.rules.proofs.RefusalTable.{Off, first-given, none-given}
-use Rattle.answers.specs.Step.{Lent, decoded, refusalOn, rowsOn}
-use Rattle.answers.proofs.Endings.{isSound, rows-fault, rows-sound, rows-given, accepted-tables-sound, accepted-rows}
+use Rattle.sound.specs.Lent.{Lent, viewOf, soundTables}
+use Rattle.answers.specs.Step.{refusalOn, rowsOn}
+use Rattle.answers.proofs.Endings.{rows-fault, rows-sound, rows-given, accepted-tables-sound, accepted-rows}
 
 -- ---- any rows
 
-module _ (l : Lent) (s : isSound l ≡ true) where
+module _ (l : Lent) (s : soundTables l ≡ true) where
   pub rows-at : (before : List Row) (r : Row) (after : List Row) → All Off before → r .applies ≡ true → r .errno ≡ rowsOn (before ++ (r ∷ after)) l
   rows-at before r after off on = rows-sound (before ++ (r ∷ after)) l s (r .errno) (sym (first-given before r after off on))
 
@@ -36,35 +36,35 @@ refused-before (r ∷ rs) more n =
 pub rows-before : (rs more : List Row) (l : Lent) → (rowsOn rs l ≡ 0 → ⊥) → rowsOn rs l ≡ rowsOn (rs ++ more) l
 unfolding rowsOn
 rows-before rs more l n =
-    split (isSound l)
+    split (soundTables l)
     (λ e. rw e (refused-before rs more (λ z. n (ap (λ (b : Bool). cond b (refusal rs) EFAULT) e ∙ z))))
     (λ e. rw e)
 
 -- ---- the rows of a call, other than clearing
 
 module _ (c : Call) (l : Lent) (k : isClear c ≡ false) where
-  pub refuses-fault : isSound l ≡ false → EFAULT ≡ refusalOn c l
-  refuses-fault s = rows-fault (rows (view (decoded l)) c) l s ∙ sym (rows-given c l k)
+  pub refuses-fault : soundTables l ≡ false → EFAULT ≡ refusalOn c l
+  refuses-fault s = rows-fault (rows (viewOf l) c) l s ∙ sym (rows-given c l k)
 
-  module _ (s : isSound l ≡ true) where
-    pub refuses-at : (before : List Row) (r : Row) (after : List Row) → rows (view (decoded l)) c ≡ before ++ (r ∷ after) → All Off before
+  module _ (s : soundTables l ≡ true) where
+    pub refuses-at : (before : List Row) (r : Row) (after : List Row) → rows (viewOf l) c ≡ before ++ (r ∷ after) → All Off before
         → r .applies ≡ true → r .errno ≡ refusalOn c l
     refuses-at before r after e off on = rows-at l s before r after off on ∙ ap (λ (rs : List Row). rowsOn rs l) (sym e) ∙ sym (rows-given c l k)
 
-    pub refuses-none : All Off (rows (view (decoded l)) c) → 0 ≡ refusalOn c l
-    refuses-none off = rows-none l s (rows (view (decoded l)) c) off ∙ sym (rows-given c l k)
+    pub refuses-none : All Off (rows (viewOf l) c) → 0 ≡ refusalOn c l
+    refuses-none off = rows-none l s (rows (viewOf l) c) off ∙ sym (rows-given c l k)
 
 -- ---- the one row of many calls, from the number that another function found
 
 module _ (l : Lent) (id n : ℕ) where
-  pub live-process : n ≡ rowsOn (esrch (noProcessLive (view (decoded l)) id) ∷ []) l → n ≡ 0 → (isSound l ≡ true) × (liveProcess (view (decoded l)) id ≡ true)
+  pub live-process : n ≡ rowsOn (esrch (noProcessLive (viewOf l) id) ∷ []) l → n ≡ 0 → (soundTables l ≡ true) × (liveProcess (viewOf l) id ≡ true)
   unfolding rows isClear noProcessLive
   live-process e z =
       let k : refusalOn (endProcess id) l ≡ 0 = rows-given (endProcess id) l refl ∙ sym e ∙ z in
-      (accepted-tables-sound (endProcess id) l refl k, not-false (liveProcess (view (decoded l)) id) (accepted-rows (endProcess id) l k .0))
+      (accepted-tables-sound (endProcess id) l refl k, not-false (liveProcess (viewOf l) id) (accepted-rows (endProcess id) l k .0))
 
-  pub live-thread : n ≡ rowsOn (esrch (noThreadLive (view (decoded l)) id) ∷ []) l → n ≡ 0 → (isSound l ≡ true) × (liveThread (view (decoded l)) id ≡ true)
+  pub live-thread : n ≡ rowsOn (esrch (noThreadLive (viewOf l) id) ∷ []) l → n ≡ 0 → (soundTables l ≡ true) × (liveThread (viewOf l) id ≡ true)
   unfolding rows isClear noThreadLive
   live-thread e z =
       let k : refusalOn (endThread id) l ≡ 0 = rows-given (endThread id) l refl ∙ sym e ∙ z in
-      (accepted-tables-sound (endThread id) l refl k, not-false (liveThread (view (decoded l)) id) (accepted-rows (endThread id) l k .0))
+      (accepted-tables-sound (endThread id) l refl k, not-false (liveThread (viewOf l) id) (accepted-rows (endThread id) l k .0))

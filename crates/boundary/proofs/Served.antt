@@ -11,18 +11,18 @@ use Rattle.limits.specs.Limits.{EFAULT, EINVAL, callClear, answerWords}
 use Rattle.lists.specs.Lists.{padded}
 use Rattle.lists.proofs.Bools.{and-fst, and-snd, cond-true, cond-false}
 use Rattle.rules.specs.Types.{Call, Answer, refused}
-use Rattle.sound.specs.Lent.{lengthsAre, soundTables}
-use Rattle.answers.specs.Step.{Lent, stepOn}
+use Rattle.sound.specs.Lent.{Lent, lengthsAre, soundTables}
+use Rattle.answers.specs.Step.{stepOn}
 use Rattle.boundary.specs.Boundary.{Arguments, isCall, numbered, wordsOf, errnoOf, written, usable, accepted, serveOn}
 
 -- ---- errno 14's row
 
 module _ (n : ℕ) (l : Lent) where
   abbrev long : Bool
-  long = lengthsAre (l .processes) (l .threads) (l .threadBuffer) (l .processBuffer)
+  long = lengthsAre l
 
   abbrev sound : Bool
-  sound = soundTables (l .processes) (l .threads) (l .threadBuffer) (l .processBuffer)
+  sound = soundTables l
 
   pub usable-clear : n ≡ callClear → (r : Bool) → r ≡ long → r ≡ usable n l
   unfolding usable

@@ -10,8 +10,8 @@ use Rattle.lists.specs.Lists.{padded}
 use Rattle.sigset.specs.Set.{bits}
 use Rattle.types.specs.declared.Siginfo.{Siginfo}
 use Rattle.rules.specs.Types.{Call, clear, addProcess, addThread, endProcess, endThread, kill, queue, action, mask, pending, look, who, take, return, Next, noNext, nextMark, nextRecord, Answer, refused, done, tested, acted, dropped, absorbed, marked, kept, oldAction, oldMask, pendingSet, looked, canTake, noneCan, nothing, handler, end, stop, noAction}
-use Rattle.sound.specs.Lent.{lengthsAre, soundTables}
-use Rattle.answers.specs.Step.{Lent, stepOn}
+use Rattle.sound.specs.Lent.{Lent, lengthsAre, soundTables}
+use Rattle.answers.specs.Step.{stepOn}
 
 -- ---- the calls
 
@@ -126,8 +126,8 @@ written a out = cond (eqb (errnoOf a) 0) (padded 0 answerWords (wordsOf a) ++ dr
 unfoldable pub usable : ℕ → Lent → Bool
 usable n l =
     cond (eqb n callClear)
-    (lengthsAre (l .processes) (l .threads) (l .threadBuffer) (l .processBuffer))
-    (soundTables (l .processes) (l .threads) (l .threadBuffer) (l .processBuffer))
+    (lengthsAre l)
+    (soundTables l)
 
 -- there is such a call, and the lent words have room for any answer
 unfoldable pub accepted : (number room : ℕ) → Bool

@@ -9,7 +9,7 @@ ghost use Rattle.rules.specs.Types as answer;
 ghost use Rattle.lists.specs.Lists.{padded};
 ghost use Rattle.sigset.specs.Set.{bits};
 ghost use Rattle.answers.specs.Answers.{answerOf, nextOf};
-ghost use Rattle.answers.specs.Step.{lent};
+ghost use Rattle.sound.specs.Lent.{given, before, after};
 ghost use Rattle.actions.specs.Given.{newAction};
 ghost use Rattle.masks.specs.Given.{newSet};
 ghost use Rattle.calls.specs.Calls.{callOf};
@@ -250,7 +250,7 @@ fn is_accepted(number: u32, room: usize) -> bool
 
 // Does errno 14 not apply? Clearing checks lengths only.
 fn is_usable(ps: &[u64], ts: &[u64], tb: &[u8], pb: &[u8], number: u32) -> bool
-    ensures { λ r. ⌜ r ≡ usable number (lent (now (ps .entry)) (now (ts .entry)) (now (tb .entry)) (now (pb .entry))) ⌝ }
+    ensures { λ r. ⌜ r ≡ usable number (before ps ts tb pb) ⌝ }
 {
     if number == CALL_CLEAR {
         return clearing::lengths_are(ps, ts, tb, pb);
@@ -260,7 +260,7 @@ fn is_usable(ps: &[u64], ts: &[u64], tb: &[u8], pb: &[u8], number: u32) -> bool
 
 // The errno of what is not accepted: 14 comes first.
 fn refusal(ps: &[u64], ts: &[u64], tb: &[u8], pb: &[u8], number: u32) -> u32
-    ensures { λ r. ⌜ r ≡ cond (usable number (lent (now (ps .entry)) (now (ts .entry)) (now (tb .entry)) (now (pb .entry)))) EINVAL EFAULT ⌝ }
+    ensures { λ r. ⌜ r ≡ cond (usable number (before ps ts tb pb)) EINVAL EFAULT ⌝ }
 {
     if is_usable(ps, ts, tb, pb, number) {
         return EINVAL;
@@ -286,9 +286,9 @@ pub fn serve(
     y: u64,
     z: u64,
 ) -> u64
-    ensures errno { λ r. ⌜ r ≡ errnoOf (serveOn number (arguments a b c d e f x y z) (length (now (out .entry))) (lent (now (ps .entry)) (now (ts .entry)) (now (tb .entry)) (now (pb .entry))) .1) ⌝ }
-    ensures tables { λ r. ⌜ lent (now (ps .exit)) (now (ts .exit)) (now (tb .exit)) (now (pb .exit)) ≡ serveOn number (arguments a b c d e f x y z) (length (now (out .entry))) (lent (now (ps .entry)) (now (ts .entry)) (now (tb .entry)) (now (pb .entry))) .0 ⌝ }
-    ensures answer { λ r. ⌜ now (out .exit) ≡ written (serveOn number (arguments a b c d e f x y z) (length (now (out .entry))) (lent (now (ps .entry)) (now (ts .entry)) (now (tb .entry)) (now (pb .entry))) .1) (now (out .entry)) ⌝ }
+    ensures errno { λ r. ⌜ r ≡ errnoOf (serveOn number (arguments a b c d e f x y z) (length (now (out .entry))) (before ps ts tb pb) .1) ⌝ }
+    ensures tables { λ r. ⌜ after ps ts tb pb ≡ serveOn number (arguments a b c d e f x y z) (length (now (out .entry))) (before ps ts tb pb) .0 ⌝ }
+    ensures answer { λ r. ⌜ now (out .exit) ≡ written (serveOn number (arguments a b c d e f x y z) (length (now (out .entry))) (before ps ts tb pb) .1) (now (out .entry)) ⌝ }
 {
     if !is_accepted(number, out.len()) {
         return refusal(ps, ts, tb, pb, number) as u64;

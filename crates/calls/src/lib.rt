@@ -1,7 +1,8 @@
 // Every call by its value: what a host hands in, and what the layer answers.
 ghost use mathlib.Core.Path.{_≡_};
 ghost use Rattle.answers.specs.Answers.{answerOf};
-ghost use Rattle.answers.specs.Step.{lent, stepOn};
+ghost use Rattle.sound.specs.Lent.{before, after};
+ghost use Rattle.answers.specs.Step.{stepOn};
 ghost use Rattle.calls.specs.Calls.{callOf};
 use actions::GivenAction;
 use answers::Answer;
@@ -35,8 +36,8 @@ pub enum Call {
 
 // One call on the lent tables. Any tables and any arguments are answered; a refused call leaves every table exactly as it was.
 pub fn step(ps: &mut [u64], ts: &mut [u64], tb: &mut [u8], pb: &mut [u8], c: Call) -> Answer
-    ensures answer { λ r. ⌜ answerOf r ≡ stepOn (callOf c) (lent (now (ps .entry)) (now (ts .entry)) (now (tb .entry)) (now (pb .entry))) .1 ⌝ }
-    ensures tables { λ r. ⌜ lent (now (ps .exit)) (now (ts .exit)) (now (tb .exit)) (now (pb .exit)) ≡ stepOn (callOf c) (lent (now (ps .entry)) (now (ts .entry)) (now (tb .entry)) (now (pb .entry))) .0 ⌝ }
+    ensures answer { λ r. ⌜ answerOf r ≡ stepOn (callOf c) (before ps ts tb pb) .1 ⌝ }
+    ensures tables { λ r. ⌜ after ps ts tb pb ≡ stepOn (callOf c) (before ps ts tb pb) .0 ⌝ }
 {
     match c {
         Call::Clear => clearing::clear(ps, ts, tb, pb),

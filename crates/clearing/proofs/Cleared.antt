@@ -14,21 +14,22 @@ use Rattle.rules.specs.Refusals.{refusal, rows, isClear, fault, table, refusalO
 use Rattle.rules.specs.Calls.{changes, answer}
 use Rattle.answers.specs.declared.Answer.the-variants.{Refused, Done}
 use Rattle.answers.specs.Answers.{answerOf}
-use Rattle.answers.specs.Step.{Lent, decoded, refusalOn, stepOn}
-use Rattle.answers.proofs.Endings.{longAs, AsLong, places-right, refused-ends, accepted-ends}
+use Rattle.sound.specs.Lent.{Lent, decoded, lengthsAre}
+use Rattle.answers.specs.Step.{refusalOn, stepOn}
+use Rattle.answers.proofs.Endings.{AsLong, places-right, refused-ends, accepted-ends}
 
 -- "clearing checks lengths only"
-clear-refusal : (l : Lent) → cond (longAs l) 0 EFAULT ≡ refusalOn clear l
+clear-refusal : (l : Lent) → cond (lengthsAre l) 0 EFAULT ≡ refusalOn clear l
 unfolding refusalOn refusalOf table refusal fault rows isClear
 clear-refusal l = rw (places-right l)
 
-module _ (l : Lent) (b : Bool) (e : b ≡ longAs l) where
+module _ (l : Lent) (b : Bool) (e : b ≡ lengthsAre l) where
   pub clear-refused : not b ≡ true → (answerOf (Refused EFAULT) ≡ stepOn clear l .1) × (l ≡ stepOn clear l .0)
   clear-refused f =
       refused-ends clear l EFAULT (sym (ap (λ (x : Bool). cond x 0 EFAULT) (sym e ∙ not-true b f)) ∙ clear-refusal l)
       (λ z. clash (ap (λ (n : ℕ). eqb n 0) z) refl)
 
-  pub clear-long : not b ≡ false → longAs l ≡ true
+  pub clear-long : not b ≡ false → lengthsAre l ≡ true
   clear-long f = sym e ∙ not-false b f
 
   pub clear-done : not b ≡ false → (m : Lent) → AsLong l m → Bytes (m .threadBuffer) → Bytes (m .processBuffer) → decoded m ≡ apply forget (decoded l)

@@ -18,7 +18,7 @@ use Rattle.rules.specs.Fitting.{fits}
 use Rattle.rules.proofs.Queues.{target-process, queue-target}
 use Rattle.queue.specs.Queue.{slotsOf, recordsOf, appended, removeAt}
 use Rattle.queue.proofs.Buffer.{drop-oldest}
-use Rattle.sound.specs.Lent.{storeOf, soundTables}
+use Rattle.sound.specs.Lent.{lent, decoded, viewOf, soundTables}
 use Rattle.sound.proofs.Facts.{room}
 use Rattle.effects.proofs.Fitted.{append-queue, append-below}
 use Rattle.effects.proofs.Places.{with-all}
@@ -26,22 +26,22 @@ use Rattle.effects.proofs.Places.{with-all}
 module _ (ps ts tb pb : List ℕ) where
   -- ---- append
 
-  pub append-room : soundTables ps ts tb pb ≡ true → (r : Siginfo) → fits (view (storeOf ps ts tb pb)) (append r) ≡ true
+  pub append-room : soundTables (lent ps ts tb pb) ≡ true → (r : Siginfo) → fits (viewOf (lent ps ts tb pb)) (append r) ≡ true
       → (length (recordsOf tb) < bufferRecords) × (length (recordsOf pb) < bufferRecords)
   unfolding view
   append-room e r f =
-      let v = view (storeOf ps ts tb pb) in
+      let v = viewOf (lent ps ts tb pb) in
       room ps ts tb pb e (r .process) (target-process v (r .process) (r .thread) (queue-target v (r .process) (r .thread) (append-queue v r f))) (append-below v r f)
 
   module _ (r : Siginfo) where
     pub append-process : eqb (r .thread) 0 ≡ true → (pb′ : List ℕ) → slotsOf pb′ ≡ onSlots (appended r) (slotsOf pb)
-        → storeOf ps ts tb pb′ ≡ apply (append r) (storeOf ps ts tb pb)
-    unfolding apply storeOf appended
+        → decoded (lent ps ts tb pb′) ≡ apply (append r) (decoded (lent ps ts tb pb))
+    unfolding apply decoded appended
     append-process z pb′ k = rw z (with-all ps ts tb pb′ refl refl refl k)
 
     pub append-thread : eqb (r .thread) 0 ≡ false → (tb′ : List ℕ) → slotsOf tb′ ≡ onSlots (appended r) (slotsOf tb)
-        → storeOf ps ts tb′ pb ≡ apply (append r) (storeOf ps ts tb pb)
-    unfolding apply storeOf appended
+        → decoded (lent ps ts tb′ pb) ≡ apply (append r) (decoded (lent ps ts tb pb))
+    unfolding apply decoded appended
     append-thread z tb′ k = rw z (with-all ps ts tb′ pb refl refl k refl)
 
   -- ---- the oldest
@@ -55,25 +55,25 @@ module _ (ps ts tb pb : List ℕ) where
     oldest-inside : (b : List ℕ) → k ≡ find (inQueue q s) (recordsOf b) → any (inQueue q s) (recordsOf b) ≡ true → k < length (recordsOf b)
     oldest-inside b here e = rw here (find-any (inQueue q s) (recordsOf b) e)
 
-    module _ (f : fits (view (storeOf ps ts tb pb)) (dropOldest q s) ≡ true) where
-      there : any (inQueue q s) (recordsFor q (storeOf ps ts tb pb)) ≡ true
+    module _ (f : fits (viewOf (lent ps ts tb pb)) (dropOldest q s) ≡ true) where
+      there : any (inQueue q s) (recordsFor q (decoded (lent ps ts tb pb))) ≡ true
       unfolding fits view
-      there = sym (isSome-first (inQueue q s) (recordsFor q (storeOf ps ts tb pb))) ∙ f
+      there = sym (isSome-first (inQueue q s) (recordsFor q (decoded (lent ps ts tb pb)))) ∙ f
 
       pub oldest-process : eqb (q .thread) 0 ≡ true → k ≡ find (inQueue q s) (recordsOf pb) → k < length (recordsOf pb)
-      unfolding recordsFor recordsOf storeOf
+      unfolding recordsFor recordsOf decoded
       oldest-process z here = oldest-inside pb here (rw z at there)
 
       pub oldest-thread : eqb (q .thread) 0 ≡ false → k ≡ find (inQueue q s) (recordsOf tb) → k < length (recordsOf tb)
-      unfolding recordsFor recordsOf storeOf
+      unfolding recordsFor recordsOf decoded
       oldest-thread z here = oldest-inside tb here (rw z at there)
 
     pub drop-process : eqb (q .thread) 0 ≡ true → k ≡ find (inQueue q s) (recordsOf pb) → (pb′ : List ℕ) → slotsOf pb′ ≡ onSlots (removeAt k) (slotsOf pb)
-        → storeOf ps ts tb pb′ ≡ apply (dropOldest q s) (storeOf ps ts tb pb)
-    unfolding apply storeOf
+        → decoded (lent ps ts tb pb′) ≡ apply (dropOldest q s) (decoded (lent ps ts tb pb))
+    unfolding apply decoded
     drop-process z here pb′ e = rw z (with-all ps ts tb pb′ refl refl refl (e ∙ oldest-slots pb here))
 
     pub drop-thread : eqb (q .thread) 0 ≡ false → k ≡ find (inQueue q s) (recordsOf tb) → (tb′ : List ℕ) → slotsOf tb′ ≡ onSlots (removeAt k) (slotsOf tb)
-        → storeOf ps ts tb′ pb ≡ apply (dropOldest q s) (storeOf ps ts tb pb)
-    unfolding apply storeOf
+        → decoded (lent ps ts tb′ pb) ≡ apply (dropOldest q s) (decoded (lent ps ts tb pb))
+    unfolding apply decoded
     drop-thread z here tb′ e = rw z (with-all ps ts tb′ pb refl refl (e ∙ oldest-slots tb here) refl)

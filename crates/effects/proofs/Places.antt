@@ -20,7 +20,7 @@ use Rattle.rules.specs.Store.{Place, held, freeProcess, freeThread, mapMarks, v
 use Rattle.rules.proofs.Marks.{placeWhere, where-below, where-passes}
 use Rattle.queue.specs.Queue.{slotsOf}
 use Rattle.tables.specs.Tables.{processesOf, threadsOf, heldProcesses, heldThreads, processAt, threadAt}
-use Rattle.sound.specs.Lent.{storeOf, soundTables}
+use Rattle.sound.specs.Lent.{lent, decoded, viewOf, soundTables}
 use Rattle.sound.proofs.Facts.{one-process, one-thread, process-found, thread-found}
 
 -- the marks change where the test passes
@@ -70,28 +70,28 @@ filled-place p a xs = ap (λ i. set xs i a) (find-map p held xs) ∙ sym (replac
 
 module _ (ps ts tb pb : List ℕ) where
   pub with-all : {xs : List (Place Process)} {ys : List (Place Thread)} {rs qs : List Siginfo} → processesOf ps ≡ xs → threadsOf ts ≡ ys
-      → slotsOf tb ≡ rs → slotsOf pb ≡ qs → storeOf ps ts tb pb ≡ record { processes = xs; threads = ys; threadBuffer = rs; processBuffer = qs }
-  unfolding storeOf
+      → slotsOf tb ≡ rs → slotsOf pb ≡ qs → decoded (lent ps ts tb pb) ≡ record { processes = xs; threads = ys; threadBuffer = rs; processBuffer = qs }
+  unfolding decoded
   with-all p t r q = λ i. record { processes = p i; threads = t i; threadBuffer = r i; processBuffer = q i }
 
 -- ---- the place of a live process or thread in sound tables
 
 module _ (ps ts tb pb : List ℕ) where
-  pub process-inside : (n place : ℕ) → liveProcess (view (storeOf ps ts tb pb)) n ≡ true → place ≡ find (isProcess n) (heldProcesses ps) → place < processPlaces
+  pub process-inside : (n place : ℕ) → liveProcess (viewOf (lent ps ts tb pb)) n ≡ true → place ≡ find (isProcess n) (heldProcesses ps) → place < processPlaces
   process-inside n place live here = omega (arith, process-found ps ts tb pb n live)
 
-  pub thread-inside : (n place : ℕ) → liveThread (view (storeOf ps ts tb pb)) n ≡ true → place ≡ find (isThread n) (heldThreads ts) → place < threadPlaces
+  pub thread-inside : (n place : ℕ) → liveThread (viewOf (lent ps ts tb pb)) n ≡ true → place ≡ find (isThread n) (heldThreads ts) → place < threadPlaces
   thread-inside n place live here = omega (arith, thread-found ps ts tb pb n live)
 
-module _ (ps ts tb pb : List ℕ) (e : soundTables ps ts tb pb ≡ true) where
-  module _ (n : ℕ) (live : liveProcess (view (storeOf ps ts tb pb)) n ≡ true) where
+module _ (ps ts tb pb : List ℕ) (e : soundTables (lent ps ts tb pb) ≡ true) where
+  module _ (n : ℕ) (live : liveProcess (viewOf (lent ps ts tb pb)) n ≡ true) where
     pub process-changed : (g : Place Process → Place Process)
         → change (λ (x : Place Process). isProcess n (x .holds)) g (processesOf ps) ≡ set (processesOf ps) (find (isProcess n) (heldProcesses ps)) (g (processAt ps (find (isProcess n) (heldProcesses ps))))
-    unfolding liveProcess view storeOf
+    unfolding liveProcess view decoded
     process-changed = changed-place freeProcess (isProcess n) (processesOf ps) live (one-process ps ts tb pb e n)
 
-  module _ (n : ℕ) (live : liveThread (view (storeOf ps ts tb pb)) n ≡ true) where
+  module _ (n : ℕ) (live : liveThread (viewOf (lent ps ts tb pb)) n ≡ true) where
     pub thread-changed : (g : Place Thread → Place Thread)
         → change (λ (x : Place Thread). isThread n (x .holds)) g (threadsOf ts) ≡ set (threadsOf ts) (find (isThread n) (heldThreads ts)) (g (threadAt ts (find (isThread n) (heldThreads ts))))
-    unfolding liveThread view storeOf
+    unfolding liveThread view decoded
     thread-changed = changed-place freeThread (isThread n) (threadsOf ts) live (one-thread ps ts tb pb e n)

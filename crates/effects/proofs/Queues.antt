@@ -23,7 +23,7 @@ use Rattle.rules.proofs.Queues.{target-process, target-thread, target-owner, qu
 use Rattle.queue.specs.Queue.{slotsOf, isLeft}
 use Rattle.queue.specs.declared.Discarded.the-variants.{OfSignals}
 use Rattle.tables.specs.Tables.{processesOf, threadsOf, heldProcesses, heldThreads, processAt, threadAt}
-use Rattle.sound.specs.Lent.{storeOf, soundTables}
+use Rattle.sound.specs.Lent.{lent, decoded, viewOf, soundTables}
 use Rattle.sound.proofs.Facts.{store-sound}
 use Rattle.effects.specs.declared.Marking.{Marking}
 use Rattle.effects.specs.declared.Marking.the-variants.{Adding, Removing}
@@ -85,25 +85,25 @@ module _ (st : Store) (e : sound st ≡ true) (h : SigSet → SigSet) where
 abbrev marking : Marking → Queue → Queue → SigSet → SigSet
 marking how q q′ m = cond (sameQueue q′ q) (markedBy how m) m
 
-module _ (ps ts tb pb : List ℕ) (e : soundTables ps ts tb pb ≡ true) (n t : ℕ) (live : liveQueue (view (storeOf ps ts tb pb)) (targetQueue n t) ≡ true)
+module _ (ps ts tb pb : List ℕ) (e : soundTables (lent ps ts tb pb) ≡ true) (n t : ℕ) (live : liveQueue (viewOf (lent ps ts tb pb)) (targetQueue n t) ≡ true)
     (how : Marking) where
   abbrev st : Store
-  st = storeOf ps ts tb pb
+  st = decoded (lent ps ts tb pb)
 
   process-store : t ≡ 0 → (ps′ : List ℕ)
       → processesOf ps′ ≡ set (processesOf ps) (find (isProcess n) (heldProcesses ps)) (withMarking how (processAt ps (find (isProcess n) (heldProcesses ps))))
-      → storeOf ps′ ts tb pb ≡ onMarks (marking how (targetQueue n t)) st
-  unfolding storeOf withMarking
+      → decoded (lent ps′ ts tb pb) ≡ onMarks (marking how (targetQueue n t)) st
+  unfolding decoded withMarking
   process-store z ps′ k =
       let l = target-process (view st) n t (queue-target (view st) n t live) in
       let s = store-sound ps ts tb pb e in
-      subst (λ (i : ℕ). storeOf ps′ ts tb pb ≡ onMarks (marking how (targetQueue n i)) st) (sym z)
+      subst (λ (i : ℕ). decoded (lent ps′ ts tb pb) ≡ onMarks (marking how (targetQueue n i)) st) (sym z)
       (with-all ps′ ts tb pb (k ∙ sym (process-marks-set st s (markedBy how) n l)) (sym (thread-marks-kept st s (markedBy how) n l)) refl refl)
 
   thread-store : eqb t 0 ≡ false → (ts′ : List ℕ)
       → threadsOf ts′ ≡ set (threadsOf ts) (find (isThread t) (heldThreads ts)) (withMarking how (threadAt ts (find (isThread t) (heldThreads ts))))
-      → storeOf ps ts′ tb pb ≡ onMarks (marking how (targetQueue n t)) st
-  unfolding storeOf withMarking
+      → decoded (lent ps ts′ tb pb) ≡ onMarks (marking how (targetQueue n t)) st
+  unfolding decoded withMarking
   thread-store z ts′ k =
       let q = targetQueue n t in
       let b = queue-target (view st) n t live in
@@ -113,37 +113,37 @@ module _ (ps ts tb pb : List ℕ) (e : soundTables ps ts tb pb ≡ true) (n t : 
       with-all ps ts′ tb pb (sym (process-marks-kept st s (markedBy how) q l o)) (k ∙ sym (thread-marks-set st s (markedBy how) q l o)) refl refl
 
 -- o is the signal alone
-module _ (ps ts tb pb : List ℕ) (e : soundTables ps ts tb pb ≡ true) (n t s : ℕ) (o : SigSet) (alone : o ≡ ofSignal s) where
+module _ (ps ts tb pb : List ℕ) (e : soundTables (lent ps ts tb pb) ≡ true) (n t s : ℕ) (o : SigSet) (alone : o ≡ ofSignal s) where
   abbrev processTo : Marking → List ℕ → Type 0
   processTo how ps′ = processesOf ps′ ≡ set (processesOf ps) (find (isProcess n) (heldProcesses ps)) (withMarking how (processAt ps (find (isProcess n) (heldProcesses ps))))
 
   abbrev threadTo : Marking → List ℕ → Type 0
   threadTo how ts′ = threadsOf ts′ ≡ set (threadsOf ts) (find (isThread t) (heldThreads ts)) (withMarking how (threadAt ts (find (isThread t) (heldThreads ts))))
 
-  module _ (f : fits (view (storeOf ps ts tb pb)) (setMark (targetQueue n t) s) ≡ true) where
-    pub set-process : t ≡ 0 → (ps′ : List ℕ) → processTo (Adding o) ps′ → storeOf ps′ ts tb pb ≡ apply (setMark (targetQueue n t) s) (storeOf ps ts tb pb)
+  module _ (f : fits (viewOf (lent ps ts tb pb)) (setMark (targetQueue n t) s) ≡ true) where
+    pub set-process : t ≡ 0 → (ps′ : List ℕ) → processTo (Adding o) ps′ → decoded (lent ps′ ts tb pb) ≡ apply (setMark (targetQueue n t) s) (decoded (lent ps ts tb pb))
     unfolding apply markedBy
     set-process z ps′ k =
-        process-store ps ts tb pb e n t (mark-queue (view (storeOf ps ts tb pb)) (targetQueue n t) s f) (Adding (ofSignal s)) z ps′
+        process-store ps ts tb pb e n t (mark-queue (viewOf (lent ps ts tb pb)) (targetQueue n t) s f) (Adding (ofSignal s)) z ps′
         (subst (λ (u : SigSet). processTo (Adding u) ps′) alone k)
 
-    pub set-thread : eqb t 0 ≡ false → (ts′ : List ℕ) → threadTo (Adding o) ts′ → storeOf ps ts′ tb pb ≡ apply (setMark (targetQueue n t) s) (storeOf ps ts tb pb)
+    pub set-thread : eqb t 0 ≡ false → (ts′ : List ℕ) → threadTo (Adding o) ts′ → decoded (lent ps ts′ tb pb) ≡ apply (setMark (targetQueue n t) s) (decoded (lent ps ts tb pb))
     unfolding apply markedBy
     set-thread z ts′ k =
-        thread-store ps ts tb pb e n t (mark-queue (view (storeOf ps ts tb pb)) (targetQueue n t) s f) (Adding (ofSignal s)) z ts′
+        thread-store ps ts tb pb e n t (mark-queue (viewOf (lent ps ts tb pb)) (targetQueue n t) s f) (Adding (ofSignal s)) z ts′
         (subst (λ (u : SigSet). threadTo (Adding u) ts′) alone k)
 
-  module _ (f : fits (view (storeOf ps ts tb pb)) (clearMark (targetQueue n t) s) ≡ true) where
-    pub clear-process : t ≡ 0 → (ps′ : List ℕ) → processTo (Removing o) ps′ → storeOf ps′ ts tb pb ≡ apply (clearMark (targetQueue n t) s) (storeOf ps ts tb pb)
+  module _ (f : fits (viewOf (lent ps ts tb pb)) (clearMark (targetQueue n t) s) ≡ true) where
+    pub clear-process : t ≡ 0 → (ps′ : List ℕ) → processTo (Removing o) ps′ → decoded (lent ps′ ts tb pb) ≡ apply (clearMark (targetQueue n t) s) (decoded (lent ps ts tb pb))
     unfolding apply markedBy
     clear-process z ps′ k =
-        process-store ps ts tb pb e n t (unmark-queue (view (storeOf ps ts tb pb)) (targetQueue n t) s f) (Removing (ofSignal s)) z ps′
+        process-store ps ts tb pb e n t (unmark-queue (viewOf (lent ps ts tb pb)) (targetQueue n t) s f) (Removing (ofSignal s)) z ps′
         (subst (λ (u : SigSet). processTo (Removing u) ps′) alone k)
 
-    pub clear-thread : eqb t 0 ≡ false → (ts′ : List ℕ) → threadTo (Removing o) ts′ → storeOf ps ts′ tb pb ≡ apply (clearMark (targetQueue n t) s) (storeOf ps ts tb pb)
+    pub clear-thread : eqb t 0 ≡ false → (ts′ : List ℕ) → threadTo (Removing o) ts′ → decoded (lent ps ts′ tb pb) ≡ apply (clearMark (targetQueue n t) s) (decoded (lent ps ts tb pb))
     unfolding apply markedBy
     clear-thread z ts′ k =
-        thread-store ps ts tb pb e n t (unmark-queue (view (storeOf ps ts tb pb)) (targetQueue n t) s f) (Removing (ofSignal s)) z ts′
+        thread-store ps ts tb pb e n t (unmark-queue (viewOf (lent ps ts tb pb)) (targetQueue n t) s f) (Removing (ofSignal s)) z ts′
         (subst (λ (u : SigSet). threadTo (Removing u) ts′) alone k)
 
 -- ---- the tables: all queues of a process
@@ -154,17 +154,17 @@ threads-marks-changed n how xs =
     ap (λ (f : Place Thread → Place Thread). map f xs)
     (fun-ext (λ x. sym (cond-map (λ m. record { holds = x .holds; marks = m }) (eqb (x .holds .process) n) (markedBy how (x .marks)) (x .marks))))
 
-module _ (ps ts tb pb : List ℕ) (e : soundTables ps ts tb pb ≡ true) (n : ℕ) (signals : SigSet)
-    (f : fits (view (storeOf ps ts tb pb)) (discard n signals) ≡ true) where
+module _ (ps ts tb pb : List ℕ) (e : soundTables (lent ps ts tb pb) ≡ true) (n : ℕ) (signals : SigSet)
+    (f : fits (viewOf (lent ps ts tb pb)) (discard n signals) ≡ true) where
   pub discard-store : (ps′ ts′ tb′ pb′ : List ℕ)
       → processesOf ps′ ≡ set (processesOf ps) (find (isProcess n) (heldProcesses ps)) (withMarking (Removing signals) (processAt ps (find (isProcess n) (heldProcesses ps))))
       → threadsOf ts′ ≡ map (withMarkingOf n (Removing signals)) (threadsOf ts)
       → slotsOf tb′ ≡ onSlots (keep (isLeft (OfSignals n signals))) (slotsOf tb)
       → slotsOf pb′ ≡ onSlots (keep (isLeft (OfSignals n signals))) (slotsOf pb)
-      → storeOf ps′ ts′ tb′ pb′ ≡ apply (discard n signals) (storeOf ps ts tb pb)
-  unfolding apply fits storeOf withMarking markedBy isLeft
+      → decoded (lent ps′ ts′ tb′ pb′) ≡ apply (discard n signals) (decoded (lent ps ts tb pb))
+  unfolding apply fits decoded withMarking markedBy isLeft
   discard-store ps′ ts′ tb′ pb′ p t b q =
       with-all ps′ ts′ tb′ pb′
-      (p ∙ sym (marks-of-id (storeOf ps ts tb pb) (store-sound ps ts tb pb e) (λ m. without m signals) n f))
+      (p ∙ sym (marks-of-id (decoded (lent ps ts tb pb)) (store-sound ps ts tb pb e) (λ m. without m signals) n f))
       (t ∙ threads-marks-changed n (Removing signals) (threadsOf ts))
       b q

@@ -12,7 +12,7 @@ ghost use Rattle.rules.specs.Actions.{storeChanges};
 ghost use Rattle.rules.specs.Adding.{addedProcess};
 ghost use Rattle.rules.specs.Fitting.{fits, fitsAll};
 ghost use Rattle.tables.specs.Tables.{processesOf, threadsOf, heldProcesses, heldThreads, processAt, threadAt};
-ghost use Rattle.sound.specs.Lent.{storeOf, lengthsAre, soundTables};
+ghost use Rattle.sound.specs.Lent.{decoded, viewOf, lengthsAre, soundTables, given, before, after};
 ghost use Rattle.effects.specs.Effects.{markedBy, withMarking, withMarkingOf, threadOf};
 use limits::PROCESS_MARKS;
 use limits::PROCESS_STOPPED;
@@ -94,10 +94,10 @@ pub fn set_mark(
     thread: u32,
     signal: u32,
 )
-    requires { ⌜ soundTables (now ps) (now ts) (now tb) (now pb) ≡ true ⌝ }
-    requires { ⌜ fits (view (storeOf (now ps) (now ts) (now tb) (now pb))) (setMark (targetQueue process thread) signal) ≡ true ⌝ }
-    ensures { λ _. ⌜ storeOf (now (ps .exit)) (now (ts .exit)) (now (tb .entry)) (now (pb .entry)) ≡ apply (setMark (targetQueue process thread) signal) (storeOf (now (ps .entry)) (now (ts .entry)) (now (tb .entry)) (now (pb .entry))) ⌝ }
-    ensures { λ _. ⌜ soundTables (now (ps .exit)) (now (ts .exit)) (now (tb .entry)) (now (pb .entry)) ≡ true ⌝ }
+    requires { ⌜ soundTables (given ps ts tb pb) ≡ true ⌝ }
+    requires { ⌜ fits (viewOf (given ps ts tb pb)) (setMark (targetQueue process thread) signal) ≡ true ⌝ }
+    ensures { λ _. ⌜ decoded (after ps ts tb pb) ≡ apply (setMark (targetQueue process thread) signal) (decoded (before ps ts tb pb)) ⌝ }
+    ensures { λ _. ⌜ soundTables (after ps ts tb pb) ≡ true ⌝ }
 {
     let how = Marking::Adding(SigSet::of_signal(signal));
     if thread == 0 {
@@ -117,10 +117,10 @@ pub fn clear_mark(
     thread: u32,
     signal: u32,
 )
-    requires { ⌜ soundTables (now ps) (now ts) (now tb) (now pb) ≡ true ⌝ }
-    requires { ⌜ fits (view (storeOf (now ps) (now ts) (now tb) (now pb))) (clearMark (targetQueue process thread) signal) ≡ true ⌝ }
-    ensures { λ _. ⌜ storeOf (now (ps .exit)) (now (ts .exit)) (now (tb .entry)) (now (pb .entry)) ≡ apply (clearMark (targetQueue process thread) signal) (storeOf (now (ps .entry)) (now (ts .entry)) (now (tb .entry)) (now (pb .entry))) ⌝ }
-    ensures { λ _. ⌜ soundTables (now (ps .exit)) (now (ts .exit)) (now (tb .entry)) (now (pb .entry)) ≡ true ⌝ }
+    requires { ⌜ soundTables (given ps ts tb pb) ≡ true ⌝ }
+    requires { ⌜ fits (viewOf (given ps ts tb pb)) (clearMark (targetQueue process thread) signal) ≡ true ⌝ }
+    ensures { λ _. ⌜ decoded (after ps ts tb pb) ≡ apply (clearMark (targetQueue process thread) signal) (decoded (before ps ts tb pb)) ⌝ }
+    ensures { λ _. ⌜ soundTables (after ps ts tb pb) ≡ true ⌝ }
 {
     let how = Marking::Removing(SigSet::of_signal(signal));
     if thread == 0 {
@@ -134,10 +134,10 @@ pub fn clear_mark(
 
 // A record at the end of its buffer.
 pub fn append(ps: &[u64], ts: &[u64], tb: &mut [u8], pb: &mut [u8], r: Siginfo)
-    requires { ⌜ soundTables (now ps) (now ts) (now tb) (now pb) ≡ true ⌝ }
-    requires { ⌜ fits (view (storeOf (now ps) (now ts) (now tb) (now pb))) (append r) ≡ true ⌝ }
-    ensures { λ _. ⌜ storeOf (now (ps .entry)) (now (ts .entry)) (now (tb .exit)) (now (pb .exit)) ≡ apply (append r) (storeOf (now (ps .entry)) (now (ts .entry)) (now (tb .entry)) (now (pb .entry))) ⌝ }
-    ensures { λ _. ⌜ soundTables (now (ps .entry)) (now (ts .entry)) (now (tb .exit)) (now (pb .exit)) ≡ true ⌝ }
+    requires { ⌜ soundTables (given ps ts tb pb) ≡ true ⌝ }
+    requires { ⌜ fits (viewOf (given ps ts tb pb)) (append r) ≡ true ⌝ }
+    ensures { λ _. ⌜ decoded (after ps ts tb pb) ≡ apply (append r) (decoded (before ps ts tb pb)) ⌝ }
+    ensures { λ _. ⌜ soundTables (after ps ts tb pb) ≡ true ⌝ }
 {
     if r.thread == 0 {
         queue::append(pb, r);
@@ -156,10 +156,10 @@ pub fn drop_oldest(
     thread: u32,
     signal: u32,
 )
-    requires { ⌜ soundTables (now ps) (now ts) (now tb) (now pb) ≡ true ⌝ }
-    requires { ⌜ fits (view (storeOf (now ps) (now ts) (now tb) (now pb))) (dropOldest (targetQueue process thread) signal) ≡ true ⌝ }
-    ensures { λ _. ⌜ storeOf (now (ps .entry)) (now (ts .entry)) (now (tb .exit)) (now (pb .exit)) ≡ apply (dropOldest (targetQueue process thread) signal) (storeOf (now (ps .entry)) (now (ts .entry)) (now (tb .entry)) (now (pb .entry))) ⌝ }
-    ensures { λ _. ⌜ soundTables (now (ps .entry)) (now (ts .entry)) (now (tb .exit)) (now (pb .exit)) ≡ true ⌝ }
+    requires { ⌜ soundTables (given ps ts tb pb) ≡ true ⌝ }
+    requires { ⌜ fits (viewOf (given ps ts tb pb)) (dropOldest (targetQueue process thread) signal) ≡ true ⌝ }
+    ensures { λ _. ⌜ decoded (after ps ts tb pb) ≡ apply (dropOldest (targetQueue process thread) signal) (decoded (before ps ts tb pb)) ⌝ }
+    ensures { λ _. ⌜ soundTables (after ps ts tb pb) ≡ true ⌝ }
 {
     if thread == 0 {
         let k = queue::first_of(pb, process, thread, signal);
@@ -179,10 +179,10 @@ pub fn discard(
     process: u32,
     signals: SigSet,
 )
-    requires { ⌜ soundTables (now ps) (now ts) (now tb) (now pb) ≡ true ⌝ }
-    requires { ⌜ fits (view (storeOf (now ps) (now ts) (now tb) (now pb))) (discard process signals) ≡ true ⌝ }
-    ensures { λ _. ⌜ storeOf (now (ps .exit)) (now (ts .exit)) (now (tb .exit)) (now (pb .exit)) ≡ apply (discard process signals) (storeOf (now (ps .entry)) (now (ts .entry)) (now (tb .entry)) (now (pb .entry))) ⌝ }
-    ensures { λ _. ⌜ soundTables (now (ps .exit)) (now (ts .exit)) (now (tb .exit)) (now (pb .exit)) ≡ true ⌝ }
+    requires { ⌜ soundTables (given ps ts tb pb) ≡ true ⌝ }
+    requires { ⌜ fits (viewOf (given ps ts tb pb)) (discard process signals) ≡ true ⌝ }
+    ensures { λ _. ⌜ decoded (after ps ts tb pb) ≡ apply (discard process signals) (decoded (before ps ts tb pb)) ⌝ }
+    ensures { λ _. ⌜ soundTables (after ps ts tb pb) ≡ true ⌝ }
 {
     queue::discard(tb, Discarded::OfSignals(process, signals));
     queue::discard(pb, Discarded::OfSignals(process, signals));
@@ -194,10 +194,10 @@ pub fn discard(
 
 // 1 stops a process, 0 lets it run.
 pub fn set_stopped(ps: &mut [u64], ts: &[u64], tb: &[u8], pb: &[u8], process: u32, stopped: u64)
-    requires { ⌜ soundTables (now ps) (now ts) (now tb) (now pb) ≡ true ⌝ }
-    requires { ⌜ fits (view (storeOf (now ps) (now ts) (now tb) (now pb))) (setStopped process stopped) ≡ true ⌝ }
-    ensures { λ _. ⌜ storeOf (now (ps .exit)) (now (ts .entry)) (now (tb .entry)) (now (pb .entry)) ≡ apply (setStopped process stopped) (storeOf (now (ps .entry)) (now (ts .entry)) (now (tb .entry)) (now (pb .entry))) ⌝ }
-    ensures { λ _. ⌜ soundTables (now (ps .exit)) (now (ts .entry)) (now (tb .entry)) (now (pb .entry)) ≡ true ⌝ }
+    requires { ⌜ soundTables (given ps ts tb pb) ≡ true ⌝ }
+    requires { ⌜ fits (viewOf (given ps ts tb pb)) (setStopped process stopped) ≡ true ⌝ }
+    ensures { λ _. ⌜ decoded (after ps ts tb pb) ≡ apply (setStopped process stopped) (decoded (before ps ts tb pb)) ⌝ }
+    ensures { λ _. ⌜ soundTables (after ps ts tb pb) ≡ true ⌝ }
 {
     let place = tables::find_process(ps, process as u64);
     tables::put_field(ps, place, PROCESS_STOPPED, stopped);
@@ -213,10 +213,10 @@ pub fn set_action(
     signal: u32,
     a: Action,
 )
-    requires { ⌜ soundTables (now ps) (now ts) (now tb) (now pb) ≡ true ⌝ }
-    requires { ⌜ fits (view (storeOf (now ps) (now ts) (now tb) (now pb))) (setAction process signal a) ≡ true ⌝ }
-    ensures { λ _. ⌜ storeOf (now (ps .exit)) (now (ts .entry)) (now (tb .entry)) (now (pb .entry)) ≡ apply (setAction process signal a) (storeOf (now (ps .entry)) (now (ts .entry)) (now (tb .entry)) (now (pb .entry))) ⌝ }
-    ensures { λ _. ⌜ soundTables (now (ps .exit)) (now (ts .entry)) (now (tb .entry)) (now (pb .entry)) ≡ true ⌝ }
+    requires { ⌜ soundTables (given ps ts tb pb) ≡ true ⌝ }
+    requires { ⌜ fits (viewOf (given ps ts tb pb)) (setAction process signal a) ≡ true ⌝ }
+    ensures { λ _. ⌜ decoded (after ps ts tb pb) ≡ apply (setAction process signal a) (decoded (before ps ts tb pb)) ⌝ }
+    ensures { λ _. ⌜ soundTables (after ps ts tb pb) ≡ true ⌝ }
 {
     let place = tables::find_process(ps, process as u64);
     tables::put_action(ps, place, signal, a);
@@ -232,10 +232,10 @@ pub fn store_action(
     signal: u32,
     a: Action,
 )
-    requires { ⌜ soundTables (now ps) (now ts) (now tb) (now pb) ≡ true ⌝ }
-    requires { ⌜ fitsAll (storeChanges process signal a) (storeOf (now ps) (now ts) (now tb) (now pb)) ≡ true ⌝ }
-    ensures store { λ _. ⌜ storeOf (now (ps .exit)) (now (ts .exit)) (now (tb .exit)) (now (pb .exit)) ≡ applyAll (storeChanges process signal a) (storeOf (now (ps .entry)) (now (ts .entry)) (now (tb .entry)) (now (pb .entry))) ⌝ }
-    ensures sound { λ _. ⌜ soundTables (now (ps .exit)) (now (ts .exit)) (now (tb .exit)) (now (pb .exit)) ≡ true ⌝ }
+    requires { ⌜ soundTables (given ps ts tb pb) ≡ true ⌝ }
+    requires { ⌜ fitsAll (storeChanges process signal a) (decoded (given ps ts tb pb)) ≡ true ⌝ }
+    ensures store { λ _. ⌜ decoded (after ps ts tb pb) ≡ applyAll (storeChanges process signal a) (decoded (before ps ts tb pb)) ⌝ }
+    ensures sound { λ _. ⌜ soundTables (after ps ts tb pb) ≡ true ⌝ }
 {
     if decide::is_ignored(a, signal) {
         discard(ps, ts, tb, pb, process, SigSet::of_signal(signal));
@@ -247,10 +247,10 @@ pub fn store_action(
 
 // The mask of a thread.
 pub fn set_mask(ps: &[u64], ts: &mut [u64], tb: &[u8], pb: &[u8], thread: u32, mask: SigSet)
-    requires { ⌜ soundTables (now ps) (now ts) (now tb) (now pb) ≡ true ⌝ }
-    requires { ⌜ fits (view (storeOf (now ps) (now ts) (now tb) (now pb))) (setMask thread mask) ≡ true ⌝ }
-    ensures { λ _. ⌜ storeOf (now (ps .entry)) (now (ts .exit)) (now (tb .entry)) (now (pb .entry)) ≡ apply (setMask thread mask) (storeOf (now (ps .entry)) (now (ts .entry)) (now (tb .entry)) (now (pb .entry))) ⌝ }
-    ensures { λ _. ⌜ soundTables (now (ps .entry)) (now (ts .exit)) (now (tb .entry)) (now (pb .entry)) ≡ true ⌝ }
+    requires { ⌜ soundTables (given ps ts tb pb) ≡ true ⌝ }
+    requires { ⌜ fits (viewOf (given ps ts tb pb)) (setMask thread mask) ≡ true ⌝ }
+    ensures { λ _. ⌜ decoded (after ps ts tb pb) ≡ apply (setMask thread mask) (decoded (before ps ts tb pb)) ⌝ }
+    ensures { λ _. ⌜ soundTables (after ps ts tb pb) ≡ true ⌝ }
 {
     let place = tables::find_thread(ts, thread as u64);
     tables::put_thread_field(ts, place, THREAD_MASK, mask.0);
@@ -294,10 +294,10 @@ fn vacate_threads(ts: &mut [u64], process: u32)
 
 // A process goes, with its threads and all that is pending for it and for them.
 pub fn remove_process(ps: &mut [u64], ts: &mut [u64], tb: &mut [u8], pb: &mut [u8], process: u32)
-    requires { ⌜ soundTables (now ps) (now ts) (now tb) (now pb) ≡ true ⌝ }
-    requires { ⌜ fits (view (storeOf (now ps) (now ts) (now tb) (now pb))) (removeProcess process) ≡ true ⌝ }
-    ensures { λ _. ⌜ storeOf (now (ps .exit)) (now (ts .exit)) (now (tb .exit)) (now (pb .exit)) ≡ apply (removeProcess process) (storeOf (now (ps .entry)) (now (ts .entry)) (now (tb .entry)) (now (pb .entry))) ⌝ }
-    ensures { λ _. ⌜ soundTables (now (ps .exit)) (now (ts .exit)) (now (tb .exit)) (now (pb .exit)) ≡ true ⌝ }
+    requires { ⌜ soundTables (given ps ts tb pb) ≡ true ⌝ }
+    requires { ⌜ fits (viewOf (given ps ts tb pb)) (removeProcess process) ≡ true ⌝ }
+    ensures { λ _. ⌜ decoded (after ps ts tb pb) ≡ apply (removeProcess process) (decoded (before ps ts tb pb)) ⌝ }
+    ensures { λ _. ⌜ soundTables (after ps ts tb pb) ≡ true ⌝ }
 {
     let place = tables::find_process(ps, process as u64);
     tables::clear_process(ps, place);
@@ -308,10 +308,10 @@ pub fn remove_process(ps: &mut [u64], ts: &mut [u64], tb: &mut [u8], pb: &mut [u
 
 // A thread goes, with all that is pending for it.
 pub fn remove_thread(ps: &[u64], ts: &mut [u64], tb: &mut [u8], pb: &mut [u8], thread: u32)
-    requires { ⌜ soundTables (now ps) (now ts) (now tb) (now pb) ≡ true ⌝ }
-    requires { ⌜ fits (view (storeOf (now ps) (now ts) (now tb) (now pb))) (removeThread thread) ≡ true ⌝ }
-    ensures { λ _. ⌜ storeOf (now (ps .entry)) (now (ts .exit)) (now (tb .exit)) (now (pb .exit)) ≡ apply (removeThread thread) (storeOf (now (ps .entry)) (now (ts .entry)) (now (tb .entry)) (now (pb .entry))) ⌝ }
-    ensures { λ _. ⌜ soundTables (now (ps .entry)) (now (ts .exit)) (now (tb .exit)) (now (pb .exit)) ≡ true ⌝ }
+    requires { ⌜ soundTables (given ps ts tb pb) ≡ true ⌝ }
+    requires { ⌜ fits (viewOf (given ps ts tb pb)) (removeThread thread) ≡ true ⌝ }
+    ensures { λ _. ⌜ decoded (after ps ts tb pb) ≡ apply (removeThread thread) (decoded (before ps ts tb pb)) ⌝ }
+    ensures { λ _. ⌜ soundTables (after ps ts tb pb) ≡ true ⌝ }
 {
     let place = tables::find_thread(ts, thread as u64);
     tables::clear_thread(ts, place);
@@ -321,8 +321,8 @@ pub fn remove_thread(ps: &[u64], ts: &mut [u64], tb: &mut [u8], pb: &mut [u8], t
 
 // All of the store is cleared, whatever it held.
 pub fn forget(ps: &mut [u64], ts: &mut [u64], tb: &mut [u8], pb: &mut [u8])
-    requires { ⌜ lengthsAre (now ps) (now ts) (now tb) (now pb) ≡ true ⌝ }
-    ensures { λ _. ⌜ storeOf (now (ps .exit)) (now (ts .exit)) (now (tb .exit)) (now (pb .exit)) ≡ apply forget (storeOf (now (ps .entry)) (now (ts .entry)) (now (tb .entry)) (now (pb .entry))) ⌝ }
+    requires { ⌜ lengthsAre (given ps ts tb pb) ≡ true ⌝ }
+    ensures { λ _. ⌜ decoded (after ps ts tb pb) ≡ apply forget (decoded (before ps ts tb pb)) ⌝ }
 {
     tables::clear_processes(ps);
     tables::clear_threads(ts);

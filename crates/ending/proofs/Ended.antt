@@ -15,13 +15,13 @@ use Rattle.rules.specs.Fitting.{fits}
 use Rattle.rules.proofs.Marks.{the-thread-id}
 use Rattle.rules.proofs.TakeFits.{end-thread-fits}
 use Rattle.tables.specs.Tables.{heldThreads}
-use Rattle.sound.specs.Lent.{storeOf, soundTables}
+use Rattle.sound.specs.Lent.{Lent, lent, decoded, viewOf, soundTables}
 use Rattle.sound.proofs.Facts.{store-sound}
 use Rattle.effects.proofs.Chain.{one-made, made, starts}
 use Rattle.view.specs.Named.{threadNamed}
 use Rattle.answers.specs.declared.Answer.the-variants.{Refused, Done}
 use Rattle.answers.specs.Answers.{answerOf}
-use Rattle.answers.specs.Step.{Lent, lent, decoded, refusalOn, rowsOn, stepOn}
+use Rattle.answers.specs.Step.{refusalOn, rowsOn, stepOn}
 use Rattle.answers.proofs.Endings.{AsLong, rows-given, refused-ends, accepted-ends}
 use Rattle.answers.proofs.Rows.{live-process, live-thread}
 use Rattle.view.proofs.Live.{owner-is}
@@ -30,7 +30,7 @@ use Rattle.ending.proofs.Others.{others-are}
 
 -- ---- a process
 
-module _ (ps ts tb pb : List ℕ) (id n : ℕ) (r : n ≡ rowsOn (esrch (noProcessLive (view (storeOf ps ts tb pb)) id) ∷ []) (lent ps ts tb pb)) where
+module _ (ps ts tb pb : List ℕ) (id n : ℕ) (r : n ≡ rowsOn (esrch (noProcessLive (viewOf (lent ps ts tb pb)) id) ∷ []) (lent ps ts tb pb)) where
   process-number : n ≡ refusalOn (endProcess id) (lent ps ts tb pb)
   unfolding rows isClear
   process-number = r ∙ sym (rows-given (endProcess id) (lent ps ts tb pb) refl)
@@ -40,21 +40,21 @@ module _ (ps ts tb pb : List ℕ) (id n : ℕ) (r : n ≡ rowsOn (esrch (noProce
   process-kept = refused-ends (endProcess id) (lent ps ts tb pb) n process-number
 
   module _ (z : n ≡ 0) where
-    pub process-can-end : (soundTables ps ts tb pb ≡ true) × (fits (view (storeOf ps ts tb pb)) (removeProcess id) ≡ true)
+    pub process-can-end : (soundTables (lent ps ts tb pb) ≡ true) × (fits (viewOf (lent ps ts tb pb)) (removeProcess id) ≡ true)
     unfolding fits
     process-can-end = live-process (lent ps ts tb pb) id n r z
 
     pub process-ended : (m : Lent) → AsLong (lent ps ts tb pb) m → Bytes (m .threadBuffer) → Bytes (m .processBuffer)
-        → decoded m ≡ apply (removeProcess id) (storeOf ps ts tb pb)
+        → decoded m ≡ apply (removeProcess id) (decoded (lent ps ts tb pb))
         → (answerOf Done ≡ stepOn (endProcess id) (lent ps ts tb pb) .1) × (m ≡ stepOn (endProcess id) (lent ps ts tb pb) .0)
     unfolding answerOf answer changes applyAll
     process-ended = accepted-ends (endProcess id) (lent ps ts tb pb) (sym process-number ∙ z) (answerOf Done) refl
 
 -- ---- a thread
 
-module _ (ps ts tb pb : List ℕ) (e : soundTables ps ts tb pb ≡ true) (thread : ℕ) (l : liveThread (view (storeOf ps ts tb pb)) thread ≡ true) where
+module _ (ps ts tb pb : List ℕ) (e : soundTables (lent ps ts tb pb) ≡ true) (thread : ℕ) (l : liveThread (viewOf (lent ps ts tb pb)) thread ≡ true) where
   abbrev st : Store
-  st = storeOf ps ts tb pb
+  st = decoded (lent ps ts tb pb)
 
   abbrev it : Thread
   it = theThread (view st) thread
@@ -67,7 +67,7 @@ module _ (ps ts tb pb : List ℕ) (e : soundTables ps ts tb pb ≡ true) (thread
     its-id = sym (the-thread-id st thread l)
 
     another : b ≡ any (otherThread (view st) it) (view st .threads)
-    unfolding view storeOf
+    unfolding view decoded
     another = h ∙ others-are (view st) it process thread owner its-id (heldThreads ts)
 
     -- the one change
@@ -84,10 +84,10 @@ module _ (ps ts tb pb : List ℕ) (e : soundTables ps ts tb pb ≡ true) (thread
     removed : (ch : Change) → endThreadChanges (view st) it ≡ (ch ∷ []) → (st′ : Store) → st′ ≡ apply ch st → st′ ≡ applyAll (endThreadChanges (view st) it) st
     removed ch k st′ a = made (endThreadChanges (view st) it) st (ch ∷ []) k st′ (one-made ch st st′ a)
 
-    pub thread-fits : b ≡ true → (soundTables ps ts tb pb ≡ true) × (fits (view st) (removeThread thread) ≡ true)
+    pub thread-fits : b ≡ true → (soundTables (lent ps ts tb pb) ≡ true) × (fits (view st) (removeThread thread) ≡ true)
     thread-fits k = (e, removal-fits (removeThread thread) (removal true k))
 
-    pub process-fits : b ≡ false → (soundTables ps ts tb pb ≡ true) × (fits (view st) (removeProcess process) ≡ true)
+    pub process-fits : b ≡ false → (soundTables (lent ps ts tb pb) ≡ true) × (fits (view st) (removeProcess process) ≡ true)
     process-fits k = (e, removal-fits (removeProcess process) (removal false k))
 
     pub thread-removed : b ≡ true → (st′ : Store) → st′ ≡ apply (removeThread thread) st → st′ ≡ applyAll (endThreadChanges (view st) it) st
@@ -96,7 +96,7 @@ module _ (ps ts tb pb : List ℕ) (e : soundTables ps ts tb pb ≡ true) (thread
     pub process-removed : b ≡ false → (st′ : Store) → st′ ≡ apply (removeProcess process) st → st′ ≡ applyAll (endThreadChanges (view st) it) st
     process-removed k = removed (removeProcess process) (removal false k)
 
-module _ (ps ts tb pb : List ℕ) (id n : ℕ) (r : n ≡ rowsOn (esrch (noThreadLive (view (storeOf ps ts tb pb)) id) ∷ []) (lent ps ts tb pb)) where
+module _ (ps ts tb pb : List ℕ) (id n : ℕ) (r : n ≡ rowsOn (esrch (noThreadLive (viewOf (lent ps ts tb pb)) id) ∷ []) (lent ps ts tb pb)) where
   thread-number : n ≡ refusalOn (endThread id) (lent ps ts tb pb)
   unfolding rows isClear
   thread-number = r ∙ sym (rows-given (endThread id) (lent ps ts tb pb) refl)
@@ -106,11 +106,11 @@ module _ (ps ts tb pb : List ℕ) (id n : ℕ) (r : n ≡ rowsOn (esrch (noThrea
   thread-kept = refused-ends (endThread id) (lent ps ts tb pb) n thread-number
 
   module _ (z : n ≡ 0) where
-    pub thread-can-end : (soundTables ps ts tb pb ≡ true) × (liveThread (view (storeOf ps ts tb pb)) id ≡ true)
+    pub thread-can-end : (soundTables (lent ps ts tb pb) ≡ true) × (liveThread (viewOf (lent ps ts tb pb)) id ≡ true)
     thread-can-end = live-thread (lent ps ts tb pb) id n r z
 
     pub thread-ended : (m : Lent) → AsLong (lent ps ts tb pb) m → Bytes (m .threadBuffer) → Bytes (m .processBuffer)
-        → decoded m ≡ applyAll (endThreadChanges (view (storeOf ps ts tb pb)) (theThread (view (storeOf ps ts tb pb)) id)) (storeOf ps ts tb pb)
+        → decoded m ≡ applyAll (endThreadChanges (viewOf (lent ps ts tb pb)) (theThread (viewOf (lent ps ts tb pb)) id)) (decoded (lent ps ts tb pb))
         → (answerOf Done ≡ stepOn (endThread id) (lent ps ts tb pb) .1) × (m ≡ stepOn (endThread id) (lent ps ts tb pb) .0)
     unfolding answerOf answer changes
     thread-ended = accepted-ends (endThread id) (lent ps ts tb pb) (sym thread-number ∙ z) (answerOf Done) refl

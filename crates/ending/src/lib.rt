@@ -11,9 +11,9 @@ ghost use Rattle.rules.specs.View.{liveThread, theThread};
 ghost use Rattle.rules.specs.Store.{view, applyAll};
 ghost use Rattle.rules.specs.Adding.{endThreadChanges};
 ghost use Rattle.tables.specs.Tables.{heldThreads};
-ghost use Rattle.sound.specs.Lent.{storeOf, soundTables};
+ghost use Rattle.sound.specs.Lent.{decoded, viewOf, soundTables, given, before, after};
 ghost use Rattle.answers.specs.Answers.{answerOf};
-ghost use Rattle.answers.specs.Step.{lent, stepOn};
+ghost use Rattle.answers.specs.Step.{stepOn};
 ghost use Rattle.ending.specs.Others.{isOther};
 use answers::Answer;
 use limits::THREAD_ID;
@@ -22,8 +22,8 @@ use limits::THREAD_PROCESS;
 
 // Ends a process, as KILL does.
 pub fn end_process(ps: &mut [u64], ts: &mut [u64], tb: &mut [u8], pb: &mut [u8], id: u32) -> Answer
-    ensures answer { λ r. ⌜ answerOf r ≡ stepOn (call.endProcess id) (lent (now (ps .entry)) (now (ts .entry)) (now (tb .entry)) (now (pb .entry))) .1 ⌝ }
-    ensures tables { λ r. ⌜ lent (now (ps .exit)) (now (ts .exit)) (now (tb .exit)) (now (pb .exit)) ≡ stepOn (call.endProcess id) (lent (now (ps .entry)) (now (ts .entry)) (now (tb .entry)) (now (pb .entry))) .0 ⌝ }
+    ensures answer { λ r. ⌜ answerOf r ≡ stepOn (call.endProcess id) (before ps ts tb pb) .1 ⌝ }
+    ensures tables { λ r. ⌜ after ps ts tb pb ≡ stepOn (call.endProcess id) (before ps ts tb pb) .0 ⌝ }
 {
     let n = view::process_refusal(ps, ts, tb, pb, id);
     if n != 0 {
@@ -60,9 +60,9 @@ fn has_other(ts: &[u64], process: u32, thread: u32) -> bool
 
 // The thread goes, and its process with it where it is the last one.
 fn remove(ps: &mut [u64], ts: &mut [u64], tb: &mut [u8], pb: &mut [u8], thread: u32)
-    requires { ⌜ soundTables (now ps) (now ts) (now tb) (now pb) ≡ true ⌝ }
-    requires { ⌜ liveThread (view (storeOf (now ps) (now ts) (now tb) (now pb))) thread ≡ true ⌝ }
-    ensures { λ _. ⌜ storeOf (now (ps .exit)) (now (ts .exit)) (now (tb .exit)) (now (pb .exit)) ≡ applyAll (endThreadChanges (view (storeOf (now (ps .entry)) (now (ts .entry)) (now (tb .entry)) (now (pb .entry)))) (theThread (view (storeOf (now (ps .entry)) (now (ts .entry)) (now (tb .entry)) (now (pb .entry)))) thread)) (storeOf (now (ps .entry)) (now (ts .entry)) (now (tb .entry)) (now (pb .entry))) ⌝ }
+    requires { ⌜ soundTables (given ps ts tb pb) ≡ true ⌝ }
+    requires { ⌜ liveThread (viewOf (given ps ts tb pb)) thread ≡ true ⌝ }
+    ensures { λ _. ⌜ decoded (after ps ts tb pb) ≡ applyAll (endThreadChanges (viewOf (before ps ts tb pb)) (theThread (viewOf (before ps ts tb pb)) thread)) (decoded (before ps ts tb pb)) ⌝ }
 {
     let process = view::process_of(ts, thread);
     if has_other(ts, process, thread) {
@@ -74,8 +74,8 @@ fn remove(ps: &mut [u64], ts: &mut [u64], tb: &mut [u8], pb: &mut [u8], thread: 
 
 // Ends a thread; the last one of a process ends the process.
 pub fn end_thread(ps: &mut [u64], ts: &mut [u64], tb: &mut [u8], pb: &mut [u8], id: u32) -> Answer
-    ensures answer { λ r. ⌜ answerOf r ≡ stepOn (call.endThread id) (lent (now (ps .entry)) (now (ts .entry)) (now (tb .entry)) (now (pb .entry))) .1 ⌝ }
-    ensures tables { λ r. ⌜ lent (now (ps .exit)) (now (ts .exit)) (now (tb .exit)) (now (pb .exit)) ≡ stepOn (call.endThread id) (lent (now (ps .entry)) (now (ts .entry)) (now (tb .entry)) (now (pb .entry))) .0 ⌝ }
+    ensures answer { λ r. ⌜ answerOf r ≡ stepOn (call.endThread id) (before ps ts tb pb) .1 ⌝ }
+    ensures tables { λ r. ⌜ after ps ts tb pb ≡ stepOn (call.endThread id) (before ps ts tb pb) .0 ⌝ }
 {
     let n = view::thread_refusal(ps, ts, tb, pb, id);
     if n != 0 {

@@ -16,8 +16,8 @@ use Rattle.rules.specs.Asking.{yieldsOne}
 use Rattle.rules.specs.Calls.{step, isRefused}
 use Rattle.rules.specs.Machine.{machine}
 use Rattle.sound.proofs.Facts.{right-lengths}
-use Rattle.answers.specs.Step.{Lent, decoded, encoded, stepOn}
-use Rattle.answers.proofs.Endings.{longAs, isSound}
+use Rattle.sound.specs.Lent.{Lent, decoded, lengthsAre, soundTables}
+use Rattle.answers.specs.Step.{encoded, stepOn}
 use Rattle.calls.specs.Calls.{callOf}
 use Rattle.history.specs.Ledger.{Ledger, emptyLedger, ledgerView, ledgerAnswer, enter, enterAll}
 use Rattle.history.specs.History.{clearedTables, tablesAfter, entryOf, entriesOf, ledgerAfter, isRefusedWith, isKept, keepsAt, takesAt, takesOne}
@@ -35,7 +35,7 @@ use Rattle.history.proofs.Widths.{Widths, widths-cleared, widths-step}
 
 record Reached (l : Lent) (k : Ledger) : Type 0 where
   -- the tables are sound, their records machine numbers, and they are the words and bytes of what they say
-  sound : isSound l ≡ true
+  sound : soundTables l ≡ true
   widths : Widths (decoded l)
   whole : encoded (decoded l) ≡ l
   -- and the ledger holds beside them
@@ -51,7 +51,7 @@ reached-start =
     }
 
 module _ (l : Lent) (k : Ledger) (r : Reached l k) where
-  long : longAs l ≡ true
+  long : lengthsAre l ≡ true
   long = right-lengths (l .processes) (l .threads) (l .threadBuffer) (l .processBuffer) (r .sound)
 
   -- the answer that the ledger expects is given

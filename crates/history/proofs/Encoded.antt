@@ -30,10 +30,10 @@ use Rattle.rules.proofs.Cleared.{sound-cleared}
 use Rattle.tables.specs.Tables.{processTo, threadTo, processWordsOf, threadWordsOf}
 use Rattle.tables.proofs.Words.{ActionsLong, words-forth, thread-words-forth, length-processWordsOf, length-threadWordsOf, free-process-words, free-thread-words}
 use Rattle.queue.specs.Queue.{slotsOf}
-use Rattle.sound.specs.Lent.{storeOf, lengthsAre, soundTables}
+use Rattle.sound.specs.Lent.{Lent, lent, decoded, lengthsAre, soundTables}
 use Rattle.sound.proofs.Facts.{right-lengths, store-sound}
-use Rattle.answers.specs.Step.{Lent, lent, decoded, encoded, committed, stepOn}
-use Rattle.answers.proofs.Endings.{longAs, isSound, places-right}
+use Rattle.answers.specs.Step.{encoded, committed, stepOn}
+use Rattle.answers.proofs.Endings.{places-right}
 use Rattle.history.specs.History.{clearedTables}
 use Rattle.history.proofs.Widths.{Widths, widths-cleared, widths-step}
 
@@ -56,7 +56,7 @@ module _ (st : Store) (e : sound st ≡ true) where
 
   -- a sound store whose records have their widths is what its words and bytes say
   pub decoded-encoded : Widths st → decoded (encoded st) ≡ st
-  unfolding encoded storeOf
+  unfolding encoded decoded
   decoded-encoded w =
       let p = words-forth (st .processes) (long .processes) actions-long in
       let t = thread-words-forth (st .threads) (long .threads) in
@@ -64,7 +64,7 @@ module _ (st : Store) (e : sound st ≡ true) where
       let c = slots-forth (st .processBuffer) (long .processSlots) (w .processBuffer) in
       λ i. record { processes = p i; threads = t i; threadBuffer = b i; processBuffer = c i }
 
-  pub long-encoded : longAs (encoded st) ≡ true
+  pub long-encoded : lengthsAre (encoded st) ≡ true
   unfolding encoded lengthsAre
   long-encoded =
       let b : (rs : List Siginfo) → length rs ≡ bufferRecords → eqb (length (slotBytes rs)) bufferBytes ≡ true =
@@ -75,7 +75,7 @@ module _ (st : Store) (e : sound st ≡ true) where
 
 -- ---- a call
 
-module _ (c : Call) (l : Lent) (h : longAs l ≡ true) where
+module _ (c : Call) (l : Lent) (h : lengthsAre l ≡ true) where
   -- tables of the right lengths: nothing but the rules decides
   on-long : stepOn c l ≡ committed l (step c (decoded l))
   unfolding stepOn
@@ -94,8 +94,8 @@ module _ (c : Call) (l : Lent) (h : longAs l ≡ true) where
   unfolding committed
   accepted-on r = ap (λ x. x .0) on-long ∙ cond-false l (encoded (step c (decoded l) .0)) r
 
-module _ (c : Call) (l : Lent) (u : machine c ≡ true) (e : isSound l ≡ true) (w : Widths (decoded l)) where
-  right : longAs l ≡ true
+module _ (c : Call) (l : Lent) (u : machine c ≡ true) (e : soundTables l ≡ true) (w : Widths (decoded l)) where
+  right : lengthsAre l ≡ true
   right = right-lengths (l .processes) (l .threads) (l .threadBuffer) (l .processBuffer) e
 
   before-sound : sound (decoded l) ≡ true
@@ -119,13 +119,13 @@ module _ (c : Call) (l : Lent) (u : machine c ≡ true) (e : isSound l ≡ true)
       (λ r. ap encoded decoded-on ∙ sym (accepted-on c l right r))
 
   -- and are sound again
-  pub sound-on : isSound (stepOn c l .0) ≡ true
+  pub sound-on : soundTables (stepOn c l .0) ≡ true
   unfolding soundTables
   sound-on =
       and-both
       (split (isRefused (step c (decoded l) .1))
-      (λ r. ap longAs (refused-on c l right r) ∙ right)
-      (λ r. ap longAs (accepted-on c l right r) ∙ long-encoded (step c (decoded l) .0) after-sound))
+      (λ r. ap lengthsAre (refused-on c l right r) ∙ right)
+      (λ r. ap lengthsAre (accepted-on c l right r) ∙ long-encoded (step c (decoded l) .0) after-sound))
       (ap sound decoded-on ∙ after-sound)
 
 -- ---- cleared tables
@@ -150,10 +150,10 @@ encoded-cleared =
 pub decoded-cleared : decoded clearedTables ≡ cleared
 decoded-cleared = ap decoded (sym encoded-cleared) ∙ decoded-encoded cleared sound-cleared widths-cleared
 
-pub sound-clearedTables : isSound clearedTables ≡ true
+pub sound-clearedTables : soundTables clearedTables ≡ true
 unfolding soundTables
 sound-clearedTables =
-    and-both (ap longAs (sym encoded-cleared) ∙ long-encoded cleared sound-cleared) (ap sound decoded-cleared ∙ sound-cleared)
+    and-both (ap lengthsAre (sym encoded-cleared) ∙ long-encoded cleared sound-cleared) (ap sound decoded-cleared ∙ sound-cleared)
 
 -- what tables say has the right number of places, and clearing asks no more
 clear-accepted : (l : Lent) → refusalOf (decoded l) clear ≡ 0
@@ -161,7 +161,7 @@ unfolding refusalOf table refusal fault isClear rows
 clear-accepted l = rw (places-right l)
 
 -- clearing leaves all zero, whatever was there
-pub clear-clears : (l : Lent) → longAs l ≡ true → stepOn clear l .0 ≡ clearedTables
+pub clear-clears : (l : Lent) → lengthsAre l ≡ true → stepOn clear l .0 ≡ clearedTables
 unfolding changes applyAll apply
 clear-clears l h =
     let e = clear-accepted l in

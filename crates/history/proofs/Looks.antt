@@ -26,8 +26,8 @@ use Rattle.rules.specs.Taking.{next}
 use Rattle.rules.specs.Calls.{emptyPart, slotOf, partOf, lookPart}
 use Rattle.rules.proofs.Asking.{next-record}
 use Rattle.rules.proofs.Slots.{length-used, used-at}
-use Rattle.answers.specs.Step.{Lent, decoded, encoded}
-use Rattle.answers.proofs.Endings.{longAs}
+use Rattle.sound.specs.Lent.{Lent, decoded, lengthsAre}
+use Rattle.answers.specs.Step.{encoded}
 use Rattle.looking.specs.Looks.{partBytes, lookBytes}
 use Rattle.history.specs.Ledger.{Ledger}
 use Rattle.history.specs.History.{nextBytes, lookedBytes}
@@ -78,7 +78,7 @@ module _ (l : Lent) (w : encoded (decoded l) ≡ l) where
     part-bytes true = next-bytes upcoming (λ q s r e. next-record (view st) (theThread (view st) t) q s r e .1)
     part-bytes false = refl
 
-    pub same-look : (k : Ledger) → longAs l ≡ true → Holds st k → lookBytes t l ≡ lookedBytes k t
+    pub same-look : (k : Ledger) → lengthsAre l ≡ true → Holds st k → lookBytes t l ≡ lookedBytes k t
     unfolding lookBytes lookPart lookedBytes
     same-look k a h =
         cond-true (partBytes l (lookPart t st)) [] a

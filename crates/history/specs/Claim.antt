@@ -18,7 +18,8 @@ use Rattle.rules.specs.Taking.{next, delivered}
 use Rattle.rules.specs.Asking.{MayTake, hasOffer, yieldsOne}
 use Rattle.rules.specs.Refusals.{refusal, rows}
 use Rattle.rules.specs.Machine.{machine}
-use Rattle.answers.specs.Step.{Lent, decoded, stepOn}
+use Rattle.sound.specs.Lent.{Lent, decoded}
+use Rattle.answers.specs.Step.{stepOn}
 use Rattle.looking.specs.Looks.{lookBytes}
 use Rattle.calls.specs.declared.Call as dispatcher
 use Rattle.calls.specs.Calls.{callOf}

@@ -11,7 +11,8 @@ use Rattle.rules.specs.View.{targetQueue, theThread}
 use Rattle.rules.specs.Taking.{next}
 use Rattle.rules.specs.Asking.{takenBy}
 use Rattle.rules.specs.Calls.{isRefused}
-use Rattle.answers.specs.Step.{Lent, lent, stepOn}
+use Rattle.sound.specs.Lent.{Lent, lent}
+use Rattle.answers.specs.Step.{stepOn}
 use Rattle.history.specs.Ledger.{Ledger, Entry, isAt, ledgerView, ledgerRefusal, emptyLedger, enterAll}
 
 -- all zero: what clearing leaves of any tables of the right lengths (law `clear-clears` in proofs/Encoded)

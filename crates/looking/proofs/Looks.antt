@@ -13,19 +13,19 @@ use Rattle.lists.proofs.Loops.{find-le}
 use Rattle.types.specs.declared.Siginfo.{Siginfo}
 use Rattle.rules.specs.Types.{Next, looked, look}
 use Rattle.rules.specs.View.{queueOf, inQueue, liveThread, theThread}
-use Rattle.rules.specs.Store.{recordsFor, view}
+use Rattle.rules.specs.Store.{recordsFor}
 use Rattle.rules.specs.Taking.{next}
 use Rattle.rules.specs.Refusals.{esrch, isClear, noThreadLive, rows, refusalOf}
 use Rattle.rules.specs.Calls.{partOf, slotOf, lookPart, answer}
 use Rattle.queue.specs.Queue.{recordsOf}
 use Rattle.queue.proofs.Buffer.{length-recordsOf}
-use Rattle.sound.specs.Lent.{storeOf, soundTables}
+use Rattle.sound.specs.Lent.{Lent, lent, decoded, viewOf, lengthsAre, soundTables}
 use Rattle.answers.specs.declared.Next as declared
 use Rattle.answers.specs.declared.Next.the-variants as case
 use Rattle.answers.specs.declared.Answer.the-variants as said
 use Rattle.answers.specs.Answers.{nextOf, answerOf}
-use Rattle.answers.specs.Step.{Lent, lent, decoded, refusalOn, rowsOn, stepOn}
-use Rattle.answers.proofs.Endings.{longAs, rows-given, accepted-long, accepted-rules, answer-after, refused-ends}
+use Rattle.answers.specs.Step.{refusalOn, rowsOn, stepOn}
+use Rattle.answers.proofs.Endings.{rows-given, accepted-long, accepted-rules, answer-after, refused-ends}
 use Rattle.answers.proofs.Rows.{live-thread}
 use Rattle.looking.specs.Looks.{slotNumber, lookSlot}
 
@@ -35,11 +35,11 @@ module _ (t : ℕ) (l : Lent) where
   refused-slot : (refusalOn (look t) l ≡ 0 → ⊥) → lookSlot t l ≡ 0
   unfolding lookSlot lookPart slotNumber refusalOn
   refused-slot n =
-      split (longAs l)
+      split (lengthsAre l)
       (λ a. rw (a, ne-eqb (refusalOf (decoded l) (look t)) 0 (λ z. n (ap (λ (b : Bool). cond b (refusalOf (decoded l) (look t)) EFAULT) a ∙ z))))
       (λ a. rw a)
 
-  accepted-slot : refusalOn (look t) l ≡ 0 → lookSlot t l ≡ slotNumber (partOf (decoded l) (next (view (decoded l)) (theThread (view (decoded l)) t)))
+  accepted-slot : refusalOn (look t) l ≡ 0 → lookSlot t l ≡ slotNumber (partOf (decoded l) (next (viewOf l) (theThread (viewOf l) t)))
   unfolding lookSlot lookPart
   accepted-slot e = rw (accepted-long (look t) l e, eq-eqb (refusalOf (decoded l) (look t)) 0 (accepted-rules (look t) l e))
 
@@ -47,7 +47,7 @@ module _ (t : ℕ) (l : Lent) where
 pub found-small : (b : List ℕ) (p : Siginfo → Bool) (k : ℕ) → k ≡ find p (recordsOf b) → k ≤ bufferRecords
 found-small b p k g = rw g (le-trans (find-le p (recordsOf b)) (length-recordsOf b))
 
-module _ (ps ts tb pb : List ℕ) (t n : ℕ) (e : n ≡ rowsOn (esrch (noThreadLive (view (storeOf ps ts tb pb)) t) ∷ []) (lent ps ts tb pb)) where
+module _ (ps ts tb pb : List ℕ) (t n : ℕ) (e : n ≡ rowsOn (esrch (noThreadLive (viewOf (lent ps ts tb pb)) t) ∷ []) (lent ps ts tb pb)) where
   look-refusal : n ≡ refusalOn (look t) (lent ps ts tb pb)
   unfolding isClear rows
   look-refusal = e ∙ sym (rows-given (look t) (lent ps ts tb pb) refl)
@@ -59,21 +59,21 @@ module _ (ps ts tb pb : List ℕ) (t n : ℕ) (e : n ≡ rowsOn (esrch (noThread
   slot-refused z = sym (refused-slot t (lent ps ts tb pb) (λ y. z (look-refusal ∙ y)))
 
   module _ (z : n ≡ 0) where
-    pub look-sound : soundTables ps ts tb pb ≡ true
+    pub look-sound : soundTables (lent ps ts tb pb) ≡ true
     look-sound = live-thread (lent ps ts tb pb) t n e z .0
 
-    pub look-live : liveThread (view (storeOf ps ts tb pb)) t ≡ true
+    pub look-live : liveThread (viewOf (lent ps ts tb pb)) t ≡ true
     look-live = live-thread (lent ps ts tb pb) t n e z .1
 
     -- what is next, as it was found
-    module _ (r : declared.Next) (f : nextOf r ≡ next (view (storeOf ps ts tb pb)) (theThread (view (storeOf ps ts tb pb)) t)) where
+    module _ (r : declared.Next) (f : nextOf r ≡ next (viewOf (lent ps ts tb pb)) (theThread (viewOf (lent ps ts tb pb)) t)) where
       pub look-answered : answerOf (said.Looked r) ≡ stepOn (look t) (lent ps ts tb pb) .1
       unfolding answerOf answer
       look-answered = answer-after (look t) (lent ps ts tb pb) (sym look-refusal ∙ z) (looked (nextOf r)) (ap looked f)
 
-      slot-of-next : slotNumber (partOf (storeOf ps ts tb pb) (nextOf r)) ≡ lookSlot t (lent ps ts tb pb)
+      slot-of-next : slotNumber (partOf (decoded (lent ps ts tb pb)) (nextOf r)) ≡ lookSlot t (lent ps ts tb pb)
       slot-of-next =
-          ap (λ (x : Next). slotNumber (partOf (storeOf ps ts tb pb) x)) f ∙ sym (accepted-slot t (lent ps ts tb pb) (sym look-refusal ∙ z))
+          ap (λ (x : Next). slotNumber (partOf (decoded (lent ps ts tb pb)) x)) f ∙ sym (accepted-slot t (lent ps ts tb pb) (sym look-refusal ∙ z))
 
       pub slot-nothing : r ≡ case.Nothing → 0 ≡ lookSlot t (lent ps ts tb pb)
       unfolding nextOf partOf slotNumber
@@ -86,9 +86,9 @@ module _ (ps ts tb pb : List ℕ) (t n : ℕ) (e : n ≡ rowsOn (esrch (noThread
       -- the place in the buffer that has the queue
       module _ (x : Siginfo) (h : r ≡ case.Record x) (k : ℕ) where
         pub slot-shared : x .thread ≡ 0 → k ≡ find (inQueue (queueOf x) (x .signal)) (recordsOf pb) → bufferRecords + k + 1 ≡ lookSlot t (lent ps ts tb pb)
-        unfolding nextOf partOf slotOf slotNumber recordsFor recordsOf storeOf
+        unfolding nextOf partOf slotOf slotNumber recordsFor recordsOf decoded
         slot-shared y g = rw (g, add-one) (rw (h, eq-eqb (x .thread) 0 y) at slot-of-next)
 
         pub slot-own : (x .thread ≡ 0 → ⊥) → k ≡ find (inQueue (queueOf x) (x .signal)) (recordsOf tb) → k + 1 ≡ lookSlot t (lent ps ts tb pb)
-        unfolding nextOf partOf slotOf slotNumber recordsFor recordsOf storeOf
+        unfolding nextOf partOf slotOf slotNumber recordsFor recordsOf decoded
         slot-own y g = rw (g, add-one) (rw (h, ne-eqb (x .thread) 0 y) at slot-of-next)

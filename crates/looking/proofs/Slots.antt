@@ -23,10 +23,8 @@ use Rattle.rules.specs.Calls.{Part, slotOf, partOf, lookPart}
 use Rattle.rules.proofs.Asking.{next-record}
 use Rattle.queue.specs.Queue.{recordsOf}
 use Rattle.queue.proofs.Buffer.{in-buffer}
-use Rattle.sound.specs.Lent.{storeOf}
+use Rattle.sound.specs.Lent.{Lent, decoded, viewOf, lengthsAre}
 use Rattle.sound.proofs.Facts.{right-thread-buffer, right-process-buffer}
-use Rattle.answers.specs.Step.{Lent, decoded}
-use Rattle.answers.proofs.Endings.{longAs}
 use Rattle.looking.specs.Looks.{slotNumber, lookSlot, partBytes, lookBytes}
 
 -- the bytes are those of a slot of a buffer
@@ -70,12 +68,12 @@ module _ (l : Lent) where
 record-inside : (b : List ℕ) (p : Siginfo → Bool) (r : Siginfo) → first p (recordsOf b) ≡ some r → find p (recordsOf b) < bufferRecords
 record-inside b p r e = in-buffer b (find p (recordsOf b)) (find-any p (recordsOf b) (some-first p (recordsOf b) r e))
 
-module _ (l : Lent) (a : longAs l ≡ true) where
+module _ (l : Lent) (a : lengthsAre l ≡ true) where
   abbrev ToldOf : Part → Type 0
   ToldOf p = Told l (slotNumber p) (partBytes l p)
 
   told-slot : (q : Queue) (s : ℕ) (r : Siginfo) → first (inQueue q s) (recordsFor q (decoded l)) ≡ some r → ToldOf (slotOf (decoded l) q s)
-  unfolding slotOf recordsFor recordsOf storeOf slotNumber partBytes
+  unfolding slotOf recordsFor recordsOf decoded slotNumber partBytes
   told-slot q s r e =
       split (eqb (q .thread) 0)
       (λ z.
@@ -97,10 +95,10 @@ module _ (l : Lent) (a : longAs l ≡ true) where
       split (eqb (refusalOf (decoded l) (look t)) 0)
       (λ z.
       rw z
-      (told-next (next (view (decoded l)) (theThread (view (decoded l)) t)) (λ q s r e. next-record (view (decoded l)) (theThread (view (decoded l)) t) q s r e .1)))
+      (told-next (next (viewOf l) (theThread (viewOf l) t)) (λ q s r e. next-record (viewOf l) (theThread (viewOf l) t) q s r e .1)))
       (λ z. rw z (told-nothing l))
 
 pub told : (t : ℕ) (l : Lent) (n : ℕ) → n ≡ lookSlot t l → Told l n (lookBytes t l)
 unfolding lookSlot lookBytes
 told t l n e =
-    subst (λ (m : ℕ). Told l m (lookBytes t l)) (sym e) (split (longAs l) (λ a. rw a (told-part l a t)) (λ a. rw a (told-nothing l)))
+    subst (λ (m : ℕ). Told l m (lookBytes t l)) (sym e) (split (lengthsAre l) (λ a. rw a (told-part l a t)) (λ a. rw a (told-nothing l)))

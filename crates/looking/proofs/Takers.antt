@@ -27,11 +27,11 @@ use Rattle.rules.proofs.ClausesByTable.{parts}
 use Rattle.tables.specs.Tables.{threadsOf, heldThreads, threadAt, threadTo}
 use Rattle.tables.proofs.Words.{length-threadsOf, length-heldThreads}
 use Rattle.tables.proofs.Places.{held-at}
-use Rattle.sound.specs.Lent.{storeOf, soundTables}
+use Rattle.sound.specs.Lent.{lent, decoded, viewOf, soundTables}
 use Rattle.sound.proofs.Facts.{store-sound}
 use Rattle.answers.specs.declared.Answer.the-variants as said
 use Rattle.answers.specs.Answers.{answerOf}
-use Rattle.answers.specs.Step.{lent, refusalOn, rowsOn, stepOn}
+use Rattle.answers.specs.Step.{refusalOn, rowsOn, stepOn}
 use Rattle.answers.proofs.Endings.{rows-given, answer-after, refused-ends}
 use Rattle.answers.proofs.Rows.{live-process}
 use Rattle.view.proofs.Fields.{id-fits}
@@ -79,7 +79,7 @@ module _ (v : View) (p : ℕ) (t : Thread) where
 -- ---- the thread in a place of a sound store
 
 -- a thread of a process is live, is found by its id, and the id fits
-module _ (ps ts tb pb : List ℕ) (e : soundTables ps ts tb pb ≡ true) (place p : ℕ) (h : place < threadPlaces) (b : belongsTo p (threadIn ts place) ≡ true) where
+module _ (ps ts tb pb : List ℕ) (e : soundTables (lent ps ts tb pb) ≡ true) (place p : ℕ) (h : place < threadPlaces) (b : belongsTo p (threadIn ts place) ≡ true) where
   inside : place < length (threadsOf ts)
   inside = rw length-threadsOf h
 
@@ -91,47 +91,47 @@ module _ (ps ts tb pb : List ℕ) (e : soundTables ps ts tb pb ≡ true) (place 
       ap (λ (n : ℕ). eqb n 0) o ∙ not-true (eqb p 0) (and-fst (not (eqb p 0)) (eqb (threadIn ts place .process) p) b)
 
   named : eqb (threadAt ts place .holds .id) 0 ≡ false
-  unfolding storeOf
+  unfolding decoded
   named =
       split (eqb (threadAt ts place .holds .id) 0)
       (λ z.
       clash
-      (free-of-nobody (threadAt ts place) (all-at (ifFree sounds.threadId zeroThread) freeThread (threadsOf ts) place inside (parts (storeOf ps ts tb pb) (store-sound ps ts tb pb e) .threadFree)) z)
+      (free-of-nobody (threadAt ts place) (all-at (ifFree sounds.threadId zeroThread) freeThread (threadsOf ts) place inside (parts (decoded (lent ps ts tb pb)) (store-sound ps ts tb pb e) .threadFree)) z)
       not-nobody)
       (λ z. z)
 
-  place-live : liveThread (view (storeOf ps ts tb pb)) (threadIn ts place .id) ≡ true
-  unfolding liveThread view storeOf isThread
+  place-live : liveThread (viewOf (lent ps ts tb pb)) (threadIn ts place .id) ≡ true
+  unfolding liveThread view decoded isThread
   place-live =
       any-here (isThread (threadIn ts place .id)) noThread (heldThreads ts) place (rw length-heldThreads h)
       (and-both (ap not (ap (λ (t : Thread). eqb (t .id) 0) (sym (in-place ts place 0)) ∙ named)) (eq-eqb (threadIn ts place .id) (threadIn ts place .id) refl))
 
-  place-thread : theThread (view (storeOf ps ts tb pb)) (threadIn ts place .id) ≡ threadIn ts place
-  unfolding storeOf
+  place-thread : theThread (viewOf (lent ps ts tb pb)) (threadIn ts place .id) ≡ threadIn ts place
+  unfolding decoded
   place-thread =
-      ap (λ (t : Thread). theThread (view (storeOf ps ts tb pb)) (t .id)) (sym (in-place ts place 0))
-      ∙ All-at (λ (x : Place Thread). isLive sounds.threadId x ≡ true → theThread (view (storeOf ps ts tb pb)) (x .holds .id) ≡ x .holds) (threadsOf ts) place freeThread inside
-      (own-thread (storeOf ps ts tb pb) (store-sound ps ts tb pb e)) (ap not named)
+      ap (λ (t : Thread). theThread (viewOf (lent ps ts tb pb)) (t .id)) (sym (in-place ts place 0))
+      ∙ All-at (λ (x : Place Thread). isLive sounds.threadId x ≡ true → theThread (viewOf (lent ps ts tb pb)) (x .holds .id) ≡ x .holds) (threadsOf ts) place freeThread inside
+      (own-thread (decoded (lent ps ts tb pb)) (store-sound ps ts tb pb e)) (ap not named)
       ∙ in-place ts place 0
 
   -- the id as it was read
   module _ (w : ℕ) (i : w ≡ threadIn ts place .id) where
-    pub id-live : liveThread (view (storeOf ps ts tb pb)) w ≡ true
-    id-live = ap (liveThread (view (storeOf ps ts tb pb))) i ∙ place-live
+    pub id-live : liveThread (viewOf (lent ps ts tb pb)) w ≡ true
+    id-live = ap (liveThread (viewOf (lent ps ts tb pb))) i ∙ place-live
 
     pub id-small : w ≤ largestId
     id-small =
-        id-fits w (threadIn ts place .id) i (thread-id (storeOf ps ts tb pb) (store-sound ps ts tb pb e) (threadIn ts place .id) place-live)
+        id-fits w (threadIn ts place .id) i (thread-id (decoded (lent ps ts tb pb)) (store-sound ps ts tb pb e) (threadIn ts place .id) place-live)
 
-    pub id-takes : (s : ℕ) → s ≡ nextSignal (view (storeOf ps ts tb pb)) (theThread (view (storeOf ps ts tb pb)) w)
-        → not (eqb s 0) ≡ canTakeSome (view (storeOf ps ts tb pb)) p (threadIn ts place)
+    pub id-takes : (s : ℕ) → s ≡ nextSignal (viewOf (lent ps ts tb pb)) (theThread (viewOf (lent ps ts tb pb)) w)
+        → not (eqb s 0) ≡ canTakeSome (viewOf (lent ps ts tb pb)) p (threadIn ts place)
     id-takes s n =
-        own-takes (view (storeOf ps ts tb pb)) p (threadIn ts place) b s
-        (n ∙ ap (nextSignal (view (storeOf ps ts tb pb))) (ap (theThread (view (storeOf ps ts tb pb))) i ∙ place-thread))
+        own-takes (viewOf (lent ps ts tb pb)) p (threadIn ts place) b s
+        (n ∙ ap (nextSignal (viewOf (lent ps ts tb pb))) (ap (theThread (viewOf (lent ps ts tb pb))) i ∙ place-thread))
 
 -- ---- who
 
-module _ (ps ts tb pb : List ℕ) (p n : ℕ) (e : n ≡ rowsOn (esrch (noProcessLive (view (storeOf ps ts tb pb)) p) ∷ []) (lent ps ts tb pb)) where
+module _ (ps ts tb pb : List ℕ) (p n : ℕ) (e : n ≡ rowsOn (esrch (noProcessLive (viewOf (lent ps ts tb pb)) p) ∷ []) (lent ps ts tb pb)) where
   who-refusal : n ≡ refusalOn (who p) (lent ps ts tb pb)
   unfolding isClear rows
   who-refusal = e ∙ sym (rows-given (who p) (lent ps ts tb pb) refl)
@@ -140,35 +140,35 @@ module _ (ps ts tb pb : List ℕ) (p n : ℕ) (e : n ≡ rowsOn (esrch (noProces
   who-refused z = refused-ends (who p) (lent ps ts tb pb) n who-refusal z .0
 
   module _ (z : n ≡ 0) where
-    pub who-sound : soundTables ps ts tb pb ≡ true
+    pub who-sound : soundTables (lent ps ts tb pb) ≡ true
     who-sound = live-process (lent ps ts tb pb) p n e z .0
 
-    module _ (place : ℕ) (f : place ≡ find (canTakeSome (view (storeOf ps ts tb pb)) p) (heldThreads ts)) where
+    module _ (place : ℕ) (f : place ≡ find (canTakeSome (viewOf (lent ps ts tb pb)) p) (heldThreads ts)) where
       pub who-none : place ≡ threadPlaces → answerOf said.NoneCan ≡ stepOn (who p) (lent ps ts tb pb) .1
-      unfolding answerOf answer taker whoAnswer view storeOf
+      unfolding answerOf answer taker whoAnswer view decoded
       who-none y =
           answer-after (who p) (lent ps ts tb pb) (sym who-refusal ∙ z) noneCan
-          (sym (ap (whoAnswer (view (storeOf ps ts tb pb))) (first-none (canTakeSome (view (storeOf ps ts tb pb)) p) (heldThreads ts)
-          (absent-any (canTakeSome (view (storeOf ps ts tb pb)) p) noThread (heldThreads ts) threadPlaces place (length-heldThreads ts) f y))))
+          (sym (ap (whoAnswer (viewOf (lent ps ts tb pb))) (first-none (canTakeSome (viewOf (lent ps ts tb pb)) p) (heldThreads ts)
+          (absent-any (canTakeSome (viewOf (lent ps ts tb pb)) p) noThread (heldThreads ts) threadPlaces place (length-heldThreads ts) f y))))
 
       module _ (y : (place ≡ threadPlaces → ⊥)) where
         pub who-inside : place < threadPlaces
-        who-inside = found-inside (canTakeSome (view (storeOf ps ts tb pb)) p) noThread (heldThreads ts) threadPlaces place (length-heldThreads ts) f y
+        who-inside = found-inside (canTakeSome (viewOf (lent ps ts tb pb)) p) noThread (heldThreads ts) threadPlaces place (length-heldThreads ts) f y
 
         who-owns : belongsTo p (threadIn ts place) ≡ true
         who-owns =
-            takes-own (view (storeOf ps ts tb pb)) p (threadIn ts place)
-            (ap (λ (k : ℕ). canTakeSome (view (storeOf ps ts tb pb)) p (threadIn ts k)) f
-            ∙ find-at (canTakeSome (view (storeOf ps ts tb pb)) p) noThread (heldThreads ts) (rw length-heldThreads (subst (λ (k : ℕ). k < threadPlaces) f who-inside)))
+            takes-own (viewOf (lent ps ts tb pb)) p (threadIn ts place)
+            (ap (λ (k : ℕ). canTakeSome (viewOf (lent ps ts tb pb)) p (threadIn ts k)) f
+            ∙ find-at (canTakeSome (viewOf (lent ps ts tb pb)) p) noThread (heldThreads ts) (rw length-heldThreads (subst (λ (k : ℕ). k < threadPlaces) f who-inside)))
 
         module _ (w : ℕ) (i : w ≡ threadIn ts place .id) where
           pub who-fits : w ≤ largestId
           who-fits = id-small ps ts tb pb who-sound place p who-inside who-owns w i
 
           pub who-takes : answerOf (said.CanTake w) ≡ stepOn (who p) (lent ps ts tb pb) .1
-          unfolding answerOf answer taker whoAnswer view storeOf
+          unfolding answerOf answer taker whoAnswer view decoded
           who-takes =
               answer-after (who p) (lent ps ts tb pb) (sym who-refusal ∙ z) (canTake w)
               (ap canTake (i ∙ ap (λ (k : ℕ). threadIn ts k .id) f)
-              ∙ sym (ap (whoAnswer (view (storeOf ps ts tb pb))) (first-find (canTakeSome (view (storeOf ps ts tb pb)) p) noThread (heldThreads ts)
-              (found-any (canTakeSome (view (storeOf ps ts tb pb)) p) noThread (heldThreads ts) threadPlaces place (length-heldThreads ts) f y))))
+              ∙ sym (ap (whoAnswer (viewOf (lent ps ts tb pb))) (first-find (canTakeSome (viewOf (lent ps ts tb pb)) p) noThread (heldThreads ts)
+              (found-any (canTakeSome (viewOf (lent ps ts tb pb)) p) noThread (heldThreads ts) threadPlaces place (length-heldThreads ts) f y))))

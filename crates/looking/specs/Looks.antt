@@ -5,8 +5,7 @@ use mathlib.Core.List.{List, []}
 use Rattle.limits.specs.Limits.{bufferRecords, recordBytes}
 use Rattle.lists.specs.Rows.{row}
 use Rattle.rules.specs.Calls.{Part, emptyPart, threadSlot, processSlot, lookPart}
-use Rattle.sound.specs.Lent.{lengthsAre}
-use Rattle.answers.specs.Step.{Lent, decoded}
+use Rattle.sound.specs.Lent.{Lent, decoded, lengthsAre}
 
 -- a part by number: 0 for the empty one, then the slots of the thread buffer from 1 on, then those of the process buffer
 unfoldable pub slotNumber : Part → ℕ
@@ -17,7 +16,7 @@ slotNumber (processSlot k) = suc (bufferRecords + k)
 -- 0 of tables with a wrong length
 unfoldable pub lookSlot : (thread : ℕ) → Lent → ℕ
 lookSlot t l =
-    cond (lengthsAre (l .processes) (l .threads) (l .threadBuffer) (l .processBuffer)) (slotNumber (lookPart t (decoded l))) 0
+    cond (lengthsAre l) (slotNumber (lookPart t (decoded l))) 0
 
 -- the bytes of a part
 unfoldable pub partBytes : Lent → Part → List ℕ
@@ -28,4 +27,4 @@ partBytes l (processSlot k) = row recordBytes (l .processBuffer) k
 -- nothing of tables with a wrong length
 unfoldable pub lookBytes : (thread : ℕ) → Lent → List ℕ
 lookBytes t l =
-    cond (lengthsAre (l .processes) (l .threads) (l .threadBuffer) (l .processBuffer)) (partBytes l (lookPart t (decoded l))) []
+    cond (lengthsAre l) (partBytes l (lookPart t (decoded l))) []

@@ -11,9 +11,9 @@ ghost use Rattle.rules.specs.Types.{noThread};
 ghost use Rattle.rules.specs.Store.{view};
 ghost use Rattle.rules.specs.Taking.{canTakeSome};
 ghost use Rattle.tables.specs.Tables.{heldThreads};
-ghost use Rattle.sound.specs.Lent.{storeOf, soundTables};
+ghost use Rattle.sound.specs.Lent.{viewOf, soundTables, given, before};
 ghost use Rattle.answers.specs.Answers.{answerOf};
-ghost use Rattle.answers.specs.Step.{lent, stepOn};
+ghost use Rattle.answers.specs.Step.{stepOn};
 ghost use Rattle.looking.specs.Looks.{lookSlot, lookBytes};
 use answers::Answer;
 use answers::Next;
@@ -37,7 +37,7 @@ fn slot_of(b: &[u8], k: usize) -> &[u8]
 
 // The slot of the record that a thread takes next, by number: those of the thread buffer from 1 on, then those of the process buffer; 0 for a mark, for nothing, and where the look is refused.
 pub fn look_slot(ps: &[u64], ts: &[u64], tb: &[u8], pb: &[u8], thread: u32) -> usize
-    ensures { λ r. ⌜ r ≡ lookSlot thread (lent (now (ps .entry)) (now (ts .entry)) (now (tb .entry)) (now (pb .entry))) ⌝ }
+    ensures { λ r. ⌜ r ≡ lookSlot thread (before ps ts tb pb) ⌝ }
 {
     if view::thread_refusal(ps, ts, tb, pb, thread) != 0 {
         return 0;
@@ -56,7 +56,7 @@ pub fn look_slot(ps: &[u64], ts: &[u64], tb: &[u8], pb: &[u8], thread: u32) -> u
 
 // The 32 bytes of the record that a thread takes next, in the buffer that holds it; an empty part for a mark, for nothing, and where the look is refused.
 pub fn look_part<'a>(ps: &[u64], ts: &[u64], tb: &'a [u8], pb: &'a [u8], thread: u32) -> &'a [u8]
-    ensures { λ r. ⌜ now r ≡ lookBytes thread (lent (now (ps .entry)) (now (ts .entry)) (now (tb .entry)) (now (pb .entry))) ⌝ }
+    ensures { λ r. ⌜ now r ≡ lookBytes thread (before ps ts tb pb) ⌝ }
 {
     let n = look_slot(ps, ts, tb, pb, thread);
     if n == 0 {
@@ -70,7 +70,7 @@ pub fn look_part<'a>(ps: &[u64], ts: &[u64], tb: &'a [u8], pb: &'a [u8], thread:
 
 // What the look found, or its errno.
 pub fn look(ps: &[u64], ts: &[u64], tb: &[u8], pb: &[u8], thread: u32) -> Answer
-    ensures { λ r. ⌜ answerOf r ≡ stepOn (call.look thread) (lent (now (ps .entry)) (now (ts .entry)) (now (tb .entry)) (now (pb .entry))) .1 ⌝ }
+    ensures { λ r. ⌜ answerOf r ≡ stepOn (call.look thread) (before ps ts tb pb) .1 ⌝ }
 {
     let n = view::thread_refusal(ps, ts, tb, pb, thread);
     if n != 0 {
@@ -83,9 +83,9 @@ pub fn look(ps: &[u64], ts: &[u64], tb: &[u8], pb: &[u8], thread: u32) -> Answer
 
 // Is the thread in a place of the process, and can it take something?
 fn can_take(ps: &[u64], ts: &[u64], tb: &[u8], pb: &[u8], process: u32, place: usize) -> bool
-    requires { ⌜ soundTables (now ps) (now ts) (now tb) (now pb) ≡ true ⌝ }
+    requires { ⌜ soundTables (given ps ts tb pb) ≡ true ⌝ }
     requires { ⌜ place < threadPlaces ⌝ }
-    ensures { λ r. ⌜ r ≡ canTakeSome (view (storeOf (now (ps .entry)) (now (ts .entry)) (now (tb .entry)) (now (pb .entry)))) process (getD (heldThreads (now (ts .entry))) place noThread) ⌝ }
+    ensures { λ r. ⌜ r ≡ canTakeSome (viewOf (before ps ts tb pb)) process (getD (heldThreads (now (ts .entry))) place noThread) ⌝ }
 {
     if process == 0 {
         return false;
@@ -99,8 +99,8 @@ fn can_take(ps: &[u64], ts: &[u64], tb: &[u8], pb: &[u8], process: u32, place: u
 
 // The lowest place whose thread can, or the number of places.
 fn taker_place(ps: &[u64], ts: &[u64], tb: &[u8], pb: &[u8], process: u32) -> usize
-    requires { ⌜ soundTables (now ps) (now ts) (now tb) (now pb) ≡ true ⌝ }
-    ensures { λ r. ⌜ r ≡ find (canTakeSome (view (storeOf (now (ps .entry)) (now (ts .entry)) (now (tb .entry)) (now (pb .entry)))) process) (heldThreads (now (ts .entry))) ⌝ }
+    requires { ⌜ soundTables (given ps ts tb pb) ≡ true ⌝ }
+    ensures { λ r. ⌜ r ≡ find (canTakeSome (viewOf (before ps ts tb pb)) process) (heldThreads (now (ts .entry))) ⌝ }
 {
     let mut i = 0;
     while i < THREAD_PLACES {
@@ -114,7 +114,7 @@ fn taker_place(ps: &[u64], ts: &[u64], tb: &[u8], pb: &[u8], process: u32) -> us
 
 // Names the live thread of a process in the lowest place that can take something, or says that none can.
 pub fn who(ps: &[u64], ts: &[u64], tb: &[u8], pb: &[u8], process: u32) -> Answer
-    ensures { λ r. ⌜ answerOf r ≡ stepOn (call.who process) (lent (now (ps .entry)) (now (ts .entry)) (now (tb .entry)) (now (pb .entry))) .1 ⌝ }
+    ensures { λ r. ⌜ answerOf r ≡ stepOn (call.who process) (before ps ts tb pb) .1 ⌝ }
 {
     let n = view::process_refusal(ps, ts, tb, pb, process);
     if n != 0 {

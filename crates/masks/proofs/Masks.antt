@@ -12,14 +12,15 @@ use Rattle.sigset.specs.Set.{union, without, maskable}
 use Rattle.siginfo.specs.Bytes.{Bytes}
 use Rattle.rules.specs.Types.{Thread, mask, return, oldMask, refused}
 use Rattle.rules.specs.View.{setMask, liveThread, theThread}
-use Rattle.rules.specs.Store.{Store, view, apply}
+use Rattle.rules.specs.Store.{Store, apply}
 use Rattle.rules.specs.Actions.{newMask, maskChanges}
 use Rattle.rules.specs.Refusals.{badWay, noThreadLive, refusal, rows, isClear, fault, table, refusalOf, einval, esrch}
 use Rattle.rules.specs.Calls.{changes, answer, stages, runStages, finish, step}
 use Rattle.rules.specs.Fitting.{fits}
 use Rattle.rules.proofs.SendFits.{mask-fits}
-use Rattle.answers.specs.Step.{Lent, decoded, refusalOn, committed, stepOn}
-use Rattle.answers.proofs.Endings.{AsLong, longAs, isSound, accepted-tables-sound, accepted-rows, same-ends, accepted-ends}
+use Rattle.sound.specs.Lent.{Lent, decoded, viewOf, lengthsAre, soundTables, given}
+use Rattle.answers.specs.Step.{refusalOn, committed, stepOn}
+use Rattle.answers.proofs.Endings.{AsLong, accepted-tables-sound, accepted-rows, same-ends, accepted-ends}
 use Rattle.answers.proofs.Rows.{refuses-fault, refuses-at, refuses-none}
 use Rattle.effects.proofs.Chain.{one-made, made, starts}
 use Rattle.view.specs.Named.{threadNamed}
@@ -45,41 +46,41 @@ module _ (old set : SigSet) (way : ℕ) where
 module _ (l : Lent) (t way : ℕ) (set : Option SigSet) where
   -- the refusal, as code tries the rows
 
-  pub mask-fault : isSound l ≡ false → EFAULT ≡ refusalOn (mask t way set) l
+  pub mask-fault : soundTables l ≡ false → EFAULT ≡ refusalOn (mask t way set) l
   unfolding isClear
   mask-fault = refuses-fault (mask t way set) l refl
 
-  module _ (e : isSound l ≡ true) where
+  module _ (e : soundTables l ≡ true) where
     pub mask-bad : badWay way set ≡ true → EINVAL ≡ refusalOn (mask t way set) l
     unfolding rows isClear
     mask-bad b = refuses-at (mask t way set) l refl e [] (einval (badWay way set)) _ refl tt b
 
     module _ (b : badWay way set ≡ false) where
-      pub mask-gone : noThreadLive (view (decoded l)) t ≡ true → ESRCH ≡ refusalOn (mask t way set) l
+      pub mask-gone : noThreadLive (viewOf l) t ≡ true → ESRCH ≡ refusalOn (mask t way set) l
       unfolding rows isClear
-      mask-gone g = refuses-at (mask t way set) l refl e (einval (badWay way set) ∷ []) (esrch (noThreadLive (view (decoded l)) t)) [] refl (b, tt) g
+      mask-gone g = refuses-at (mask t way set) l refl e (einval (badWay way set) ∷ []) (esrch (noThreadLive (viewOf l) t)) [] refl (b, tt) g
 
-      pub mask-none : noThreadLive (view (decoded l)) t ≡ false → 0 ≡ refusalOn (mask t way set) l
+      pub mask-none : noThreadLive (viewOf l) t ≡ false → 0 ≡ refusalOn (mask t way set) l
       unfolding rows isClear
       mask-none g = refuses-none (mask t way set) l refl e (b, (g, tt))
 
   -- accepted
 
   module _ (e : refusalOn (mask t way set) l ≡ 0) where
-    pub mask-sound : isSound l ≡ true
+    pub mask-sound : soundTables l ≡ true
     unfolding isClear
     mask-sound = accepted-tables-sound (mask t way set) l refl e
 
-    pub mask-live : liveThread (view (decoded l)) t ≡ true
+    pub mask-live : liveThread (viewOf l) t ≡ true
     unfolding rows noThreadLive
-    mask-live = not-false (liveThread (view (decoded l)) t) (accepted-rows (mask t way set) l e .1 .0)
+    mask-live = not-false (liveThread (viewOf l) t) (accepted-rows (mask t way set) l e .1 .0)
 
     -- by the mask that was read
     module _ (old : SigSet) (o : old ≡ threadNamed (l .threads) t .mask) where
-      its-mask : old ≡ theThread (view (decoded l)) t .mask
+      its-mask : old ≡ theThread (viewOf l) t .mask
       its-mask = o ∙ ap (λ (x : Thread). x .mask) (thread-named (l .processes) (l .threads) (l .threadBuffer) (l .processBuffer) t)
 
-      answered : oldMask old ≡ answer (view (decoded l)) (mask t way set)
+      answered : oldMask old ≡ answer (viewOf l) (mask t way set)
       unfolding answer
       answered = ap oldMask its-mask
 
@@ -87,25 +88,25 @@ module _ (l : Lent) (t way : ℕ) (set : Option SigSet) where
       pub mask-kept : set ≡ none → Bytes (l .threadBuffer) → Bytes (l .processBuffer)
           → (oldMask old ≡ stepOn (mask t way set) l .1) × (l ≡ stepOn (mask t way set) l .0)
       unfolding changes maskChanges
-      mask-kept n bt bp = same-ends (mask t way set) l e (oldMask old) answered bt bp (ap (maskChanges (view (decoded l)) t way) n)
+      mask-kept n bt bp = same-ends (mask t way set) l e (oldMask old) answered bt bp (ap (maskChanges (viewOf l) t way) n)
 
       -- with a set, the new mask as code makes it
       module _ (given m : SigSet) (n : set ≡ some given) (h : m ≡ newMask old way given) where
-        these : maskChanges (view (decoded l)) t way set ≡ setMask t m ∷ []
+        these : maskChanges (viewOf l) t way set ≡ setMask t m ∷ []
         unfolding maskChanges
         these =
-            ap (maskChanges (view (decoded l)) t way) n
+            ap (maskChanges (viewOf l) t way) n
             ∙ ap (λ (x : SigSet). setMask t x ∷ []) (sym (h ∙ ap (λ (x : SigSet). newMask x way given) its-mask))
 
-        pub mask-ready : fits (view (decoded l)) (setMask t m) ≡ true
-        mask-ready = starts (maskChanges (view (decoded l)) t way set) (decoded l) (mask-fits (decoded l) t way set mask-live) (setMask t m) [] these
+        pub mask-ready : fits (viewOf l) (setMask t m) ≡ true
+        mask-ready = starts (maskChanges (viewOf l) t way set) (decoded l) (mask-fits (decoded l) t way set mask-live) (setMask t m) [] these
 
         pub mask-stored : (r : Lent) → AsLong l r → Bytes (r .threadBuffer) → Bytes (r .processBuffer) → decoded r ≡ apply (setMask t m) (decoded l)
             → (oldMask old ≡ stepOn (mask t way set) l .1) × (r ≡ stepOn (mask t way set) l .0)
         unfolding changes
         mask-stored r k bt bp d =
             accepted-ends (mask t way set) l e (oldMask old) answered r k bt bp
-            (made (maskChanges (view (decoded l)) t way set) (decoded l) (setMask t m ∷ []) these (decoded r) (one-made (setMask t m) (decoded l) (decoded r) d))
+            (made (maskChanges (viewOf l) t way set) (decoded l) (setMask t m ∷ []) these (decoded r) (one-made (setMask t m) (decoded l) (decoded r) d))
 
 -- ---- "Return from a handler is way 2 with the saved mask."
 
@@ -121,5 +122,5 @@ refusal-is st t m = refl
 pub return-is : (l : Lent) (t : ℕ) (m : SigSet) → stepOn (mask t sigSetmask (some m)) l ≡ stepOn (return t m) l
 unfolding stepOn step
 return-is l t m =
-    ap (λ r. cond (longAs l) (committed l r) (l, refused EFAULT))
+    ap (λ r. cond (lengthsAre l) (committed l r) (l, refused EFAULT))
     (ap (λ (n : ℕ). finish n (mask t sigSetmask (some m)) (decoded l)) (refusal-is (decoded l) t m) ∙ finish-is (refusalOf (decoded l) (return t m)) (decoded l) t m)

@@ -6,9 +6,9 @@ ghost use Rattle.rules.specs.View.{liveThread, theThread};
 ghost use Rattle.rules.specs.Store.{view};
 ghost use Rattle.rules.specs.Actions.{newMask, blockedPending};
 ghost use Rattle.rules.specs.Refusals.{badWay};
-ghost use Rattle.sound.specs.Lent.{storeOf, soundTables};
+ghost use Rattle.sound.specs.Lent.{viewOf, soundTables, given, before, after};
 ghost use Rattle.answers.specs.Answers.{answerOf};
-ghost use Rattle.answers.specs.Step.{lent, refusalOn, stepOn};
+ghost use Rattle.answers.specs.Step.{refusalOn, stepOn};
 ghost use Rattle.masks.specs.Given.{newSet};
 use answers::Answer;
 use limits::EFAULT;
@@ -58,7 +58,7 @@ fn mask_refusal(
     way: u32,
     set: GivenSet,
 ) -> u32
-    ensures { λ r. ⌜ r ≡ refusalOn (call.mask thread way (newSet set)) (lent (now (ps .entry)) (now (ts .entry)) (now (tb .entry)) (now (pb .entry))) ⌝ }
+    ensures { λ r. ⌜ r ≡ refusalOn (call.mask thread way (newSet set)) (before ps ts tb pb) ⌝ }
 {
     if !sound::sound(ps, ts, tb, pb) {
         return EFAULT;
@@ -82,8 +82,8 @@ pub fn sigmask(
     way: u32,
     set: GivenSet,
 ) -> Answer
-    ensures answer { λ r. ⌜ answerOf r ≡ stepOn (call.mask thread way (newSet set)) (lent (now (ps .entry)) (now (ts .entry)) (now (tb .entry)) (now (pb .entry))) .1 ⌝ }
-    ensures tables { λ r. ⌜ lent (now (ps .exit)) (now (ts .exit)) (now (tb .exit)) (now (pb .exit)) ≡ stepOn (call.mask thread way (newSet set)) (lent (now (ps .entry)) (now (ts .entry)) (now (tb .entry)) (now (pb .entry))) .0 ⌝ }
+    ensures answer { λ r. ⌜ answerOf r ≡ stepOn (call.mask thread way (newSet set)) (before ps ts tb pb) .1 ⌝ }
+    ensures tables { λ r. ⌜ after ps ts tb pb ≡ stepOn (call.mask thread way (newSet set)) (before ps ts tb pb) .0 ⌝ }
 {
     let n = mask_refusal(ps, ts, tb, pb, thread, way, set);
     if n != 0 {
@@ -108,8 +108,8 @@ pub fn sigreturn(
     thread: u32,
     saved: SigSet,
 ) -> Answer
-    ensures answer { λ r. ⌜ answerOf r ≡ stepOn (call.return thread saved) (lent (now (ps .entry)) (now (ts .entry)) (now (tb .entry)) (now (pb .entry))) .1 ⌝ }
-    ensures tables { λ r. ⌜ lent (now (ps .exit)) (now (ts .exit)) (now (tb .exit)) (now (pb .exit)) ≡ stepOn (call.return thread saved) (lent (now (ps .entry)) (now (ts .entry)) (now (tb .entry)) (now (pb .entry))) .0 ⌝ }
+    ensures answer { λ r. ⌜ answerOf r ≡ stepOn (call.return thread saved) (before ps ts tb pb) .1 ⌝ }
+    ensures tables { λ r. ⌜ after ps ts tb pb ≡ stepOn (call.return thread saved) (before ps ts tb pb) .0 ⌝ }
 {
     sigmask(ps, ts, tb, pb, thread, SIG_SETMASK, GivenSet::Set(saved))
 }
@@ -118,9 +118,9 @@ pub fn sigreturn(
 
 // The signals that a thread blocks and that are pending for it or for its process.
 fn blocked(ps: &[u64], ts: &[u64], tb: &[u8], pb: &[u8], thread: u32) -> SigSet
-    requires { ⌜ soundTables (now ps) (now ts) (now tb) (now pb) ≡ true ⌝ }
-    requires { ⌜ liveThread (view (storeOf (now ps) (now ts) (now tb) (now pb))) thread ≡ true ⌝ }
-    ensures { λ r. ⌜ r ≡ blockedPending (view (storeOf (now (ps .entry)) (now (ts .entry)) (now (tb .entry)) (now (pb .entry)))) (theThread (view (storeOf (now (ps .entry)) (now (ts .entry)) (now (tb .entry)) (now (pb .entry)))) thread) ⌝ }
+    requires { ⌜ soundTables (given ps ts tb pb) ≡ true ⌝ }
+    requires { ⌜ liveThread (viewOf (given ps ts tb pb)) thread ≡ true ⌝ }
+    ensures { λ r. ⌜ r ≡ blockedPending (viewOf (before ps ts tb pb)) (theThread (viewOf (before ps ts tb pb)) thread) ⌝ }
 {
     let process = view::process_of(ts, thread);
     let own = view::pending_of(ps, ts, tb, pb, process, thread);
@@ -129,7 +129,7 @@ fn blocked(ps: &[u64], ts: &[u64], tb: &[u8], pb: &[u8], thread: u32) -> SigSet
 }
 
 pub fn sigpending(ps: &[u64], ts: &[u64], tb: &[u8], pb: &[u8], thread: u32) -> Answer
-    ensures { λ r. ⌜ answerOf r ≡ stepOn (call.pending thread) (lent (now (ps .entry)) (now (ts .entry)) (now (tb .entry)) (now (pb .entry))) .1 ⌝ }
+    ensures { λ r. ⌜ answerOf r ≡ stepOn (call.pending thread) (before ps ts tb pb) .1 ⌝ }
 {
     let n = view::thread_refusal(ps, ts, tb, pb, thread);
     if n != 0 {

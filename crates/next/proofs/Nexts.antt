@@ -28,7 +28,7 @@ use Rattle.rules.specs.Taking.{canTakeSignal, nextSignal, nextQueue, nextIn, ne
 use Rattle.rules.proofs.Marks.{queue-same, thread-named}
 use Rattle.queue.specs.Queue.{slotsOf, recordsOf}
 use Rattle.queue.proofs.Buffer.{record-read}
-use Rattle.sound.specs.Lent.{storeOf}
+use Rattle.sound.specs.Lent.{lent, decoded, viewOf}
 use Rattle.answers.specs.declared.Next as declared
 use Rattle.answers.specs.declared.Next.the-variants as case
 use Rattle.answers.specs.Answers.{nextOf}
@@ -64,12 +64,12 @@ module _ (b : List ℕ) (q : Queue) (s k n : ℕ) (e : k ≡ find (inQueue q s) 
 
 -- the buffer that has the queue
 module _ (ps ts tb pb : List ℕ) (p : ℕ) where
-  pub oldest-own : (t s : ℕ) → eqb t 0 ≡ false → first (inQueue (targetQueue p t) s) (recordsOf tb) ≡ view (storeOf ps ts tb pb) .oldest (targetQueue p t) s
-  unfolding view storeOf recordsFor recordsOf
+  pub oldest-own : (t s : ℕ) → eqb t 0 ≡ false → first (inQueue (targetQueue p t) s) (recordsOf tb) ≡ viewOf (lent ps ts tb pb) .oldest (targetQueue p t) s
+  unfolding view decoded recordsFor recordsOf
   oldest-own t s n = ap (λ (x : List Siginfo). first (inQueue (targetQueue p t) s) (used x)) (sym (cond-false (slotsOf pb) (slotsOf tb) n))
 
-  pub oldest-shared : (s : ℕ) → first (inQueue (targetQueue p 0) s) (recordsOf pb) ≡ view (storeOf ps ts tb pb) .oldest (targetQueue p 0) s
-  unfolding view storeOf recordsFor recordsOf
+  pub oldest-shared : (s : ℕ) → first (inQueue (targetQueue p 0) s) (recordsOf pb) ≡ viewOf (lent ps ts tb pb) .oldest (targetQueue p 0) s
+  unfolding view decoded recordsFor recordsOf
   oldest-shared s = refl
 
 -- ---- of a thread
@@ -95,37 +95,37 @@ module _ (v : View) (th : Thread) (s : ℕ) (e : s ≡ nextSignal v th) where
         ∙ ap (λ (x : ℕ). nextIn v (nextQueue v th x) x (v .oldest (nextQueue v th x) x)) e
         ∙ sym (cond-false noNext (in-queue v th) (ne-eqb (nextSignal v th) 0 (λ z. n (e ∙ z))))
 
-module _ (ps ts tb pb : List ℕ) (t p s : ℕ) (l : liveThread (view (storeOf ps ts tb pb)) t ≡ true) (o : p ≡ threadNamed ts t .process)
-    (e : s ≡ nextSignal (view (storeOf ps ts tb pb)) (theThread (view (storeOf ps ts tb pb)) t)) (n : (s ≡ 0 → ⊥)) (r : declared.Next) where
-  module _ (own : SigSet) (b : Bool) (h : own ≡ setOf (pendingIn (view (storeOf ps ts tb pb)) (targetQueue p t))) (k : b ≡ has own s) where
-    pends : pendingIn (view (storeOf ps ts tb pb)) (threadQueue (theThread (view (storeOf ps ts tb pb)) t)) s ≡ b
+module _ (ps ts tb pb : List ℕ) (t p s : ℕ) (l : liveThread (viewOf (lent ps ts tb pb)) t ≡ true) (o : p ≡ threadNamed ts t .process)
+    (e : s ≡ nextSignal (viewOf (lent ps ts tb pb)) (theThread (viewOf (lent ps ts tb pb)) t)) (n : (s ≡ 0 → ⊥)) (r : declared.Next) where
+  module _ (own : SigSet) (b : Bool) (h : own ≡ setOf (pendingIn (viewOf (lent ps ts tb pb)) (targetQueue p t))) (k : b ≡ has own s) where
+    pends : pendingIn (viewOf (lent ps ts tb pb)) (threadQueue (theThread (viewOf (lent ps ts tb pb)) t)) s ≡ b
     pends =
-        ap (λ (q : Queue). pendingIn (view (storeOf ps ts tb pb)) q s) (own-is ps ts tb pb t p o l)
+        ap (λ (q : Queue). pendingIn (viewOf (lent ps ts tb pb)) q s) (own-is ps ts tb pb t p o l)
         ∙ sym
         (k ∙ ap (λ (x : SigSet). has x s) h
-        ∙ has-set (pendingIn (view (storeOf ps ts tb pb)) (targetQueue p t)) s
-        (next-is-signal (view (storeOf ps ts tb pb)) (theThread (view (storeOf ps ts tb pb)) t) s e n))
+        ∙ has-set (pendingIn (viewOf (lent ps ts tb pb)) (targetQueue p t)) s
+        (next-is-signal (viewOf (lent ps ts tb pb)) (theThread (viewOf (lent ps ts tb pb)) t) s e n))
 
-    queue-own : b ≡ true → nextQueue (view (storeOf ps ts tb pb)) (theThread (view (storeOf ps ts tb pb)) t) s ≡ targetQueue p t
+    queue-own : b ≡ true → nextQueue (viewOf (lent ps ts tb pb)) (theThread (viewOf (lent ps ts tb pb)) t) s ≡ targetQueue p t
     unfolding nextQueue
     queue-own y =
-        cond-true (threadQueue (theThread (view (storeOf ps ts tb pb)) t)) (processQueue (theThread (view (storeOf ps ts tb pb)) t .process)) (pends ∙ y)
+        cond-true (threadQueue (theThread (viewOf (lent ps ts tb pb)) t)) (processQueue (theThread (viewOf (lent ps ts tb pb)) t .process)) (pends ∙ y)
         ∙ own-is ps ts tb pb t p o l
 
-    queue-shared : b ≡ false → nextQueue (view (storeOf ps ts tb pb)) (theThread (view (storeOf ps ts tb pb)) t) s ≡ targetQueue p 0
+    queue-shared : b ≡ false → nextQueue (viewOf (lent ps ts tb pb)) (theThread (viewOf (lent ps ts tb pb)) t) s ≡ targetQueue p 0
     unfolding nextQueue
     queue-shared y =
-        cond-false (threadQueue (theThread (view (storeOf ps ts tb pb)) t)) (processQueue (theThread (view (storeOf ps ts tb pb)) t .process)) (pends ∙ y)
+        cond-false (threadQueue (theThread (viewOf (lent ps ts tb pb)) t)) (processQueue (theThread (viewOf (lent ps ts tb pb)) t .process)) (pends ∙ y)
         ∙ shared-is ps ts tb pb t p o
 
     pub own-next : b ≡ true → isNextIn (targetQueue p t) s (recordsOf tb) r
-        → nextOf r ≡ next (view (storeOf ps ts tb pb)) (theThread (view (storeOf ps ts tb pb)) t)
+        → nextOf r ≡ next (viewOf (lent ps ts tb pb)) (theThread (viewOf (lent ps ts tb pb)) t)
     own-next y f =
-        f (view (storeOf ps ts tb pb)) ∙ ap (nextIn (view (storeOf ps ts tb pb)) (targetQueue p t) s) (oldest-own ps ts tb pb p t s (thread-named (storeOf ps ts tb pb) t l))
-        ∙ next-from (view (storeOf ps ts tb pb)) (theThread (view (storeOf ps ts tb pb)) t) s e n (targetQueue p t) (queue-own y)
+        f (viewOf (lent ps ts tb pb)) ∙ ap (nextIn (viewOf (lent ps ts tb pb)) (targetQueue p t) s) (oldest-own ps ts tb pb p t s (thread-named (decoded (lent ps ts tb pb)) t l))
+        ∙ next-from (viewOf (lent ps ts tb pb)) (theThread (viewOf (lent ps ts tb pb)) t) s e n (targetQueue p t) (queue-own y)
 
     pub shared-next : b ≡ false → isNextIn (targetQueue p 0) s (recordsOf pb) r
-        → nextOf r ≡ next (view (storeOf ps ts tb pb)) (theThread (view (storeOf ps ts tb pb)) t)
+        → nextOf r ≡ next (viewOf (lent ps ts tb pb)) (theThread (viewOf (lent ps ts tb pb)) t)
     shared-next y f =
-        f (view (storeOf ps ts tb pb)) ∙ ap (nextIn (view (storeOf ps ts tb pb)) (targetQueue p 0) s) (oldest-shared ps ts tb pb p s)
-        ∙ next-from (view (storeOf ps ts tb pb)) (theThread (view (storeOf ps ts tb pb)) t) s e n (targetQueue p 0) (queue-shared y)
+        f (viewOf (lent ps ts tb pb)) ∙ ap (nextIn (viewOf (lent ps ts tb pb)) (targetQueue p 0) s) (oldest-shared ps ts tb pb p s)
+        ∙ next-from (viewOf (lent ps ts tb pb)) (theThread (viewOf (lent ps ts tb pb)) t) s e n (targetQueue p 0) (queue-shared y)

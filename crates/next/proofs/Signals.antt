@@ -12,7 +12,7 @@ use Rattle.rules.specs.Types.{Thread, Queue}
 use Rattle.rules.specs.View.{View, processQueue, threadQueue, targetQueue, liveThread, theProcess, theThread, pendingIn, pendingFor}
 use Rattle.rules.specs.Store.{view}
 use Rattle.rules.specs.Taking.{isStopped, canTakeSignal, nextSignal}
-use Rattle.sound.specs.Lent.{storeOf}
+use Rattle.sound.specs.Lent.{lent, decoded, viewOf}
 use Rattle.view.specs.Named.{processNamed, threadNamed}
 use Rattle.view.proofs.Live.{pending-union}
 use Rattle.view.proofs.Live.{own-is, shared-is}
@@ -32,24 +32,24 @@ module _ (v : View) (th : Thread) where
         ∙ sym (ap (λ (x : Bool). not x && (pendingFor v th s && not (has (th .mask) s))) e))
 
 module _ (ps ts tb pb : List ℕ) (t p : ℕ) (o : p ≡ threadNamed ts t .process) (b : Bool) (s : b ≡ not (eqb (processNamed ps p .stopped) 0)) where
-  stopped-is : isStopped (view (storeOf ps ts tb pb)) (theThread (view (storeOf ps ts tb pb)) t) ≡ b
-  unfolding isStopped theProcess theThread view storeOf
+  stopped-is : isStopped (viewOf (lent ps ts tb pb)) (theThread (viewOf (lent ps ts tb pb)) t) ≡ b
+  unfolding isStopped theProcess theThread view decoded
   stopped-is = sym (s ∙ ap (λ (n : ℕ). not (eqb (processNamed ps n .stopped) 0)) o)
 
-  mask-is : threadNamed ts t .mask ≡ theThread (view (storeOf ps ts tb pb)) t .mask
-  unfolding theThread view storeOf
+  mask-is : threadNamed ts t .mask ≡ theThread (viewOf (lent ps ts tb pb)) t .mask
+  unfolding theThread view decoded
   mask-is = refl
 
-  pub signal-stopped : b ≡ true → 0 ≡ nextSignal (view (storeOf ps ts tb pb)) (theThread (view (storeOf ps ts tb pb)) t)
-  signal-stopped e = none-stopped (view (storeOf ps ts tb pb)) (theThread (view (storeOf ps ts tb pb)) t) (stopped-is ∙ e)
+  pub signal-stopped : b ≡ true → 0 ≡ nextSignal (viewOf (lent ps ts tb pb)) (theThread (viewOf (lent ps ts tb pb)) t)
+  signal-stopped e = none-stopped (viewOf (lent ps ts tb pb)) (theThread (viewOf (lent ps ts tb pb)) t) (stopped-is ∙ e)
 
-  module _ (l : liveThread (view (storeOf ps ts tb pb)) t ≡ true) where
-    pub signal-taken : b ≡ false → (own shared all mask free : SigSet) (r : ℕ) → own ≡ setOf (pendingIn (view (storeOf ps ts tb pb)) (targetQueue p t))
-        → shared ≡ setOf (pendingIn (view (storeOf ps ts tb pb)) (targetQueue p 0)) → all ≡ union own shared → mask ≡ threadNamed ts t .mask
-        → free ≡ without all mask → r ≡ lowest free → r ≡ nextSignal (view (storeOf ps ts tb pb)) (theThread (view (storeOf ps ts tb pb)) t)
+  module _ (l : liveThread (viewOf (lent ps ts tb pb)) t ≡ true) where
+    pub signal-taken : b ≡ false → (own shared all mask free : SigSet) (r : ℕ) → own ≡ setOf (pendingIn (viewOf (lent ps ts tb pb)) (targetQueue p t))
+        → shared ≡ setOf (pendingIn (viewOf (lent ps ts tb pb)) (targetQueue p 0)) → all ≡ union own shared → mask ≡ threadNamed ts t .mask
+        → free ≡ without all mask → r ≡ lowest free → r ≡ nextSignal (viewOf (lent ps ts tb pb)) (theThread (viewOf (lent ps ts tb pb)) t)
     signal-taken e own shared all mask free r ho hs ha hm hf hr =
         hr ∙ ap lowest (hf ∙ ap₂ without ha (hm ∙ mask-is))
-        ∙ lowest-taken (view (storeOf ps ts tb pb)) (theThread (view (storeOf ps ts tb pb)) t) own shared
-        (ho ∙ ap (λ (q : Queue). setOf (pendingIn (view (storeOf ps ts tb pb)) q)) (sym (own-is ps ts tb pb t p o l)))
-        (hs ∙ ap (λ (q : Queue). setOf (pendingIn (view (storeOf ps ts tb pb)) q)) (sym (shared-is ps ts tb pb t p o)))
+        ∙ lowest-taken (viewOf (lent ps ts tb pb)) (theThread (viewOf (lent ps ts tb pb)) t) own shared
+        (ho ∙ ap (λ (q : Queue). setOf (pendingIn (viewOf (lent ps ts tb pb)) q)) (sym (own-is ps ts tb pb t p o l)))
+        (hs ∙ ap (λ (q : Queue). setOf (pendingIn (viewOf (lent ps ts tb pb)) q)) (sym (shared-is ps ts tb pb t p o)))
         (stopped-is ∙ e)

@@ -8,7 +8,7 @@ ghost use Rattle.rules.specs.Store.{view};
 ghost use Rattle.rules.specs.Taking.{nextSignal};
 ghost use Rattle.rules.specs.Taking.{next as nextFor};
 ghost use Rattle.queue.specs.Queue.{recordsOf};
-ghost use Rattle.sound.specs.Lent.{storeOf, soundTables};
+ghost use Rattle.sound.specs.Lent.{viewOf, soundTables, given, before};
 ghost use Rattle.answers.specs.Answers.{nextOf};
 ghost use Rattle.next.specs.Nexts.{isNextIn};
 use answers::Next;
@@ -16,9 +16,9 @@ use sigset::SigSet;
 
 // The lowest signal that a thread can take, or 0.
 pub fn next_signal(ps: &[u64], ts: &[u64], tb: &[u8], pb: &[u8], thread: u32) -> u32
-    requires { ⌜ soundTables (now ps) (now ts) (now tb) (now pb) ≡ true ⌝ }
-    requires { ⌜ liveThread (view (storeOf (now ps) (now ts) (now tb) (now pb))) thread ≡ true ⌝ }
-    ensures { λ r. ⌜ r ≡ nextSignal (view (storeOf (now (ps .entry)) (now (ts .entry)) (now (tb .entry)) (now (pb .entry)))) (theThread (view (storeOf (now (ps .entry)) (now (ts .entry)) (now (tb .entry)) (now (pb .entry)))) thread) ⌝ }
+    requires { ⌜ soundTables (given ps ts tb pb) ≡ true ⌝ }
+    requires { ⌜ liveThread (viewOf (given ps ts tb pb)) thread ≡ true ⌝ }
+    ensures { λ r. ⌜ r ≡ nextSignal (viewOf (before ps ts tb pb)) (theThread (viewOf (before ps ts tb pb)) thread) ⌝ }
 {
     let process = view::process_of(ts, thread);
     if view::is_stopped(ps, process) {
@@ -43,9 +43,9 @@ fn next_in(b: &[u8], process: u32, thread: u32, signal: u32) -> Next
 
 // What a thread takes next: its own queue goes before its process's.
 pub fn next_of(ps: &[u64], ts: &[u64], tb: &[u8], pb: &[u8], thread: u32) -> Next
-    requires { ⌜ soundTables (now ps) (now ts) (now tb) (now pb) ≡ true ⌝ }
-    requires { ⌜ liveThread (view (storeOf (now ps) (now ts) (now tb) (now pb))) thread ≡ true ⌝ }
-    ensures { λ r. ⌜ nextOf r ≡ nextFor (view (storeOf (now (ps .entry)) (now (ts .entry)) (now (tb .entry)) (now (pb .entry)))) (theThread (view (storeOf (now (ps .entry)) (now (ts .entry)) (now (tb .entry)) (now (pb .entry)))) thread) ⌝ }
+    requires { ⌜ soundTables (given ps ts tb pb) ≡ true ⌝ }
+    requires { ⌜ liveThread (viewOf (given ps ts tb pb)) thread ≡ true ⌝ }
+    ensures { λ r. ⌜ nextOf r ≡ nextFor (viewOf (before ps ts tb pb)) (theThread (viewOf (before ps ts tb pb)) thread) ⌝ }
 {
     let s = next_signal(ps, ts, tb, pb, thread);
     if s == 0 {

@@ -11,8 +11,8 @@ use Rattle.limits.specs.Limits.{EFAULT, EINVAL, threadPlaces, threadTable, proc
 use Rattle.lists.proofs.Rows.{nil-of}
 use Rattle.lists.proofs.Bools.{split, and-left, and-right, cond-true, cond-false}
 use Rattle.rules.specs.Types.{Answer, refused}
-use Rattle.sound.specs.Lent.{storeOf, lengthsAre, soundTables}
-use Rattle.answers.specs.Step.{Lent, lent, decoded, committed, stepOn}
+use Rattle.sound.specs.Lent.{Lent, lent, decoded, lengthsAre, soundTables}
+use Rattle.answers.specs.Step.{committed, stepOn}
 use Rattle.rules.specs.Calls.{step, lookPart}
 use Rattle.rules.specs.Sound.{sound}
 use Rattle.looking.specs.Looks.{partBytes, lookBytes, slotNumber, lookSlot}
@@ -30,7 +30,7 @@ module _ (ps tb pb : List ℕ) (ts : List Thread) (o : T (not (eqb (length ts) t
   abbrev before : Lent
   before = lent ps (wordsOf ts) tb pb
 
-  short : lengthsAre ps (wordsOf ts) tb pb ≡ false
+  short : lengthsAre (lent ps (wordsOf ts) tb pb) ≡ false
   unfolding lengthsAre
   short =
       let f : length ts ≡ threadPlaces → ⊥ = eqb-false (length ts) threadPlaces (not-so (eqb (length ts) threadPlaces) o) in
@@ -41,8 +41,8 @@ module _ (ps tb pb : List ℕ) (ts : List Thread) (o : T (not (eqb (length ts) t
   unfolding usable soundTables
   unusable n =
       split (eqb n callClear)
-      (λ e. cond-true (lengthsAre ps (wordsOf ts) tb pb) (soundTables ps (wordsOf ts) tb pb) e ∙ short)
-      (λ e. cond-false (lengthsAre ps (wordsOf ts) tb pb) (soundTables ps (wordsOf ts) tb pb) e ∙ and-left (sound (storeOf ps (wordsOf ts) tb pb)) short)
+      (λ e. cond-true (lengthsAre (lent ps (wordsOf ts) tb pb)) (soundTables (lent ps (wordsOf ts) tb pb)) e ∙ short)
+      (λ e. cond-false (lengthsAre (lent ps (wordsOf ts) tb pb)) (soundTables (lent ps (wordsOf ts) tb pb)) e ∙ and-left (sound (decoded (lent ps (wordsOf ts) tb pb))) short)
 
   no-look-here : (thread : ℕ) (r : List ℕ) → length r ≡ 0 → r ≡ lookAt ps tb pb ts thread
   unfolding lookAt lookBytes

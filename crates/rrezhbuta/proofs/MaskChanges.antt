@@ -20,7 +20,7 @@ use Rattle.sigset.specs.declared.SigSet.{SigSet}
 use Rattle.sigset.specs.Set.{bits, empty}
 use Rattle.rules.specs.Types.{Thread as Held, noThread as noHeld, mask}
 use Rattle.rules.specs.View.{isThread, liveThread, theThread}
-use Rattle.rules.specs.Store.{Place, held, freeThread, amend, view, apply, applyAll, withMask as heldMask}
+use Rattle.rules.specs.Store.{Place, held, freeThread, amend, apply, applyAll, withMask as heldMask}
 use Rattle.rules.specs.Actions.{newMask, maskChanges}
 use Rattle.rules.specs.Refusals.{isClear, rows, noThreadLive}
 use Rattle.rules.specs.Calls.{changes}
@@ -28,8 +28,8 @@ use Rattle.rules.proofs.Marks.{thread-named}
 use Rattle.tables.specs.Tables.{threadTo, threadsOf, threadWordsOf, threadAt, heldThreads, hasThreadId}
 use Rattle.tables.proofs.Words.{length-threadsOf, length-heldThreads, thread-words-back, thread-words-forth}
 use Rattle.tables.proofs.Places.{find-live-thread}
-use Rattle.sound.specs.Lent.{storeOf, soundTables}
-use Rattle.answers.specs.Step.{Lent, lent, decoded, encoded, refusalOn, stepOn}
+use Rattle.sound.specs.Lent.{Lent, lent, decoded, viewOf, soundTables}
+use Rattle.answers.specs.Step.{encoded, refusalOn, stepOn}
 use Rattle.answers.proofs.Endings.{accepted-step, accepted-tables-sound, accepted-rows, refused-tables}
 use Rattle.effects.proofs.Places.{thread-changed}
 use Rattle.threads.specs.declared.Thread.{Thread}
@@ -128,11 +128,11 @@ module _ (ps tb pb : List ℕ) (ts : List Thread) (e : length ts ≡ threadPlace
 
   -- without a set
   none-after : refusalOn (mask t way none) before ≡ 0 → after none ≡ wordsOf ts
-  unfolding encoded storeOf changes maskChanges applyAll
+  unfolding encoded decoded changes maskChanges applyAll
   none-after a = ap (λ x. x .0 .threads) (accepted-step (mask t way none) before a) ∙ thread-words-back (wordsOf ts) long
 
   -- with one: the rules' change of the live thread
-  module _ (m : SigSet) (s : soundTables ps (wordsOf ts) tb pb ≡ true) (live : liveThread (view (decoded before)) t ≡ true) where
+  module _ (m : SigSet) (s : soundTables (lent ps (wordsOf ts) tb pb) ≡ true) (live : liveThread (viewOf before) t ≡ true) where
     abbrev masked : Place Held → Place Held
     masked x = record { holds = heldMask m (x .holds); marks = x .marks }
 
@@ -152,18 +152,18 @@ module _ (ps tb pb : List ℕ) (ts : List Thread) (e : length ts ≡ threadPlace
         ∙ places-words (withMaskAt t m ts)
 
   some-after : (m : SigSet) → refusalOn (mask t way (some m)) before ≡ 0
-      → after (some m) ≡ wordsOf (withMaskAt t (newMask (theThread (view (decoded before)) t .mask) way m) ts)
-  unfolding encoded storeOf changes maskChanges applyAll apply isClear rows noThreadLive
+      → after (some m) ≡ wordsOf (withMaskAt t (newMask (theThread (viewOf before) t .mask) way m) ts)
+  unfolding encoded decoded changes maskChanges applyAll apply isClear rows noThreadLive
   some-after m a =
       let c = mask t way (some m) in
       ap (λ x. x .0 .threads) (accepted-step c before a)
-      ∙ amended (newMask (theThread (view (decoded before)) t .mask) way m) (accepted-tables-sound c before refl a)
-      (not-false (liveThread (view (decoded before)) t) (accepted-rows c before a .1 .0))
+      ∙ amended (newMask (theThread (viewOf before) t .mask) way m) (accepted-tables-sound c before refl a)
+      (not-false (liveThread (viewOf before) t) (accepted-rows c before a .1 .0))
 
   accepted-after : (set : Option SigSet) → refusalOn (mask t way set) before ≡ 0
       → withMaskAt t (maskIn (after set) t) ts ≡ recordsOf (length ts) (after set)
   accepted-after none a = same-after none (none-after a)
-  accepted-after (some m) a = row-after ts e (after (some m)) t (newMask (theThread (view (decoded before)) t .mask) way m) (some-after m a)
+  accepted-after (some m) a = row-after ts e (after (some m)) t (newMask (theThread (viewOf before) t .mask) way m) (some-after m a)
 
 -- whatever the store: the row after the call is the row before it, with the mask that the thread then has
 pub mask-row : (ps tb pb : List ℕ) (ts : List Thread) → length ts ≡ threadPlaces → (t way : ℕ) (set : Option SigSet)

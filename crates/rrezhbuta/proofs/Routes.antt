@@ -8,7 +8,7 @@ use lib.ListN.{length}
 use Rattle.limits.specs.Limits.{EFAULT, EINVAL, callSigmask, callSigreturn, sigSetmask}
 use Rattle.sigset.specs.Set.{bits}
 use Rattle.rules.specs.Types.{Answer, refused}
-use Rattle.answers.specs.Step.{Lent, lent}
+use Rattle.sound.specs.Lent.{Lent, lent}
 use Rattle.masks.proofs.Masks.{return-is}
 use Rattle.boundary.specs.Boundary.{whereGiven, callsOf, numbered, isCall, errnoOf, written, usable, accepted, serveOn}
 use Rattle.threads.specs.declared.Thread.{Thread}

@@ -9,7 +9,8 @@ use Rattle.lists.proofs.Bools.{split, cond-true, cond-false}
 use Rattle.sigset.specs.declared.SigSet.{SigSet}
 use Rattle.sigset.specs.Set.{bits}
 use Rattle.rules.specs.Types.{Answer, refused, mask}
-use Rattle.answers.specs.Step.{Lent, lent, stepOn}
+use Rattle.sound.specs.Lent.{Lent, lent}
+use Rattle.answers.specs.Step.{stepOn}
 use Rattle.boundary.specs.Boundary.{arguments, whereGiven, callsOf, numbered, errnoOf, written, usable, accepted, serveOn}
 use Rattle.threads.specs.declared.Thread.{Thread}
 use Rattle.threads.specs.Records.{withMaskAt, wordsOf, recordsOf}

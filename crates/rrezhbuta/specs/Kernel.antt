@@ -6,7 +6,7 @@ use Rattle.lists.specs.Lists.{find}
 use Rattle.sigset.specs.declared.SigSet.{SigSet}
 use Rattle.rules.specs.Types.{Answer}
 use Rattle.tables.specs.Tables.{threadAt, heldThreads, hasThreadId}
-use Rattle.answers.specs.Step.{Lent, lent}
+use Rattle.sound.specs.Lent.{Lent, lent}
 use Rattle.looking.specs.Looks.{lookBytes, lookSlot}
 use Rattle.boundary.specs.Boundary.{arguments, serveOn, errnoOf, written}
 use Rattle.threads.specs.declared.Thread.{Thread}

@@ -14,11 +14,12 @@ use Rattle.sigset.specs.declared.SigSet.{SigSet}
 use Rattle.types.specs.declared.Siginfo.{Siginfo}
 use Rattle.rules.specs.Signals.{stopSignal}
 use Rattle.rules.specs.View.{View, Change, removeProcess, setStopped, setMark, append, discard, targetQueue, queueOf}
-use Rattle.rules.specs.Store.{Store, view}
+use Rattle.rules.specs.Store.{Store}
 use Rattle.rules.specs.Sending.{Generation, generation, infoOf, jobControl, sendChanges, sendAnswer}
 use Rattle.rules.specs.Calls.{send, changes, answer}
 use Rattle.rules.specs.Fitting.{fitsAll}
-use Rattle.answers.specs.Step.{Lent, decoded, refusalOn}
+use Rattle.sound.specs.Lent.{Lent, viewOf}
+use Rattle.answers.specs.Step.{refusalOn}
 use Rattle.effects.proofs.Chain.{first-part-fits}
 use Rattle.sending.specs.Generations.{generationOf}
 use Rattle.sending.specs.JobControl.{controls, discardedBy}
@@ -127,6 +128,6 @@ module _ (l : Lent) (queued : Bool) (by to t s value : ℕ) (d : decided.Decisio
 
   pub when-allowed : (f : declared.Generation) (r : Siginfo) → d ≡ decisions.Allowed f r
       → (refusalOn (sendCall queued by to t s value) l ≡ 0)
-      × ((generationOf f ≡ generation (view (decoded l)) queued (targetQueue to t) s) × (r ≡ infoOf (view (decoded l)) by to t s value))
+      × ((generationOf f ≡ generation (viewOf l) queued (targetQueue to t) s) × (r ≡ infoOf (viewOf l) by to t s value))
   unfolding Decided
   when-allowed f r e = subst (Decided l queued by to t s value) e h

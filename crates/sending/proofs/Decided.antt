@@ -25,7 +25,7 @@ use Rattle.rules.specs.Sending.{Generation, testing, killing, stopping, droppin
 use Rattle.rules.proofs.Facts.{users-fit}
 use Rattle.queue.specs.Queue.{recordsOf}
 use Rattle.queue.proofs.Buffer.{length-recordsOf}
-use Rattle.sound.specs.Lent.{storeOf, soundTables}
+use Rattle.sound.specs.Lent.{lent, decoded, viewOf, soundTables}
 use Rattle.sound.proofs.Facts.{store-sound}
 use Rattle.view.specs.Named.{processNamed}
 use Rattle.sending.specs.Generations.{generationOf}
@@ -83,8 +83,8 @@ module _ (v : View) (queued : Bool) (q : Queue) (s : ℕ) where
 
 -- the action of the process that is named
 pub ignored-read : (ps ts tb pb : List ℕ) (p s : ℕ) (a : Action) (r : Bool) → a ≡ actionOf (processNamed ps p) s → r ≡ ignored a s
-    → r ≡ ignored (actionOf (theProcess (view (storeOf ps ts tb pb)) p) s) s
-unfolding theProcess view storeOf
+    → r ≡ ignored (actionOf (theProcess (viewOf (lent ps ts tb pb)) p) s) s
+unfolding theProcess view decoded
 ignored-read ps ts tb pb p s a r e h = h ∙ ap (λ (x : Action). ignored x s) e
 
 -- the first six generations need no record
@@ -100,13 +100,13 @@ no-record cases.Keeping k = absurd (miss (0 ∷ 1 ∷ 2 ∷ 3 ∷ 4 ∷ 5 ∷ []
 
 -- ---- the record
 
-pub sender-fits : (ps ts tb pb : List ℕ) → soundTables ps ts tb pb ≡ true → (by : ℕ) → goodUser (processNamed ps by .real) ≡ true
-unfolding theProcess view storeOf
-sender-fits ps ts tb pb e by = users-fit (storeOf ps ts tb pb) (store-sound ps ts tb pb e) by .real
+pub sender-fits : (ps ts tb pb : List ℕ) → soundTables (lent ps ts tb pb) ≡ true → (by : ℕ) → goodUser (processNamed ps by .real) ≡ true
+unfolding theProcess view decoded
+sender-fits ps ts tb pb e by = users-fit (decoded (lent ps ts tb pb)) (store-sound ps ts tb pb e) by .real
 
 pub info-read : (ps ts tb pb : List ℕ) (by to t s value uid : ℕ) → uid ≡ processNamed ps by .real
-    → record { process = to; thread = t; signal = s; code = siQueue; sender = by; uid = uid; value = value } ≡ infoOf (view (storeOf ps ts tb pb)) by to t s value
-unfolding infoOf theProcess view storeOf
+    → record { process = to; thread = t; signal = s; code = siQueue; sender = by; uid = uid; value = value } ≡ infoOf (viewOf (lent ps ts tb pb)) by to t s value
+unfolding infoOf theProcess view decoded
 info-read ps ts tb pb by to t s value uid e = rw e
 
 -- ---- the stop signals
@@ -128,8 +128,8 @@ discarded-by-of-others s n = rw (ne-eqb s SIGCONT n)
 -- ---- room
 
 pub counted : (ps ts tb pb : List ℕ) (p m n : ℕ) → m ≡ count (ofProcess p) (recordsOf tb) → n ≡ count (ofProcess p) (recordsOf pb)
-    → view (storeOf ps ts tb pb) .queued p ≡ m + n
-unfolding view queuedIn recordsOf storeOf
+    → viewOf (lent ps ts tb pb) .queued p ≡ m + n
+unfolding view queuedIn recordsOf decoded
 counted ps ts tb pb p m n e f = sym (ap₂ (λ (a b : ℕ). a + b) e f)
 
 pub count-fits : (b : List ℕ) (p n : ℕ) → n ≡ count (ofProcess p) (recordsOf b) → n ≤ bufferRecords

@@ -19,10 +19,10 @@ use Rattle.rules.specs.Fitting.{fitsAll}
 use Rattle.rules.proofs.RefusalTable.{Off}
 use Rattle.rules.proofs.SendFits.{send-fits}
 use Rattle.tables.specs.Tables.{heldProcesses}
-use Rattle.sound.specs.Lent.{storeOf, soundTables}
+use Rattle.sound.specs.Lent.{Lent, lent, decoded, viewOf, soundTables}
 use Rattle.sound.proofs.Facts.{store-sound}
-use Rattle.answers.specs.Step.{Lent, lent, decoded, refusalOn, rowsOn}
-use Rattle.answers.proofs.Endings.{isSound, rows-given, accepted-tables-sound, accepted-rows}
+use Rattle.answers.specs.Step.{refusalOn, rowsOn}
+use Rattle.answers.proofs.Endings.{rows-given, accepted-tables-sound, accepted-rows}
 use Rattle.answers.proofs.Rows.{rows-before, refuses-fault, refuses-at, refuses-none}
 use Rattle.view.specs.Named.{processNamed}
 use Rattle.sending.specs.Decisions.{sendCall}
@@ -32,7 +32,7 @@ use Rattle.sending.proofs.Decided.{plain-no-record}
 
 module _ (ps ts tb pb : List ℕ) (by to t s : ℕ) where
   abbrev seen : View
-  seen = view (storeOf ps ts tb pb)
+  seen = viewOf (lent ps ts tb pb)
 
   abbrev nobody : Bool
   nobody = noProcessLive seen by || badTarget seen to t
@@ -41,18 +41,18 @@ module _ (ps ts tb pb : List ℕ) (by to t s : ℕ) where
   plain = refusalOn (kill by to t s) (lent ps ts tb pb)
 
   pub nobody-read : (live bad : Bool) → live ≡ any (isProcess by) (heldProcesses ps) → bad ≡ badTarget seen to t → (not live || bad) ≡ nobody
-  unfolding noProcessLive liveProcess view storeOf
+  unfolding noProcessLive liveProcess view decoded
   nobody-read live bad e f = rw (e, f)
 
   pub may-read : (may : Bool) → may ≡ maySignal (processNamed ps by) (processNamed ps to) s → not may ≡ mayNot seen by to s
-  unfolding mayNot theProcess view storeOf
+  unfolding mayNot theProcess view decoded
   may-read may e = ap not e
 
-  pub kill-fault : soundTables ps ts tb pb ≡ false → EFAULT ≡ plain
+  pub kill-fault : soundTables (lent ps ts tb pb) ≡ false → EFAULT ≡ plain
   unfolding isClear
   kill-fault = refuses-fault (kill by to t s) (lent ps ts tb pb) refl
 
-  module _ (e : soundTables ps ts tb pb ≡ true) where
+  module _ (e : soundTables (lent ps ts tb pb) ≡ true) where
     pub kill-over : signals < s → EINVAL ≡ plain
     unfolding rows isClear overLast
     kill-over h = refuses-at (kill by to t s) (lent ps ts tb pb) refl e [] (einval (overLast s)) _ refl tt (lt-ltb signals s h)
@@ -79,16 +79,16 @@ module _ (ps ts tb pb : List ℕ) (by to t s : ℕ) where
 -- ---- what a send has that is not refused
 
 pub record Allowed (l : Lent) (by to t s : ℕ) : Type 0 where
-  pub sound : isSound l ≡ true
+  pub sound : soundTables l ≡ true
   pub signal : s ≤ signals
-  pub sender : liveProcess (view (decoded l)) by ≡ true
-  pub target : badTarget (view (decoded l)) to t ≡ false
+  pub sender : liveProcess (viewOf l) by ≡ true
+  pub target : badTarget (viewOf l) to t ≡ false
 
 module _ (l : Lent) (by to t s : ℕ) where
-  allowed-by : isSound l ≡ true → overLast s ≡ false → (noProcessLive (view (decoded l)) by || badTarget (view (decoded l)) to t) ≡ false → Allowed l by to t s
+  allowed-by : soundTables l ≡ true → overLast s ≡ false → (noProcessLive (viewOf l) by || badTarget (viewOf l) to t) ≡ false → Allowed l by to t s
   unfolding overLast noProcessLive
   allowed-by e o k =
-      let v : View = view (decoded l) in
+      let v : View = viewOf l in
       record {
         sound = e;
         signal = ltb-false signals s o;
@@ -108,24 +108,24 @@ module _ (l : Lent) (by to t s value : ℕ) where
   queue-refused : (n : ℕ) → n ≡ refusalOn (kill by to t s) l → (n ≡ 0 → ⊥) → n ≡ refusalOn (queue by to t s value) l
   unfolding rows isClear
   queue-refused n e z =
-      let v : View = view (decoded l) in
+      let v : View = viewOf l in
       let k : n ≡ rowsOn (rows v (kill by to t s)) l = e ∙ rows-given (kill by to t s) l refl in
       k ∙ rows-before (rows v (kill by to t s)) (eagain (noRoom v to t s) ∷ []) l (λ y. z (k ∙ y)) ∙ sym (rows-given (queue by to t s value) l refl)
 
   module _ (e : refusalOn (kill by to t s) l ≡ 0) where
-    plain-off : All Off (rows (view (decoded l)) (kill by to t s))
+    plain-off : All Off (rows (viewOf l) (kill by to t s))
     plain-off = accepted-rows (kill by to t s) l e
 
-    plain-sound : isSound l ≡ true
+    plain-sound : soundTables l ≡ true
     unfolding isClear
     plain-sound = accepted-tables-sound (kill by to t s) l refl e
 
-    queue-full : noRoom (view (decoded l)) to t s ≡ true → EAGAIN ≡ refusalOn (queue by to t s value) l
+    queue-full : noRoom (viewOf l) to t s ≡ true → EAGAIN ≡ refusalOn (queue by to t s value) l
     unfolding rows isClear
     queue-full h =
-        refuses-at (queue by to t s value) l refl plain-sound (rows (view (decoded l)) (kill by to t s)) (eagain (noRoom (view (decoded l)) to t s)) [] refl plain-off h
+        refuses-at (queue by to t s value) l refl plain-sound (rows (viewOf l) (kill by to t s)) (eagain (noRoom (viewOf l) to t s)) [] refl plain-off h
 
-    queue-passes : noRoom (view (decoded l)) to t s ≡ false → 0 ≡ refusalOn (queue by to t s value) l
+    queue-passes : noRoom (viewOf l) to t s ≡ false → 0 ≡ refusalOn (queue by to t s value) l
     unfolding rows isClear
     queue-passes h = refuses-none (queue by to t s value) l refl plain-sound (plain-off .0, (plain-off .1 .0, (plain-off .1 .1 .0, (h, tt))))
 
@@ -136,7 +136,7 @@ module _ (l : Lent) (by to t s value : ℕ) where
         let k = accepted-rows (queue by to t s value) l e in
         allowed-by l by to t s (accepted-tables-sound (queue by to t s value) l refl e) (k .0) (k .1 .0)
 
-    queue-room : noRoom (view (decoded l)) to t s ≡ false
+    queue-room : noRoom (viewOf l) to t s ≡ false
     unfolding rows
     queue-room = accepted-rows (queue by to t s value) l e .1 .1 .1 .0
 
@@ -148,16 +148,16 @@ module _ (l : Lent) (by to t s value : ℕ) where
   send-refused false n e z = e
 
   abbrev isFull : Generation → Bool
-  isFull f = needsRecord f && leb recordLimit (view (decoded l) .queued to)
+  isFull f = needsRecord f && leb recordLimit (viewOf l .queued to)
 
   -- by the generation and the test that code has
   module _ (e : refusalOn (kill by to t s) l ≡ 0) (f : Generation) (b : Bool) (i : b ≡ isFull f) where
-    pub send-full : (queued : Bool) → f ≡ generation (view (decoded l)) queued (targetQueue to t) s → b ≡ true → EAGAIN ≡ refusalOn (sendCall queued by to t s value) l
+    pub send-full : (queued : Bool) → f ≡ generation (viewOf l) queued (targetQueue to t) s → b ≡ true → EAGAIN ≡ refusalOn (sendCall queued by to t s value) l
     unfolding noRoom
     send-full true h k = queue-full l by to t s value e (ap isFull (sym h) ∙ sym i ∙ k)
-    send-full false h k = clash (ap isFull (sym h) ∙ sym i ∙ k) (and-left _ (plain-no-record (view (decoded l)) (targetQueue to t) s))
+    send-full false h k = clash (ap isFull (sym h) ∙ sym i ∙ k) (and-left _ (plain-no-record (viewOf l) (targetQueue to t) s))
 
-    pub send-passes : (queued : Bool) → f ≡ generation (view (decoded l)) queued (targetQueue to t) s → b ≡ false → refusalOn (sendCall queued by to t s value) l ≡ 0
+    pub send-passes : (queued : Bool) → f ≡ generation (viewOf l) queued (targetQueue to t) s → b ≡ false → refusalOn (sendCall queued by to t s value) l ≡ 0
     unfolding noRoom
     send-passes true h k = sym (queue-passes l by to t s value e (ap isFull (sym h) ∙ sym i ∙ k))
     send-passes false h k = e
@@ -166,14 +166,14 @@ module _ (l : Lent) (by to t s value : ℕ) where
   send-allowed true e = queue-allowed l by to t s value e
   send-allowed false e = kill-allowed l by to t s e
 
-  send-room : (queued : Bool) → refusalOn (sendCall queued by to t s value) l ≡ 0 → queued ≡ true → noRoom (view (decoded l)) to t s ≡ false
+  send-room : (queued : Bool) → refusalOn (sendCall queued by to t s value) l ≡ 0 → queued ≡ true → noRoom (viewOf l) to t s ≡ false
   send-room true e k = queue-room l by to t s value e
   send-room false e k = clash k refl
 
   -- what `generate` asks for, of the generation and the record that code has
   pub allowed-fits : (queued : Bool) → refusalOn (sendCall queued by to t s value) l ≡ 0 → (f : Generation) (r : Siginfo)
-      → f ≡ generation (view (decoded l)) queued (targetQueue to t) s → r ≡ infoOf (view (decoded l)) by to t s value
-      → (isSound l ≡ true) × (fitsAll (sendChanges f r) (decoded l) ≡ true)
+      → f ≡ generation (viewOf l) queued (targetQueue to t) s → r ≡ infoOf (viewOf l) by to t s value
+      → (soundTables l ≡ true) × (fitsAll (sendChanges f r) (decoded l) ≡ true)
   unfolding overLast send
   allowed-fits queued e f r h k =
       let a = send-allowed queued e in

@@ -4,9 +4,9 @@ use mathlib.Core.Path.{_≡_}
 use mathlib.Core.Bool.{Bool, cond}
 use Rattle.rules.specs.Types.{Call, kill, queue}
 use Rattle.rules.specs.View.{targetQueue}
-use Rattle.rules.specs.Store.{view}
 use Rattle.rules.specs.Sending.{generation, infoOf}
-use Rattle.answers.specs.Step.{Lent, decoded, refusalOn}
+use Rattle.sound.specs.Lent.{Lent, viewOf}
+use Rattle.answers.specs.Step.{refusalOn}
 use Rattle.sending.specs.Generations.{generationOf}
 use Rattle.sending.specs.declared.Decision as declared
 use Rattle.sending.specs.declared.Decision.the-variants as cases
@@ -21,4 +21,4 @@ module _ (l : Lent) (queued : Bool) (by to t s value : ℕ) where
   Decided (cases.Refused n) = (n ≡ refusalOn (sendCall queued by to t s value) l) × (n ≡ 0 → ⊥)
   Decided (cases.Allowed f r) =
       (refusalOn (sendCall queued by to t s value) l ≡ 0)
-      × ((generationOf f ≡ generation (view (decoded l)) queued (targetQueue to t) s) × (r ≡ infoOf (view (decoded l)) by to t s value))
+      × ((generationOf f ≡ generation (viewOf l) queued (targetQueue to t) s) × (r ≡ infoOf (viewOf l) by to t s value))

@@ -12,9 +12,9 @@ ghost use Rattle.rules.specs.Store.{view, applyAll};
 ghost use Rattle.rules.specs.Sending.{absorbs, generation, infoOf, jobControl, sendChanges, sendAnswer, needsRecord};
 ghost use Rattle.rules.specs.Refusals.{badTarget};
 ghost use Rattle.rules.specs.Fitting.{liveQueue, fitsAll};
-ghost use Rattle.sound.specs.Lent.{storeOf, soundTables};
+ghost use Rattle.sound.specs.Lent.{decoded, viewOf, soundTables, given, before, after};
 ghost use Rattle.answers.specs.Answers.{answerOf};
-ghost use Rattle.answers.specs.Step.{lent, refusalOn, stepOn};
+ghost use Rattle.answers.specs.Step.{refusalOn, stepOn};
 ghost use Rattle.sending.specs.Generations.{generationOf};
 ghost use Rattle.sending.specs.JobControl.{controls, discardedBy};
 ghost use Rattle.sending.specs.Decisions.{sendCall, Decided};
@@ -66,10 +66,10 @@ fn is_absorbed(
     thread: u32,
     signal: u32,
 ) -> bool
-    requires { ⌜ soundTables (now ps) (now ts) (now tb) (now pb) ≡ true ⌝ }
-    requires { ⌜ liveQueue (view (storeOf (now ps) (now ts) (now tb) (now pb))) (targetQueue process thread) ≡ true ⌝ }
+    requires { ⌜ soundTables (given ps ts tb pb) ≡ true ⌝ }
+    requires { ⌜ liveQueue (viewOf (given ps ts tb pb)) (targetQueue process thread) ≡ true ⌝ }
     requires { ⌜ (1 ≤ signal) × (signal ≤ signals) ⌝ }
-    ensures { λ r. ⌜ r ≡ absorbs (view (storeOf (now (ps .entry)) (now (ts .entry)) (now (tb .entry)) (now (pb .entry)))) queued (targetQueue process thread) signal ⌝ }
+    ensures { λ r. ⌜ r ≡ absorbs (viewOf (before ps ts tb pb)) queued (targetQueue process thread) signal ⌝ }
 {
     let pending = view::pending_of(ps, ts, tb, pb, process, thread);
     let marks = view::marks_of(ps, ts, tb, pb, process, thread);
@@ -87,10 +87,10 @@ fn generation_of(
     thread: u32,
     signal: u32,
 ) -> Generation
-    requires { ⌜ soundTables (now ps) (now ts) (now tb) (now pb) ≡ true ⌝ }
-    requires { ⌜ liveQueue (view (storeOf (now ps) (now ts) (now tb) (now pb))) (targetQueue process thread) ≡ true ⌝ }
+    requires { ⌜ soundTables (given ps ts tb pb) ≡ true ⌝ }
+    requires { ⌜ liveQueue (viewOf (given ps ts tb pb)) (targetQueue process thread) ≡ true ⌝ }
     requires { ⌜ signal ≤ signals ⌝ }
-    ensures { λ r. ⌜ generationOf r ≡ generation (view (storeOf (now (ps .entry)) (now (ts .entry)) (now (tb .entry)) (now (pb .entry)))) queued (targetQueue process thread) signal ⌝ }
+    ensures { λ r. ⌜ generationOf r ≡ generation (viewOf (before ps ts tb pb)) queued (targetQueue process thread) signal ⌝ }
 {
     if signal == 0 {
         return Generation::Testing;
@@ -125,9 +125,9 @@ fn info(
     signal: u32,
     value: u64,
 ) -> Siginfo
-    requires { ⌜ soundTables (now ps) (now ts) (now tb) (now pb) ≡ true ⌝ }
-    requires { ⌜ liveProcess (view (storeOf (now ps) (now ts) (now tb) (now pb))) by ≡ true ⌝ }
-    ensures { λ r. ⌜ r ≡ infoOf (view (storeOf (now (ps .entry)) (now (ts .entry)) (now (tb .entry)) (now (pb .entry)))) by to thread signal value ⌝ }
+    requires { ⌜ soundTables (given ps ts tb pb) ≡ true ⌝ }
+    requires { ⌜ liveProcess (viewOf (given ps ts tb pb)) by ≡ true ⌝ }
+    ensures { λ r. ⌜ r ≡ infoOf (viewOf (before ps ts tb pb)) by to thread signal value ⌝ }
 {
     Siginfo {
         process: to,
@@ -176,10 +176,10 @@ fn job_control(
     process: u32,
     signal: u32,
 )
-    requires { ⌜ soundTables (now ps) (now ts) (now tb) (now pb) ≡ true ⌝ }
-    requires { ⌜ fitsAll (jobControl process signal) (storeOf (now ps) (now ts) (now tb) (now pb)) ≡ true ⌝ }
-    ensures store { λ _. ⌜ storeOf (now (ps .exit)) (now (ts .exit)) (now (tb .exit)) (now (pb .exit)) ≡ applyAll (jobControl process signal) (storeOf (now (ps .entry)) (now (ts .entry)) (now (tb .entry)) (now (pb .entry))) ⌝ }
-    ensures sound { λ _. ⌜ soundTables (now (ps .exit)) (now (ts .exit)) (now (tb .exit)) (now (pb .exit)) ≡ true ⌝ }
+    requires { ⌜ soundTables (given ps ts tb pb) ≡ true ⌝ }
+    requires { ⌜ fitsAll (jobControl process signal) (decoded (given ps ts tb pb)) ≡ true ⌝ }
+    ensures store { λ _. ⌜ decoded (after ps ts tb pb) ≡ applyAll (jobControl process signal) (decoded (before ps ts tb pb)) ⌝ }
+    ensures sound { λ _. ⌜ soundTables (after ps ts tb pb) ≡ true ⌝ }
 {
     if !is_job_control(signal) {
         return;
@@ -192,10 +192,10 @@ fn job_control(
 
 // Generates the signal. Job control comes first, whatever becomes pending.
 fn generate(ps: &mut [u64], ts: &mut [u64], tb: &mut [u8], pb: &mut [u8], f: Generation, r: Siginfo)
-    requires { ⌜ soundTables (now ps) (now ts) (now tb) (now pb) ≡ true ⌝ }
-    requires { ⌜ fitsAll (sendChanges (generationOf f) r) (storeOf (now ps) (now ts) (now tb) (now pb)) ≡ true ⌝ }
-    ensures store { λ _. ⌜ storeOf (now (ps .exit)) (now (ts .exit)) (now (tb .exit)) (now (pb .exit)) ≡ applyAll (sendChanges (generationOf f) r) (storeOf (now (ps .entry)) (now (ts .entry)) (now (tb .entry)) (now (pb .entry))) ⌝ }
-    ensures sound { λ _. ⌜ soundTables (now (ps .exit)) (now (ts .exit)) (now (tb .exit)) (now (pb .exit)) ≡ true ⌝ }
+    requires { ⌜ soundTables (given ps ts tb pb) ≡ true ⌝ }
+    requires { ⌜ fitsAll (sendChanges (generationOf f) r) (decoded (given ps ts tb pb)) ≡ true ⌝ }
+    ensures store { λ _. ⌜ decoded (after ps ts tb pb) ≡ applyAll (sendChanges (generationOf f) r) (decoded (before ps ts tb pb)) ⌝ }
+    ensures sound { λ _. ⌜ soundTables (after ps ts tb pb) ≡ true ⌝ }
 {
     match f {
         Generation::Testing => return,
@@ -231,8 +231,8 @@ fn sent(f: Generation) -> Answer
 
 // Is the target not a live process, or the thread neither 0 nor a live thread of it?
 fn is_bad_target(ps: &[u64], ts: &[u64], tb: &[u8], pb: &[u8], to: u32, thread: u32) -> bool
-    requires { ⌜ soundTables (now ps) (now ts) (now tb) (now pb) ≡ true ⌝ }
-    ensures { λ r. ⌜ r ≡ badTarget (view (storeOf (now (ps .entry)) (now (ts .entry)) (now (tb .entry)) (now (pb .entry)))) to thread ⌝ }
+    requires { ⌜ soundTables (given ps ts tb pb) ≡ true ⌝ }
+    ensures { λ r. ⌜ r ≡ badTarget (viewOf (before ps ts tb pb)) to thread ⌝ }
 {
     if !view::is_process(ps, to) {
         return true;
@@ -257,7 +257,7 @@ fn kill_refusal(
     thread: u32,
     signal: u32,
 ) -> u32
-    ensures { λ r. ⌜ r ≡ refusalOn (call.kill by to thread signal) (lent (now (ps .entry)) (now (ts .entry)) (now (tb .entry)) (now (pb .entry))) ⌝ }
+    ensures { λ r. ⌜ r ≡ refusalOn (call.kill by to thread signal) (before ps ts tb pb) ⌝ }
 {
     if !sound::sound(ps, ts, tb, pb) {
         return EFAULT;
@@ -276,8 +276,8 @@ fn kill_refusal(
 
 // Is the send kept, and has the process all the records that it may have? The buffers are counted only for a send that is kept.
 fn has_no_room(ps: &[u64], ts: &[u64], tb: &[u8], pb: &[u8], f: Generation, to: u32) -> bool
-    requires { ⌜ soundTables (now ps) (now ts) (now tb) (now pb) ≡ true ⌝ }
-    ensures { λ r. ⌜ r ≡ (needsRecord (generationOf f) && leb recordLimit (view (storeOf (now (ps .entry)) (now (ts .entry)) (now (tb .entry)) (now (pb .entry))) .queued to)) ⌝ }
+    requires { ⌜ soundTables (given ps ts tb pb) ≡ true ⌝ }
+    ensures { λ r. ⌜ r ≡ (needsRecord (generationOf f) && leb recordLimit (viewOf (before ps ts tb pb) .queued to)) ⌝ }
 {
     match f {
         Generation::Keeping => RECORD_LIMIT <= queue::count_of(tb, to) + queue::count_of(pb, to),
@@ -298,7 +298,7 @@ fn judge(
     signal: u32,
     value: u64,
 ) -> Decision
-    ensures { λ r. ⌜ Decided (lent (now (ps .entry)) (now (ts .entry)) (now (tb .entry)) (now (pb .entry))) queued by to thread signal value r ⌝ }
+    ensures { λ r. ⌜ Decided (before ps ts tb pb) queued by to thread signal value r ⌝ }
 {
     let n = kill_refusal(ps, ts, tb, pb, by, to, thread, signal);
     if n != 0 {
@@ -327,8 +327,8 @@ fn send(
     value: u64,
 ) -> Answer
     requires { ⌜ (queued ≡ false → value ≡ 0) ⌝ }
-    ensures answer { λ r. ⌜ answerOf r ≡ stepOn (sendCall queued by to thread signal value) (lent (now (ps .entry)) (now (ts .entry)) (now (tb .entry)) (now (pb .entry))) .1 ⌝ }
-    ensures tables { λ r. ⌜ lent (now (ps .exit)) (now (ts .exit)) (now (tb .exit)) (now (pb .exit)) ≡ stepOn (sendCall queued by to thread signal value) (lent (now (ps .entry)) (now (ts .entry)) (now (tb .entry)) (now (pb .entry))) .0 ⌝ }
+    ensures answer { λ r. ⌜ answerOf r ≡ stepOn (sendCall queued by to thread signal value) (before ps ts tb pb) .1 ⌝ }
+    ensures tables { λ r. ⌜ after ps ts tb pb ≡ stepOn (sendCall queued by to thread signal value) (before ps ts tb pb) .0 ⌝ }
 {
     let decision = judge(ps, ts, tb, pb, queued, by, to, thread, signal, value);
     match decision {
@@ -351,8 +351,8 @@ pub fn kill(
     thread: u32,
     signal: u32,
 ) -> Answer
-    ensures answer { λ r. ⌜ answerOf r ≡ stepOn (call.kill by to thread signal) (lent (now (ps .entry)) (now (ts .entry)) (now (tb .entry)) (now (pb .entry))) .1 ⌝ }
-    ensures tables { λ r. ⌜ lent (now (ps .exit)) (now (ts .exit)) (now (tb .exit)) (now (pb .exit)) ≡ stepOn (call.kill by to thread signal) (lent (now (ps .entry)) (now (ts .entry)) (now (tb .entry)) (now (pb .entry))) .0 ⌝ }
+    ensures answer { λ r. ⌜ answerOf r ≡ stepOn (call.kill by to thread signal) (before ps ts tb pb) .1 ⌝ }
+    ensures tables { λ r. ⌜ after ps ts tb pb ≡ stepOn (call.kill by to thread signal) (before ps ts tb pb) .0 ⌝ }
 {
     send(ps, ts, tb, pb, false, by, to, thread, signal, 0)
 }
@@ -369,8 +369,8 @@ pub fn sigqueue(
     signal: u32,
     value: u64,
 ) -> Answer
-    ensures answer { λ r. ⌜ answerOf r ≡ stepOn (call.queue by to thread signal value) (lent (now (ps .entry)) (now (ts .entry)) (now (tb .entry)) (now (pb .entry))) .1 ⌝ }
-    ensures tables { λ r. ⌜ lent (now (ps .exit)) (now (ts .exit)) (now (tb .exit)) (now (pb .exit)) ≡ stepOn (call.queue by to thread signal value) (lent (now (ps .entry)) (now (ts .entry)) (now (tb .entry)) (now (pb .entry))) .0 ⌝ }
+    ensures answer { λ r. ⌜ answerOf r ≡ stepOn (call.queue by to thread signal value) (before ps ts tb pb) .1 ⌝ }
+    ensures tables { λ r. ⌜ after ps ts tb pb ≡ stepOn (call.queue by to thread signal value) (before ps ts tb pb) .0 ⌝ }
 {
     send(ps, ts, tb, pb, true, by, to, thread, signal, value)
 }

@@ -19,11 +19,11 @@ use Rattle.rules.proofs.Room as rooms
 use Rattle.queue.specs.Queue.{recordsOf, isLaid}
 use Rattle.tables.specs.Tables.{heldProcesses, heldThreads, processAt, threadAt}
 use Rattle.tables.proofs.Words.{length-heldProcesses, length-heldThreads}
-use Rattle.sound.specs.Lent.{storeOf, lengthsAre, soundTables}
+use Rattle.sound.specs.Lent.{lent, decoded, viewOf, lengthsAre, soundTables}
 
 -- ---- lengths
 
-module _ (ps ts tb pb : List ℕ) (e : lengthsAre ps ts tb pb ≡ true) where
+module _ (ps ts tb pb : List ℕ) (e : lengthsAre (lent ps ts tb pb) ≡ true) where
   pub right-processes : length ps ≡ processTable
   unfolding lengthsAre
   right-processes = eqb-true (length ps) processTable (and-fst (eqb (length ps) processTable) _ e)
@@ -44,18 +44,18 @@ module _ (ps ts tb pb : List ℕ) (e : lengthsAre ps ts tb pb ≡ true) where
 
 -- tables that are as long as those
 pub as-long : (ps ts tb pb ps′ ts′ tb′ pb′ : List ℕ) → length ps′ ≡ length ps → length ts′ ≡ length ts → length tb′ ≡ length tb → length pb′ ≡ length pb
-    → lengthsAre ps ts tb pb ≡ true → lengthsAre ps′ ts′ tb′ pb′ ≡ true
+    → lengthsAre (lent ps ts tb pb) ≡ true → lengthsAre (lent ps′ ts′ tb′ pb′) ≡ true
 unfolding lengthsAre
 as-long ps ts tb pb ps′ ts′ tb′ pb′ p t b q e = rw (p, t, b, q) e
 
-module _ (ps ts tb pb : List ℕ) (e : soundTables ps ts tb pb ≡ true) where
-  pub right-lengths : lengthsAre ps ts tb pb ≡ true
+module _ (ps ts tb pb : List ℕ) (e : soundTables (lent ps ts tb pb) ≡ true) where
+  pub right-lengths : lengthsAre (lent ps ts tb pb) ≡ true
   unfolding soundTables
-  right-lengths = and-fst (lengthsAre ps ts tb pb) _ e
+  right-lengths = and-fst (lengthsAre (lent ps ts tb pb)) _ e
 
-  pub store-sound : sound (storeOf ps ts tb pb) ≡ true
+  pub store-sound : sound (decoded (lent ps ts tb pb)) ≡ true
   unfolding soundTables
-  store-sound = and-snd (lengthsAre ps ts tb pb) _ e
+  store-sound = and-snd (lengthsAre (lent ps ts tb pb)) _ e
 
   pub processes-long : length ps ≡ processTable
   processes-long = right-processes ps ts tb pb right-lengths
@@ -72,52 +72,52 @@ module _ (ps ts tb pb : List ℕ) (e : soundTables ps ts tb pb ≡ true) where
   -- ---- buffers
 
   pub thread-buffer-laid : isLaid tb ≡ true
-  unfolding isLaid storeOf
-  thread-buffer-laid = and-both (eq-eqb (length tb) bufferBytes thread-buffer-long) (rule.thread-rest (storeOf ps ts tb pb) store-sound)
+  unfolding isLaid decoded
+  thread-buffer-laid = and-both (eq-eqb (length tb) bufferBytes thread-buffer-long) (rule.thread-rest (decoded (lent ps ts tb pb)) store-sound)
 
   pub process-buffer-laid : isLaid pb ≡ true
-  unfolding isLaid storeOf
-  process-buffer-laid = and-both (eq-eqb (length pb) bufferBytes process-buffer-long) (rule.process-rest (storeOf ps ts tb pb) store-sound)
+  unfolding isLaid decoded
+  process-buffer-laid = and-both (eq-eqb (length pb) bufferBytes process-buffer-long) (rule.process-rest (decoded (lent ps ts tb pb)) store-sound)
 
   -- a process below its limit finds a free slot in either buffer
-  pub room : (p : ℕ) → liveProcess (view (storeOf ps ts tb pb)) p ≡ true → queuedIn (storeOf ps ts tb pb) p < recordLimit
+  pub room : (p : ℕ) → liveProcess (viewOf (lent ps ts tb pb)) p ≡ true → queuedIn (decoded (lent ps ts tb pb)) p < recordLimit
       → (length (recordsOf tb) < bufferRecords) × (length (recordsOf pb) < bufferRecords)
-  unfolding recordsOf storeOf
-  room p l q = rooms.room (storeOf ps ts tb pb) store-sound p l q
+  unfolding recordsOf decoded
+  room p l q = rooms.room (decoded (lent ps ts tb pb)) store-sound p l q
 
   -- ---- places
 
   pub one-process : (n : ℕ) → count (isProcess n) (heldProcesses ps) ≤ 1
-  unfolding storeOf view
-  one-process = rule.one-process (storeOf ps ts tb pb) store-sound
+  unfolding decoded view
+  one-process = rule.one-process (decoded (lent ps ts tb pb)) store-sound
 
   pub one-thread : (n : ℕ) → count (isThread n) (heldThreads ts) ≤ 1
-  unfolding storeOf view
-  one-thread = rule.one-thread (storeOf ps ts tb pb) store-sound
+  unfolding decoded view
+  one-thread = rule.one-thread (decoded (lent ps ts tb pb)) store-sound
 
 -- ---- a live id is found, and what is found is the one that the rules mean; this asks no soundness
 
 module _ (ps ts tb pb : List ℕ) where
-  pub process-listed : (n : ℕ) → liveProcess (view (storeOf ps ts tb pb)) n ≡ true → any (isProcess n) (heldProcesses ps) ≡ true
-  unfolding liveProcess view storeOf
+  pub process-listed : (n : ℕ) → liveProcess (viewOf (lent ps ts tb pb)) n ≡ true → any (isProcess n) (heldProcesses ps) ≡ true
+  unfolding liveProcess view decoded
   process-listed n l = l
 
-  pub thread-listed : (n : ℕ) → liveThread (view (storeOf ps ts tb pb)) n ≡ true → any (isThread n) (heldThreads ts) ≡ true
-  unfolding liveThread view storeOf
+  pub thread-listed : (n : ℕ) → liveThread (viewOf (lent ps ts tb pb)) n ≡ true → any (isThread n) (heldThreads ts) ≡ true
+  unfolding liveThread view decoded
   thread-listed n l = l
 
-  pub process-found : (n : ℕ) → liveProcess (view (storeOf ps ts tb pb)) n ≡ true → find (isProcess n) (heldProcesses ps) < processPlaces
-  unfolding liveProcess view storeOf
+  pub process-found : (n : ℕ) → liveProcess (viewOf (lent ps ts tb pb)) n ≡ true → find (isProcess n) (heldProcesses ps) < processPlaces
+  unfolding liveProcess view decoded
   process-found n l = any-inside (isProcess n) (heldProcesses ps) processPlaces (length-heldProcesses ps) l
 
-  pub thread-found : (n : ℕ) → liveThread (view (storeOf ps ts tb pb)) n ≡ true → find (isThread n) (heldThreads ts) < threadPlaces
-  unfolding liveThread view storeOf
+  pub thread-found : (n : ℕ) → liveThread (viewOf (lent ps ts tb pb)) n ≡ true → find (isThread n) (heldThreads ts) < threadPlaces
+  unfolding liveThread view decoded
   thread-found n l = any-inside (isThread n) (heldThreads ts) threadPlaces (length-heldThreads ts) l
 
-  pub process-there : (n : ℕ) → theProcess (view (storeOf ps ts tb pb)) n ≡ processAt ps (find (isProcess n) (heldProcesses ps)) .holds
-  unfolding storeOf
-  process-there n = the-process (storeOf ps ts tb pb) n
+  pub process-there : (n : ℕ) → theProcess (viewOf (lent ps ts tb pb)) n ≡ processAt ps (find (isProcess n) (heldProcesses ps)) .holds
+  unfolding decoded
+  process-there n = the-process (decoded (lent ps ts tb pb)) n
 
-  pub thread-there : (n : ℕ) → theThread (view (storeOf ps ts tb pb)) n ≡ threadAt ts (find (isThread n) (heldThreads ts)) .holds
-  unfolding storeOf
-  thread-there n = the-thread (storeOf ps ts tb pb) n
+  pub thread-there : (n : ℕ) → theThread (viewOf (lent ps ts tb pb)) n ≡ threadAt ts (find (isThread n) (heldThreads ts)) .holds
+  unfolding decoded
+  thread-there n = the-thread (decoded (lent ps ts tb pb)) n

@@ -15,7 +15,7 @@ use Rattle.queue.specs.Queue.{slotsOf, recordsOf, isLaid}
 use Rattle.queue.proofs.Buffer.{length-slotsOf}
 use Rattle.tables.specs.Tables.{processesOf, threadsOf, heldProcesses}
 use Rattle.tables.proofs.Words.{length-processesOf, length-threadsOf, length-heldProcesses, all-actionsLong}
-use Rattle.sound.specs.Lent.{storeOf, lengthsAre, soundTables}
+use Rattle.sound.specs.Lent.{lent, decoded, lengthsAre, soundTables}
 use Rattle.places.specs.Check.{tallies, placesOk, threadRecordsOk, processRecordsOk, allWithin, recordsOk, checked}
 use Rattle.sound.proofs.Passes.{tally-start}
 use Rattle.sound.proofs.Regrouped.{regrouped}
@@ -52,25 +52,25 @@ shape true true true true p true false r = and-false p
 shape true true true true p true true r = refl
 
 module _ (ps ts tb pb : List ℕ) where
-  decoded-long : lengthsRight (storeOf ps ts tb pb) ≡ true
-  unfolding lengthsRight storeOf
+  decoded-long : lengthsRight (decoded (lent ps ts tb pb)) ≡ true
+  unfolding lengthsRight decoded
   decoded-long =
       and-both (eq-eqb (length (processesOf ps)) processPlaces (length-processesOf ps))
       (and-both (all-actionsLong ps)
       (and-both (eq-eqb (length (threadsOf ts)) threadPlaces (length-threadsOf ts))
       (and-both (eq-eqb (length (slotsOf tb)) bufferRecords (length-slotsOf tb)) (eq-eqb (length (slotsOf pb)) bufferRecords (length-slotsOf pb)))))
 
-  told : soundTables ps ts tb pb
+  told : soundTables (lent ps ts tb pb)
       ≡ (eqb (length ps) processTable && (eqb (length ts) threadTable
       && (isLaid tb && (isLaid pb && (placesOk (processesOf ps) (threadsOf ts) && recordsOk (processesOf ps) (threadsOf ts) (recordsOf tb) (recordsOf pb))))))
-  unfolding soundTables lengthsAre isLaid recordsOf checked storeOf
+  unfolding soundTables lengthsAre isLaid recordsOf checked decoded
   told =
-      ap (λ b. lengthsAre ps ts tb pb && b) (sym (regrouped (storeOf ps ts tb pb) decoded-long))
+      ap (λ b. lengthsAre (lent ps ts tb pb) && b) (sym (regrouped (decoded (lent ps ts tb pb)) decoded-long))
       ∙ shape (eqb (length ps) processTable) (eqb (length ts) threadTable) (eqb (length tb) bufferBytes) (eqb (length pb) bufferBytes)
       (placesOk (processesOf ps) (threadsOf ts)) (restZero (slotsOf tb)) (restZero (slotsOf pb))
       (recordsOk (processesOf ps) (threadsOf ts) (used (slotsOf tb)) (used (slotsOf pb)))
 
-  pub wrong-length : (not (eqb (length ps) processTable) || not (eqb (length ts) threadTable)) ≡ true → false ≡ soundTables ps ts tb pb
+  pub wrong-length : (not (eqb (length ps) processTable) || not (eqb (length ts) threadTable)) ≡ true → false ≡ soundTables (lent ps ts tb pb)
   wrong-length e =
       sym (told ∙ or-cases (not (eqb (length ps) processTable)) (not (eqb (length ts) threadTable)) e
       (λ n. and-left _ (not-true (eqb (length ps) processTable) n))
@@ -89,16 +89,16 @@ module _ (ps ts tb pb : List ℕ) where
     pub threads-long : length ts ≡ threadTable
     threads-long = eqb-true (length ts) threadTable right-threads
 
-    pub threads-unlaid : isLaid tb ≡ false → false ≡ soundTables ps ts tb pb
+    pub threads-unlaid : isLaid tb ≡ false → false ≡ soundTables (lent ps ts tb pb)
     threads-unlaid e = sym (told ∙ rw (right-words, right-threads, e))
 
-    pub processes-unlaid : isLaid tb ≡ true → isLaid pb ≡ false → false ≡ soundTables ps ts tb pb
+    pub processes-unlaid : isLaid tb ≡ true → isLaid pb ≡ false → false ≡ soundTables (lent ps ts tb pb)
     processes-unlaid t e = sym (told ∙ rw (right-words, right-threads, t, e))
 
     module _ (t : isLaid tb ≡ true) (p : isLaid pb ≡ true) where
-      pub places-wrong : placesOk (processesOf ps) (threadsOf ts) ≡ false → false ≡ soundTables ps ts tb pb
+      pub places-wrong : placesOk (processesOf ps) (threadsOf ts) ≡ false → false ≡ soundTables (lent ps ts tb pb)
       places-wrong e = sym (told ∙ rw (right-words, right-threads, t, p, e))
 
       pub records-decide : placesOk (processesOf ps) (threadsOf ts) ≡ true
-          → recordsOk (processesOf ps) (threadsOf ts) (recordsOf tb) (recordsOf pb) ≡ soundTables ps ts tb pb
+          → recordsOk (processesOf ps) (threadsOf ts) (recordsOf tb) (recordsOf pb) ≡ soundTables (lent ps ts tb pb)
       records-decide e = sym (told ∙ rw (right-words, right-threads, t, p, e))

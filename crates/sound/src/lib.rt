@@ -9,7 +9,7 @@ ghost use Rattle.lists.specs.Lists.{all, any};
 ghost use Rattle.rules.specs.View.{threadQueue};
 ghost use Rattle.queue.specs.Queue.{recordsOf};
 ghost use Rattle.tables.specs.Tables.{processesOf, threadsOf, heldProcesses, processAt};
-ghost use Rattle.sound.specs.Lent.{soundTables};
+ghost use Rattle.sound.specs.Lent.{soundTables, before, after};
 ghost use Rattle.places.specs.Check.{placesOk, tallies, seenSets, ownQueue, isFresh, isDelivered, bumped, noted, onePlace, smallCounts, processPlace, threadPlace, threadRecordOk, processRecordOk, threadRecordsOk, processRecordsOk, withinAt, allWithin, recordsOk};
 use limits::PROCESS_MARKS;
 use limits::PROCESS_PLACES;
@@ -245,7 +245,7 @@ fn records_ok(ps: &[u64], ts: &[u64], tb: &[u8], pb: &[u8]) -> bool
 
 // Is the store sound? Any words, any bytes and any lengths are answered.
 pub fn sound(ps: &[u64], ts: &[u64], tb: &[u8], pb: &[u8]) -> bool
-    ensures { λ r. ⌜ r ≡ soundTables (now (ps .entry)) (now (ts .entry)) (now (tb .entry)) (now (pb .entry)) ⌝ }
+    ensures { λ r. ⌜ r ≡ soundTables (before ps ts tb pb) ⌝ }
 {
     if (ps.len() != PROCESS_TABLE) | (ts.len() != THREAD_TABLE) {
         return false;
@@ -265,7 +265,7 @@ pub fn sound(ps: &[u64], ts: &[u64], tb: &[u8], pb: &[u8]) -> bool
 // The same for a host that links it.
 #[no_mangle]
 pub extern "C" fn rrezhbuta_sound(ps: &[u64], ts: &[u64], tb: &[u8], pb: &[u8]) -> bool
-    ensures { λ r. ⌜ r ≡ soundTables (now (ps .entry)) (now (ts .entry)) (now (tb .entry)) (now (pb .entry)) ⌝ }
+    ensures { λ r. ⌜ r ≡ soundTables (before ps ts tb pb) ⌝ }
 {
     sound(ps, ts, tb, pb)
 }

@@ -10,7 +10,7 @@ use denote.Enum.Declared.{tagOf}
 use Rattle.lists.proofs.Bools.{clash}
 use Rattle.rules.specs.Types.{Thread, Answer, take}
 use Rattle.rules.specs.View.{View, liveThread, theThread}
-use Rattle.rules.specs.Store.{view, applyAll}
+use Rattle.rules.specs.Store.{applyAll}
 use Rattle.rules.specs.Taking.{next, takeChanges, takeAnswer}
 use Rattle.rules.specs.Refusals.{esrch, noThreadLive, rows, isClear}
 use Rattle.rules.specs.Calls.{changes, answer}
@@ -18,9 +18,10 @@ use Rattle.answers.specs.declared.Next as declared
 use Rattle.answers.specs.declared.Next.the-variants as cases
 use Rattle.answers.specs.declared.Answer.the-variants.{Refused, Nothing}
 use Rattle.answers.specs.Answers.{nextOf, answerOf}
-use Rattle.answers.specs.Step.{Lent, decoded, refusalOn, rowsOn, stepOn}
+use Rattle.sound.specs.Lent.{Lent, decoded, viewOf, soundTables}
+use Rattle.answers.specs.Step.{refusalOn, rowsOn, stepOn}
 use Rattle.siginfo.proofs.Numbers.{bytes-each}
-use Rattle.answers.proofs.Endings.{isSound, rows-given, refused-ends, accepted-ends}
+use Rattle.answers.proofs.Endings.{rows-given, refused-ends, accepted-ends}
 use Rattle.answers.proofs.Rows.{live-thread}
 use Rattle.answers.proofs.Next.{the-type}
 use Rattle.taking.specs.Takes.{isNothing}
@@ -33,9 +34,9 @@ something cases.Nothing (inr e) = clash refl (ap (λ (k : ℕ). eqb k 0) e)
 something (cases.Mark process thread s) e = refl
 something (cases.Record r) e = refl
 
-module _ (l : Lent) (t n : ℕ) (r : n ≡ rowsOn (esrch (noThreadLive (view (decoded l)) t) ∷ []) l) where
+module _ (l : Lent) (t n : ℕ) (r : n ≡ rowsOn (esrch (noThreadLive (viewOf l) t) ∷ []) l) where
   abbrev v : View
-  v = view (decoded l)
+  v = viewOf l
 
   abbrev it : Thread
   it = theThread v t
@@ -52,7 +53,7 @@ module _ (l : Lent) (t n : ℕ) (r : n ≡ rowsOn (esrch (noThreadLive (view (de
     accepted : refusalOn (take t) l ≡ 0
     accepted = sym refusal-is ∙ z
 
-    pub taker-sound : isSound l ≡ true
+    pub taker-sound : soundTables l ≡ true
     taker-sound = live-thread l t n r z .0
 
     pub taker-live : liveThread v t ≡ true

@@ -19,7 +19,7 @@ use Rattle.rules.specs.Taking.{nextSignal, nextQueue, nextIn, next, markInfo, d
 use Rattle.rules.specs.Fitting.{fitsAll}
 use Rattle.rules.proofs.Marks.{the-thread-id}
 use Rattle.rules.proofs.TakeFits.{take-fits}
-use Rattle.sound.specs.Lent.{storeOf, soundTables}
+use Rattle.sound.specs.Lent.{lent, decoded, viewOf, soundTables}
 use Rattle.sound.proofs.Facts.{store-sound}
 use Rattle.answers.specs.Answers.{nextOf}
 use Rattle.answers.specs.declared.Next as declared
@@ -106,20 +106,20 @@ module _ {st : Store} {t u : Thread} {x : declared.Next} {r : Siginfo} {a : Acti
 
 -- ---- sound tables, and what is read of them for a live thread
 
-module _ (ps ts tb pb : List ℕ) (e : soundTables ps ts tb pb ≡ true) (thread : ℕ) (l : liveThread (view (storeOf ps ts tb pb)) thread ≡ true) where
+module _ (ps ts tb pb : List ℕ) (e : soundTables (lent ps ts tb pb) ≡ true) (thread : ℕ) (l : liveThread (viewOf (lent ps ts tb pb)) thread ≡ true) where
   abbrev st : Store
-  st = storeOf ps ts tb pb
+  st = decoded (lent ps ts tb pb)
 
   abbrev t : Thread
   t = theThread (view st) thread
 
   module _ (p : ℕ) (i : p ≡ threadNamed ts thread .process) where
     thread-read : (m : SigSet) → m ≡ threadNamed ts thread .mask → t ≡ threadOf thread p m
-    unfolding theThread view storeOf
+    unfolding theThread view decoded
     thread-read m k = λ j. threadOf (the-thread-id st thread l j) (owner-is ps ts tb pb thread p i j) (sym k j)
 
     action-read : (s : ℕ) (a : Action) → a ≡ actionOf (processNamed ps p) s → a ≡ threadAction (view st) t s
-    unfolding threadAction theProcess theThread view storeOf
+    unfolding threadAction theProcess theThread view decoded
     action-read s a g = g ∙ ap (λ (n : ℕ). actionOf (processNamed ps n) s) i
 
   module _ (x : declared.Next) (n : nextOf x ≡ next (view st) t) (y : isNothing (nextOf x) ≡ false) (r : Siginfo) (h : r ≡ infoIn (nextOf x)) where

@@ -8,9 +8,9 @@ ghost use Rattle.rules.specs.Store.{view, applyAll};
 ghost use Rattle.rules.specs.Taking.{markInfo, handlerMask, resets, reset, outcomeChanges, outcomeAnswer, deliver, delivered, takeChanges, takeAnswer};
 ghost use Rattle.rules.specs.Taking.{next as nextFor};
 ghost use Rattle.rules.specs.Fitting.{fitsAll};
-ghost use Rattle.sound.specs.Lent.{storeOf, soundTables};
+ghost use Rattle.sound.specs.Lent.{decoded, viewOf, soundTables, given, before, after};
 ghost use Rattle.answers.specs.Answers.{nextOf, answerOf};
-ghost use Rattle.answers.specs.Step.{lent, stepOn};
+ghost use Rattle.answers.specs.Step.{stepOn};
 ghost use Rattle.effects.specs.Effects.{threadOf};
 ghost use Rattle.taking.specs.Takes.{outcomeOf, isNothing, infoIn, dequeueChanges, handlerChanges};
 use answers::Answer;
@@ -75,10 +75,10 @@ fn start_handler(
     a: Action,
     signal: u32,
 )
-    requires { ⌜ soundTables (now ps) (now ts) (now tb) (now pb) ≡ true ⌝ }
-    requires { ⌜ fitsAll (handlerChanges (threadOf thread process mask) a signal) (storeOf (now ps) (now ts) (now tb) (now pb)) ≡ true ⌝ }
-    ensures store { λ _. ⌜ storeOf (now (ps .exit)) (now (ts .exit)) (now (tb .exit)) (now (pb .exit)) ≡ applyAll (handlerChanges (threadOf thread process mask) a signal) (storeOf (now (ps .entry)) (now (ts .entry)) (now (tb .entry)) (now (pb .entry))) ⌝ }
-    ensures sound { λ _. ⌜ soundTables (now (ps .exit)) (now (ts .exit)) (now (tb .exit)) (now (pb .exit)) ≡ true ⌝ }
+    requires { ⌜ soundTables (given ps ts tb pb) ≡ true ⌝ }
+    requires { ⌜ fitsAll (handlerChanges (threadOf thread process mask) a signal) (decoded (given ps ts tb pb)) ≡ true ⌝ }
+    ensures store { λ _. ⌜ decoded (after ps ts tb pb) ≡ applyAll (handlerChanges (threadOf thread process mask) a signal) (decoded (before ps ts tb pb)) ⌝ }
+    ensures sound { λ _. ⌜ soundTables (after ps ts tb pb) ≡ true ⌝ }
 {
     effects::set_mask(ps, ts, tb, pb, thread, handler_mask(mask, a, signal));
     if is_reset(a, signal) {
@@ -119,10 +119,10 @@ fn act_by_default(
     o: Outcome,
     process: u32,
 )
-    requires { ⌜ soundTables (now ps) (now ts) (now tb) (now pb) ≡ true ⌝ }
-    requires { ⌜ fitsAll (outcomeChanges (outcomeOf o) process) (storeOf (now ps) (now ts) (now tb) (now pb)) ≡ true ⌝ }
-    ensures store { λ _. ⌜ storeOf (now (ps .exit)) (now (ts .exit)) (now (tb .exit)) (now (pb .exit)) ≡ applyAll (outcomeChanges (outcomeOf o) process) (storeOf (now (ps .entry)) (now (ts .entry)) (now (tb .entry)) (now (pb .entry))) ⌝ }
-    ensures sound { λ _. ⌜ soundTables (now (ps .exit)) (now (ts .exit)) (now (tb .exit)) (now (pb .exit)) ≡ true ⌝ }
+    requires { ⌜ soundTables (given ps ts tb pb) ≡ true ⌝ }
+    requires { ⌜ fitsAll (outcomeChanges (outcomeOf o) process) (decoded (given ps ts tb pb)) ≡ true ⌝ }
+    ensures store { λ _. ⌜ decoded (after ps ts tb pb) ≡ applyAll (outcomeChanges (outcomeOf o) process) (decoded (before ps ts tb pb)) ⌝ }
+    ensures sound { λ _. ⌜ soundTables (after ps ts tb pb) ≡ true ⌝ }
 {
     match o {
         Outcome::Ignores => {}
@@ -157,10 +157,10 @@ fn deliver(
     a: Action,
     signal: u32,
 )
-    requires { ⌜ soundTables (now ps) (now ts) (now tb) (now pb) ≡ true ⌝ }
-    requires { ⌜ fitsAll (deliver (threadOf thread process mask) a signal) (storeOf (now ps) (now ts) (now tb) (now pb)) ≡ true ⌝ }
-    ensures store { λ _. ⌜ storeOf (now (ps .exit)) (now (ts .exit)) (now (tb .exit)) (now (pb .exit)) ≡ applyAll (deliver (threadOf thread process mask) a signal) (storeOf (now (ps .entry)) (now (ts .entry)) (now (tb .entry)) (now (pb .entry))) ⌝ }
-    ensures sound { λ _. ⌜ soundTables (now (ps .exit)) (now (ts .exit)) (now (tb .exit)) (now (pb .exit)) ≡ true ⌝ }
+    requires { ⌜ soundTables (given ps ts tb pb) ≡ true ⌝ }
+    requires { ⌜ fitsAll (deliver (threadOf thread process mask) a signal) (decoded (given ps ts tb pb)) ≡ true ⌝ }
+    ensures store { λ _. ⌜ decoded (after ps ts tb pb) ≡ applyAll (deliver (threadOf thread process mask) a signal) (decoded (before ps ts tb pb)) ⌝ }
+    ensures sound { λ _. ⌜ soundTables (after ps ts tb pb) ≡ true ⌝ }
 {
     if a.handler == SIG_DFL {
         act_by_default(ps, ts, tb, pb, outcome_of(signal), process);
@@ -182,10 +182,10 @@ fn delivered(mask: SigSet, a: Action, r: Siginfo) -> Answer
 
 // The record or the mark leaves its queue.
 fn dequeue(ps: &mut [u64], ts: &mut [u64], tb: &mut [u8], pb: &mut [u8], next: Next)
-    requires { ⌜ soundTables (now ps) (now ts) (now tb) (now pb) ≡ true ⌝ }
-    requires { ⌜ fitsAll (dequeueChanges (nextOf next)) (storeOf (now ps) (now ts) (now tb) (now pb)) ≡ true ⌝ }
-    ensures store { λ _. ⌜ storeOf (now (ps .exit)) (now (ts .exit)) (now (tb .exit)) (now (pb .exit)) ≡ applyAll (dequeueChanges (nextOf next)) (storeOf (now (ps .entry)) (now (ts .entry)) (now (tb .entry)) (now (pb .entry))) ⌝ }
-    ensures sound { λ _. ⌜ soundTables (now (ps .exit)) (now (ts .exit)) (now (tb .exit)) (now (pb .exit)) ≡ true ⌝ }
+    requires { ⌜ soundTables (given ps ts tb pb) ≡ true ⌝ }
+    requires { ⌜ fitsAll (dequeueChanges (nextOf next)) (decoded (given ps ts tb pb)) ≡ true ⌝ }
+    ensures store { λ _. ⌜ decoded (after ps ts tb pb) ≡ applyAll (dequeueChanges (nextOf next)) (decoded (before ps ts tb pb)) ⌝ }
+    ensures sound { λ _. ⌜ soundTables (after ps ts tb pb) ≡ true ⌝ }
 {
     match next {
         Next::Nothing => {}
@@ -232,12 +232,12 @@ fn take_next(
     thread: u32,
     next: Next,
 ) -> Answer
-    requires { ⌜ soundTables (now ps) (now ts) (now tb) (now pb) ≡ true ⌝ }
-    requires { ⌜ liveThread (view (storeOf (now ps) (now ts) (now tb) (now pb))) thread ≡ true ⌝ }
-    requires { ⌜ nextOf next ≡ nextFor (view (storeOf (now ps) (now ts) (now tb) (now pb))) (theThread (view (storeOf (now ps) (now ts) (now tb) (now pb))) thread) ⌝ }
+    requires { ⌜ soundTables (given ps ts tb pb) ≡ true ⌝ }
+    requires { ⌜ liveThread (viewOf (given ps ts tb pb)) thread ≡ true ⌝ }
+    requires { ⌜ nextOf next ≡ nextFor (viewOf (given ps ts tb pb)) (theThread (viewOf (given ps ts tb pb)) thread) ⌝ }
     requires { ⌜ isNothing (nextOf next) ≡ false ⌝ }
-    ensures answer { λ r. ⌜ answerOf r ≡ takeAnswer (view (storeOf (now (ps .entry)) (now (ts .entry)) (now (tb .entry)) (now (pb .entry)))) (theThread (view (storeOf (now (ps .entry)) (now (ts .entry)) (now (tb .entry)) (now (pb .entry)))) thread) (nextOf next) ⌝ }
-    ensures store { λ r. ⌜ storeOf (now (ps .exit)) (now (ts .exit)) (now (tb .exit)) (now (pb .exit)) ≡ applyAll (takeChanges (view (storeOf (now (ps .entry)) (now (ts .entry)) (now (tb .entry)) (now (pb .entry)))) (theThread (view (storeOf (now (ps .entry)) (now (ts .entry)) (now (tb .entry)) (now (pb .entry)))) thread) (nextOf next)) (storeOf (now (ps .entry)) (now (ts .entry)) (now (tb .entry)) (now (pb .entry))) ⌝ }
+    ensures answer { λ r. ⌜ answerOf r ≡ takeAnswer (viewOf (before ps ts tb pb)) (theThread (viewOf (before ps ts tb pb)) thread) (nextOf next) ⌝ }
+    ensures store { λ r. ⌜ decoded (after ps ts tb pb) ≡ applyAll (takeChanges (viewOf (before ps ts tb pb)) (theThread (viewOf (before ps ts tb pb)) thread) (nextOf next)) (decoded (before ps ts tb pb)) ⌝ }
 {
     let r = info_of(next);
     let process = view::process_of(ts, thread);
@@ -250,8 +250,8 @@ fn take_next(
 
 // A thread takes its next signal.
 pub fn take(ps: &mut [u64], ts: &mut [u64], tb: &mut [u8], pb: &mut [u8], thread: u32) -> Answer
-    ensures answer { λ r. ⌜ answerOf r ≡ stepOn (call.take thread) (lent (now (ps .entry)) (now (ts .entry)) (now (tb .entry)) (now (pb .entry))) .1 ⌝ }
-    ensures tables { λ r. ⌜ lent (now (ps .exit)) (now (ts .exit)) (now (tb .exit)) (now (pb .exit)) ≡ stepOn (call.take thread) (lent (now (ps .entry)) (now (ts .entry)) (now (tb .entry)) (now (pb .entry))) .0 ⌝ }
+    ensures answer { λ r. ⌜ answerOf r ≡ stepOn (call.take thread) (before ps ts tb pb) .1 ⌝ }
+    ensures tables { λ r. ⌜ after ps ts tb pb ≡ stepOn (call.take thread) (before ps ts tb pb) .0 ⌝ }
 {
     let n = view::thread_refusal(ps, ts, tb, pb, thread);
     if n != 0 {

@@ -16,8 +16,8 @@ ghost use Rattle.rules.specs.Refusals.{esrch, noProcessLive, noThreadLive};
 ghost use Rattle.rules.specs.Fitting.{liveQueue};
 ghost use Rattle.queue.specs.Queue.{recordsOf, signalsIn};
 ghost use Rattle.tables.specs.Tables.{heldProcesses, heldThreads};
-ghost use Rattle.sound.specs.Lent.{storeOf, soundTables};
-ghost use Rattle.answers.specs.Step.{lent, rowsOn};
+ghost use Rattle.sound.specs.Lent.{viewOf, soundTables, given, before};
+ghost use Rattle.answers.specs.Step.{rowsOn};
 ghost use Rattle.view.specs.Named.{processNamed, threadNamed};
 use limits::EFAULT;
 use limits::ESRCH;
@@ -144,9 +144,9 @@ pub fn may_signal(ps: &[u64], by: u32, to: u32, signal: u32) -> bool
 
 // The signals that are marked in it.
 pub fn marks_of(ps: &[u64], ts: &[u64], tb: &[u8], pb: &[u8], process: u32, thread: u32) -> SigSet
-    requires { ⌜ soundTables (now ps) (now ts) (now tb) (now pb) ≡ true ⌝ }
-    requires { ⌜ liveQueue (view (storeOf (now ps) (now ts) (now tb) (now pb))) (targetQueue process thread) ≡ true ⌝ }
-    ensures { λ r. ⌜ r ≡ setOf (view (storeOf (now (ps .entry)) (now (ts .entry)) (now (tb .entry)) (now (pb .entry))) .marks (targetQueue process thread)) ⌝ }
+    requires { ⌜ soundTables (given ps ts tb pb) ≡ true ⌝ }
+    requires { ⌜ liveQueue (viewOf (given ps ts tb pb)) (targetQueue process thread) ≡ true ⌝ }
+    ensures { λ r. ⌜ r ≡ setOf (viewOf (before ps ts tb pb) .marks (targetQueue process thread)) ⌝ }
 {
     if thread == 0 {
         let place = tables::find_process(ps, process as u64);
@@ -169,9 +169,9 @@ fn queued_of(tb: &[u8], pb: &[u8], process: u32, thread: u32) -> SigSet
 
 // The signals that are pending in it, by a mark or by a record.
 pub fn pending_of(ps: &[u64], ts: &[u64], tb: &[u8], pb: &[u8], process: u32, thread: u32) -> SigSet
-    requires { ⌜ soundTables (now ps) (now ts) (now tb) (now pb) ≡ true ⌝ }
-    requires { ⌜ liveQueue (view (storeOf (now ps) (now ts) (now tb) (now pb))) (targetQueue process thread) ≡ true ⌝ }
-    ensures { λ r. ⌜ r ≡ setOf (pendingIn (view (storeOf (now (ps .entry)) (now (ts .entry)) (now (tb .entry)) (now (pb .entry)))) (targetQueue process thread)) ⌝ }
+    requires { ⌜ soundTables (given ps ts tb pb) ≡ true ⌝ }
+    requires { ⌜ liveQueue (viewOf (given ps ts tb pb)) (targetQueue process thread) ≡ true ⌝ }
+    ensures { λ r. ⌜ r ≡ setOf (pendingIn (viewOf (before ps ts tb pb)) (targetQueue process thread)) ⌝ }
 {
     let marks = marks_of(ps, ts, tb, pb, process, thread);
     let queued = queued_of(tb, pb, process, thread);
@@ -182,7 +182,7 @@ pub fn pending_of(ps: &[u64], ts: &[u64], tb: &[u8], pb: &[u8], process: u32, th
 
 // 14 where the tables are not sound, 3 where the process is not live, else 0.
 pub fn process_refusal(ps: &[u64], ts: &[u64], tb: &[u8], pb: &[u8], process: u32) -> u32
-    ensures { λ r. ⌜ r ≡ rowsOn (esrch (noProcessLive (view (storeOf (now (ps .entry)) (now (ts .entry)) (now (tb .entry)) (now (pb .entry)))) process) ∷ []) (lent (now (ps .entry)) (now (ts .entry)) (now (tb .entry)) (now (pb .entry))) ⌝ }
+    ensures { λ r. ⌜ r ≡ rowsOn (esrch (noProcessLive (viewOf (before ps ts tb pb)) process) ∷ []) (before ps ts tb pb) ⌝ }
 {
     if !sound::sound(ps, ts, tb, pb) {
         return EFAULT;
@@ -195,7 +195,7 @@ pub fn process_refusal(ps: &[u64], ts: &[u64], tb: &[u8], pb: &[u8], process: u3
 
 // The same of a thread.
 pub fn thread_refusal(ps: &[u64], ts: &[u64], tb: &[u8], pb: &[u8], thread: u32) -> u32
-    ensures { λ r. ⌜ r ≡ rowsOn (esrch (noThreadLive (view (storeOf (now (ps .entry)) (now (ts .entry)) (now (tb .entry)) (now (pb .entry)))) thread) ∷ []) (lent (now (ps .entry)) (now (ts .entry)) (now (tb .entry)) (now (pb .entry))) ⌝ }
+    ensures { λ r. ⌜ r ≡ rowsOn (esrch (noThreadLive (viewOf (before ps ts tb pb)) thread) ∷ []) (before ps ts tb pb) ⌝ }
 {
     if !sound::sound(ps, ts, tb, pb) {
         return EFAULT;

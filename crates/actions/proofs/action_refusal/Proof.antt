@@ -2,7 +2,7 @@
 use mathlib.Core.Path.{sym, _∙_}
 use borrow.Author.Tests.{not-true, not-false}
 use Rattle.sound.proofs.Facts.{processes-long}
-use Rattle.answers.specs.Step.{lent}
+use Rattle.sound.specs.Lent.{lent}
 use Rattle.view.proofs.Live.{no-process}
 use Rattle.actions.specs.Given.{newAction}
 use Rattle.actions.proofs.Actions.{action-fault, action-bad, action-gone, action-none}

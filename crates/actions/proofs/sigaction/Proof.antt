@@ -5,7 +5,7 @@ use Rattle.siginfo.proofs.Numbers.{bytes-each}
 use Rattle.rules.specs.Types.{action}
 use Rattle.sound.proofs.Facts.{processes-long, process-listed}
 use Rattle.answers.specs.Answers.{answerOf}
-use Rattle.answers.specs.Step.{lent}
+use Rattle.sound.specs.Lent.{lent}
 use Rattle.answers.proofs.Endings.{refused-ends}
 use Rattle.actions.specs.Given.{newAction}
 use Rattle.actions.proofs.Actions.{asked-signal, action-accepted, action-kept, action-ready, action-stored}

@@ -4,7 +4,7 @@ use borrow.Author.Needs.{needs}
 use borrow.Author.Tests.{not-true, not-false}
 use lib.ListN.{length}
 use Rattle.answers.specs.Answers.{answerOf}
-use Rattle.answers.specs.Step.{lent}
+use Rattle.sound.specs.Lent.{lent, given}
 use Rattle.calls.specs.Calls.{callOf}
 use Rattle.boundary.specs.Boundary.{arguments}
 use Rattle.boundary.proofs.Served.{accepted-call, accepted-room, turned-away, step-refused, step-answered}
@@ -14,7 +14,7 @@ use Rattle.boundary.proofs.serve.Tie as tie
 returns : tie.Need-returns
 returns c =
     let a = c .before .before .before .before .before .before .before .before .before .before .before .before in
-    turned-away (a .args .number) (arguments (a .args .a) (a .args .b) (a .args .c) (a .args .d) (a .args .e) (a .args .f) (a .args .x) (a .args .y) (a .args .z)) (length (a .args .out .now)) (lent (a .args .ps .now) (a .args .ts .now) (a .args .tb .now) (a .args .pb .now)) (a .args .out .now)
+    turned-away (a .args .number) (arguments (a .args .a) (a .args .b) (a .args .c) (a .args .d) (a .args .e) (a .args .f) (a .args .x) (a .args .y) (a .args .z)) (length (a .args .out .now)) (given (a .args .ps) (a .args .ts) (a .args .tb) (a .args .pb)) (a .args .out .now)
     (sym (c .before .before .before .before .before .before .is-accepted .ensures) ∙ not-true _ (c .before .before .before .before .before .if1 .taken)) (c .refusal .result) (c .refusal .ensures)
 
 call-of-requires : tie.Need-call-of-requires
@@ -26,7 +26,7 @@ returns-2 : tie.Need-returns-2
 returns-2 c =
     let s = c .before .before .before .before .before .before .before .before .before .before in
     let a = s .before .before .before .before .before .before .before .before .before .before .before .before .before in
-    step-refused (a .args .number) (arguments (a .args .a) (a .args .b) (a .args .c) (a .args .d) (a .args .e) (a .args .f) (a .args .x) (a .args .y) (a .args .z)) (length (a .args .out .now)) (lent (a .args .ps .now) (a .args .ts .now) (a .args .tb .now) (a .args .pb .now)) (a .args .out .now)
+    step-refused (a .args .number) (arguments (a .args .a) (a .args .b) (a .args .c) (a .args .d) (a .args .e) (a .args .f) (a .args .x) (a .args .y) (a .args .z)) (length (a .args .out .now)) (given (a .args .ps) (a .args .ts) (a .args .tb) (a .args .pb)) (a .args .out .now)
     (sym (s .before .before .before .before .before .before .before .is-accepted .ensures) ∙ not-false _ (s .before .before .before .before .before .before .if1 .left)) (callOf (s .before .call-of .result)) (s .before .call-of .ensures) (answerOf (s .step .result))
     (lent (s .step .last .0) (s .step .last .1 .0) (s .step .last .1 .1 .0) (s .step .last .1 .1 .1 .0)) (s .step .ensures .0) (s .step .ensures .1)
     (c .before .errno-of .result) (c .before .errno-of .ensures) (c .if2 .taken)
@@ -41,7 +41,7 @@ returns-3 : tie.Need-returns-3
 returns-3 c =
     let s = c .before .before .before .before .before .before .before .before .before .before .before .before .before .before .before in
     let a = s .before .before .before .before .before .before .before .before .before .before .before .before .before in
-    step-answered (a .args .number) (arguments (a .args .a) (a .args .b) (a .args .c) (a .args .d) (a .args .e) (a .args .f) (a .args .x) (a .args .y) (a .args .z)) (length (a .args .out .now)) (lent (a .args .ps .now) (a .args .ts .now) (a .args .tb .now) (a .args .pb .now)) (a .args .out .now)
+    step-answered (a .args .number) (arguments (a .args .a) (a .args .b) (a .args .c) (a .args .d) (a .args .e) (a .args .f) (a .args .x) (a .args .y) (a .args .z)) (length (a .args .out .now)) (given (a .args .ps) (a .args .ts) (a .args .tb) (a .args .pb)) (a .args .out .now)
     (sym (s .before .before .before .before .before .before .before .is-accepted .ensures) ∙ not-false _ (s .before .before .before .before .before .before .if1 .left)) (callOf (s .before .call-of .result)) (s .before .call-of .ensures) (answerOf (s .step .result))
     (lent (s .step .last .0) (s .step .last .1 .0) (s .step .last .1 .1 .0) (s .step .last .1 .1 .1 .0)) (s .step .ensures .0) (s .step .ensures .1)
     (c .before .before .before .before .before .before .errno-of .result) (c .before .before .before .before .before .before .errno-of .ensures) (c .before .before .before .before .before .if2 .left) (c .before .before .before .words-of .result) (c .before .before .write .last .0) (c .before .before .before .words-of .ensures) (c .before .before .write .ensures)

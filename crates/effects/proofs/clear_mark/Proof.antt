@@ -3,9 +3,8 @@ use mathlib.Core.Path.{refl}
 use borrow.Author.Needs.{needs}
 use borrow.Author.Tests.{ne-eqb}
 use Rattle.rules.specs.View.{targetQueue, clearMark}
-use Rattle.rules.specs.Store.{view}
 use Rattle.rules.proofs.Queues.{target-process, target-thread, queue-target}
-use Rattle.sound.specs.Lent.{storeOf}
+use Rattle.sound.specs.Lent.{lent, viewOf}
 use Rattle.sound.proofs.Facts.{processes-long, threads-long, process-listed, thread-listed}
 use Rattle.effects.proofs.After.{after}
 use Rattle.effects.proofs.Fitted.{unmark-queue}
@@ -22,7 +21,7 @@ change-process-marks-requires c κs =
     let pb = a .args .pb .now in
     let n = a .args .process in
     let t = a .args .thread in
-    let v = view (storeOf ps ts tb pb) in
+    let v = viewOf (lent ps ts tb pb) in
     (processes-long ps ts tb pb (a .pre .0), process-listed ps ts tb pb n (target-process v n t (queue-target v n t (unmark-queue v (targetQueue n t) (a .args .signal) (a .pre .1)))))
 
 change-thread-marks-requires : tie.Need-change-thread-marks-requires
@@ -34,7 +33,7 @@ change-thread-marks-requires c κs =
     let pb = a .args .pb .now in
     let n = a .args .process in
     let t = a .args .thread in
-    let v = view (storeOf ps ts tb pb) in (
+    let v = viewOf (lent ps ts tb pb) in (
       threads-long ps ts tb pb (a .pre .0),
       thread-listed ps ts tb pb t (target-thread v n t (queue-target v n t (unmark-queue v (targetQueue n t) (a .args .signal) (a .pre .1))) (ne-eqb t 0 (c .before .if1 .left))),
     )

@@ -1,8 +1,7 @@
 -- `discard` meets its contract: both buffers, the marks of the process and those of its threads. Assumes nothing.
 use borrow.Author.Needs.{needs}
 use Rattle.rules.specs.View.{discard}
-use Rattle.rules.specs.Store.{view}
-use Rattle.sound.specs.Lent.{storeOf}
+use Rattle.sound.specs.Lent.{lent, viewOf}
 use Rattle.sound.proofs.Facts.{processes-long, threads-long, thread-buffer-laid, process-buffer-laid, process-listed}
 use Rattle.effects.proofs.After.{after}
 use Rattle.effects.proofs.Fitted.{discard-live}
@@ -27,7 +26,7 @@ change-process-marks-requires c κs =
     let ts = a .args .ts .now in
     let tb = a .args .tb .now in
     let pb = a .args .pb .now in
-    let live = discard-live (view (storeOf ps ts tb pb)) (a .args .process) (a .args .signals) (a .pre .1) in
+    let live = discard-live (viewOf (lent ps ts tb pb)) (a .args .process) (a .args .signals) (a .pre .1) in
     (processes-long ps ts tb pb (a .pre .0), process-listed ps ts tb pb (a .args .process) live)
 
 change-threads-marks-requires : tie.Need-change-threads-marks-requires

@@ -1,8 +1,7 @@
 -- `remove_process` meets its contract: its place, those of its threads and both buffers. Assumes nothing.
 use borrow.Author.Needs.{needs}
 use Rattle.rules.specs.View.{removeProcess}
-use Rattle.rules.specs.Store.{view}
-use Rattle.sound.specs.Lent.{storeOf}
+use Rattle.sound.specs.Lent.{lent, viewOf}
 use Rattle.sound.proofs.Facts.{processes-long, threads-long, thread-buffer-laid, process-buffer-laid}
 use Rattle.effects.proofs.After.{after}
 use Rattle.effects.proofs.Fitted.{ended-live}
@@ -25,7 +24,7 @@ clear-process-requires c κs =
     let tb = a .args .tb .now in
     let pb = a .args .pb .now in
     let n = a .args .process in
-    let live = ended-live (view (storeOf ps ts tb pb)) n (a .pre .1) in
+    let live = ended-live (viewOf (lent ps ts tb pb)) n (a .pre .1) in
     (processes-long ps ts tb pb (a .pre .0), process-inside ps ts tb pb n (d .find-process .result) live (d .find-process .ensures))
 
 vacate-threads-requires : tie.Need-vacate-threads-requires

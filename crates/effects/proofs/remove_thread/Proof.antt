@@ -2,8 +2,7 @@
 use mathlib.Core.Path.{refl}
 use borrow.Author.Needs.{needs}
 use Rattle.rules.specs.View.{removeThread}
-use Rattle.rules.specs.Store.{view}
-use Rattle.sound.specs.Lent.{storeOf}
+use Rattle.sound.specs.Lent.{lent, viewOf}
 use Rattle.sound.proofs.Facts.{threads-long, thread-buffer-laid, process-buffer-laid}
 use Rattle.effects.proofs.After.{after}
 use Rattle.effects.proofs.Fitted.{removed-live}
@@ -26,7 +25,7 @@ clear-thread-requires c κs =
     let tb = a .args .tb .now in
     let pb = a .args .pb .now in
     let n = a .args .thread in
-    let live = removed-live (view (storeOf ps ts tb pb)) n (a .pre .1) in
+    let live = removed-live (viewOf (lent ps ts tb pb)) n (a .pre .1) in
     (threads-long ps ts tb pb (a .pre .0), thread-inside ps ts tb pb n (d .find-thread .result) live (d .find-thread .ensures))
 
 discard-requires : tie.Need-discard-requires

@@ -2,8 +2,7 @@
 use mathlib.Core.Path.{refl}
 use borrow.Author.Needs.{needs}
 use Rattle.rules.specs.View.{setAction}
-use Rattle.rules.specs.Store.{view}
-use Rattle.sound.specs.Lent.{storeOf}
+use Rattle.sound.specs.Lent.{lent, viewOf}
 use Rattle.sound.proofs.Facts.{processes-long}
 use Rattle.effects.proofs.After.{after}
 use Rattle.effects.proofs.Fitted.{action-live, action-signal}
@@ -26,7 +25,7 @@ put-action-requires c κs =
     let tb = a .args .tb .now in
     let pb = a .args .pb .now in
     let n = a .args .process in
-    let v = view (storeOf ps ts tb pb) in
+    let v = viewOf (lent ps ts tb pb) in
     let live = action-live v n (a .args .signal) (a .args .a) (a .pre .1) in
     let signal = action-signal v n (a .args .signal) (a .args .a) (a .pre .1) in
     (processes-long ps ts tb pb (a .pre .0), (process-inside ps ts tb pb n (d .find-process .result) live (d .find-process .ensures), (signal .low, signal .high)))
@@ -43,7 +42,7 @@ returns c =
     let n = a .args .process in
     let s = a .args .signal in
     let ps′ = w .put-action .last .0 in
-    let live = action-live (view (storeOf ps ts tb pb)) n s (a .args .a) (a .pre .1) in
+    let live = action-live (viewOf (lent ps ts tb pb)) n s (a .args .a) (a .pre .1) in
     after (setAction n s (a .args .a)) ps ts tb pb ps′ ts tb pb (a .pre .0) (a .pre .1) (search needs) refl refl refl
     (action-store ps ts tb pb (a .pre .0) n (d .find-process .result) live (d .find-process .ensures) ps′ s (a .args .a) (w .put-action .ensures))
 

@@ -3,8 +3,7 @@ use mathlib.Core.Path.{refl}
 use native.Mathlib.Omega.{arith}
 use borrow.Author.Needs.{needs}
 use Rattle.rules.specs.View.{setMask}
-use Rattle.rules.specs.Store.{view}
-use Rattle.sound.specs.Lent.{storeOf}
+use Rattle.sound.specs.Lent.{lent, viewOf}
 use Rattle.sound.proofs.Facts.{threads-long}
 use Rattle.effects.proofs.After.{after}
 use Rattle.effects.proofs.Fitted.{mask-live}
@@ -27,7 +26,7 @@ put-thread-field-requires c κs =
     let tb = a .args .tb .now in
     let pb = a .args .pb .now in
     let n = a .args .thread in
-    let live = mask-live (view (storeOf ps ts tb pb)) n (a .args .mask) (a .pre .1) in
+    let live = mask-live (viewOf (lent ps ts tb pb)) n (a .args .mask) (a .pre .1) in
     (threads-long ps ts tb pb (a .pre .0), (thread-inside ps ts tb pb n (d .find-thread .result) live (d .find-thread .ensures), omega arith))
 
 returns : tie.Need-returns
@@ -42,7 +41,7 @@ returns c =
     let n = a .args .thread in
     let m = a .args .mask in
     let ts′ = w .put-thread-field .last .0 in
-    let live = mask-live (view (storeOf ps ts tb pb)) n m (a .pre .1) in
+    let live = mask-live (viewOf (lent ps ts tb pb)) n m (a .pre .1) in
     after (setMask n m) ps ts tb pb ps ts′ tb pb (a .pre .0) (a .pre .1) refl (search needs) refl refl
     (mask-store ps ts tb pb (a .pre .0) n (d .find-thread .result) live (d .find-thread .ensures) ts′ m (w .put-thread-field .ensures))
 

@@ -3,8 +3,7 @@ use mathlib.Core.Path.{refl}
 use native.Mathlib.Omega.{arith}
 use borrow.Author.Needs.{needs}
 use Rattle.rules.specs.View.{setStopped}
-use Rattle.rules.specs.Store.{view}
-use Rattle.sound.specs.Lent.{storeOf}
+use Rattle.sound.specs.Lent.{lent, viewOf}
 use Rattle.sound.proofs.Facts.{processes-long}
 use Rattle.effects.proofs.After.{after}
 use Rattle.effects.proofs.Fitted.{stopped-live}
@@ -27,7 +26,7 @@ put-field-requires c κs =
     let tb = a .args .tb .now in
     let pb = a .args .pb .now in
     let n = a .args .process in
-    let live = stopped-live (view (storeOf ps ts tb pb)) n (a .args .stopped) (a .pre .1) in
+    let live = stopped-live (viewOf (lent ps ts tb pb)) n (a .args .stopped) (a .pre .1) in
     (processes-long ps ts tb pb (a .pre .0), (process-inside ps ts tb pb n (d .find-process .result) live (d .find-process .ensures), omega arith))
 
 returns : tie.Need-returns
@@ -42,7 +41,7 @@ returns c =
     let n = a .args .process in
     let b = a .args .stopped in
     let ps′ = w .put-field .last .0 in
-    let live = stopped-live (view (storeOf ps ts tb pb)) n b (a .pre .1) in
+    let live = stopped-live (viewOf (lent ps ts tb pb)) n b (a .pre .1) in
     after (setStopped n b) ps ts tb pb ps′ ts tb pb (a .pre .0) (a .pre .1) (search needs) refl refl refl
     (stopped-store ps ts tb pb (a .pre .0) n (d .find-process .result) live (d .find-process .ensures) ps′ b (w .put-field .ensures))
 

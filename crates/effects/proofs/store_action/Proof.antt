@@ -1,7 +1,7 @@
 -- `store_action` meets its contract: the discard of an ignored signal, and the action. Assumes nothing.
 use mathlib.Core.Path.{sym, _∙_}
 use borrow.Author.Needs.{needs}
-use Rattle.sound.specs.Lent.{storeOf}
+use Rattle.sound.specs.Lent.{lent, decoded}
 use Rattle.effects.proofs.Stores.{not-ignored-fits, not-ignored-made, discard-fits, action-then-fits, both-made}
 use Rattle.effects.proofs.store_action.Statement.{statement}
 use Rattle.effects.proofs.store_action.Tie as tie
@@ -13,7 +13,7 @@ discard-requires c κs =
     let ts = a .args .ts .now in
     let tb = a .args .tb .now in
     let pb = a .args .pb .now in
-    let st = storeOf ps ts tb pb in
+    let st = decoded (lent ps ts tb pb) in
     let p = a .args .process in
     let s = a .args .signal in
     let i = sym (c .before .before .before .before .before .before .is-ignored .ensures) ∙ c .before .before .before .before .before .if1 .taken in
@@ -27,11 +27,11 @@ set-action-requires c κs =
     let ts = a .args .ts .now in
     let tb = a .args .tb .now in
     let pb = a .args .pb .now in
-    let st = storeOf ps ts tb pb in
+    let st = decoded (lent ps ts tb pb) in
     let p = a .args .process in
     let s = a .args .signal in
     let i = sym (d .before .before .before .before .before .before .before .is-ignored .ensures) ∙ d .before .before .before .before .before .before .if1 .taken in
-    let st′ = storeOf (d .discard .last .0) (d .discard .last .1 .0) (d .discard .last .1 .1 .0) (d .discard .last .1 .1 .1 .0) in (
+    let st′ = decoded (lent (d .discard .last .0) (d .discard .last .1 .0) (d .discard .last .1 .1 .0) (d .discard .last .1 .1 .1 .0)) in (
       d .discard .ensures .1,
       action-then-fits p s (a .args .a) st (a .pre .1) i (d .before .of-signal .result) (d .before .of-signal .ensures) st′ (d .discard .ensures .0),
     )
@@ -43,7 +43,7 @@ set-action-requires-2 c κs =
     let ts = a .args .ts .now in
     let tb = a .args .tb .now in
     let pb = a .args .pb .now in
-    let st = storeOf ps ts tb pb in
+    let st = decoded (lent ps ts tb pb) in
     let p = a .args .process in
     let s = a .args .signal in
     let i = sym (c .before .before .before .before .before .is-ignored .ensures) ∙ c .before .before .before .before .if1 .left in
@@ -58,15 +58,15 @@ returns c =
     let ts = a .args .ts .now in
     let tb = a .args .tb .now in
     let pb = a .args .pb .now in
-    let st = storeOf ps ts tb pb in
+    let st = decoded (lent ps ts tb pb) in
     let p = a .args .process in
     let s = a .args .signal in
     let i = sym (d .before .before .before .before .before .before .before .is-ignored .ensures) ∙ d .before .before .before .before .before .before .if1 .taken in
     let ts′ = d .discard .last .1 .0 in
     let tb′ = d .discard .last .1 .1 .0 in
     let pb′ = d .discard .last .1 .1 .1 .0 in
-    let st′ = storeOf (d .discard .last .0) ts′ tb′ pb′ in
-    let st″ = storeOf (w .set-action .last .0) ts′ tb′ pb′ in (
+    let st′ = decoded (lent (d .discard .last .0) ts′ tb′ pb′) in
+    let st″ = decoded (lent (w .set-action .last .0) ts′ tb′ pb′) in (
       both-made p s (a .args .a) st (a .pre .1) i (d .before .of-signal .result) (d .before .of-signal .ensures) st′ (d .discard .ensures .0) st″ (w .set-action .ensures .0),
       w .set-action .ensures .1,
     )
@@ -79,11 +79,11 @@ returns-2 c =
     let ts = a .args .ts .now in
     let tb = a .args .tb .now in
     let pb = a .args .pb .now in
-    let st = storeOf ps ts tb pb in
+    let st = decoded (lent ps ts tb pb) in
     let p = a .args .process in
     let s = a .args .signal in
     let i = sym (c .before .before .before .before .before .before .before .before .is-ignored .ensures) ∙ c .before .before .before .before .before .before .before .if1 .left in
-    (not-ignored-made p s (a .args .a) st (a .pre .1) i (storeOf (w .set-action2 .last .0) ts tb pb) (w .set-action2 .ensures .0), w .set-action2 .ensures .1)
+    (not-ignored-made p s (a .args .a) st (a .pre .1) i (decoded (lent (w .set-action2 .last .0) ts tb pb)) (w .set-action2 .ensures .0), w .set-action2 .ensures .1)
 
 pub store-action-spec : {M : Type 1} → statement M
 store-action-spec =

@@ -1,7 +1,7 @@
 -- `end_process` meets its contract: refused, or the process is gone. Assumes nothing.
 use native.Mathlib.Omega.{arith}
 use Rattle.siginfo.proofs.Numbers.{bytes-each}
-use Rattle.answers.specs.Step.{lent}
+use Rattle.sound.specs.Lent.{lent}
 use Rattle.ending.proofs.Ended.{process-kept, process-can-end, process-ended}
 use borrow.Author.Needs.{needs}
 use Rattle.ending.proofs.end_process.Statement.{statement}

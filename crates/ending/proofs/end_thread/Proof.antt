@@ -1,7 +1,7 @@
 -- `end_thread` meets its contract: refused, or the thread is gone, and its process with it where it was the last one. Assumes nothing.
 use native.Mathlib.Omega.{arith}
 use Rattle.siginfo.proofs.Numbers.{bytes-each}
-use Rattle.answers.specs.Step.{lent}
+use Rattle.sound.specs.Lent.{lent}
 use Rattle.ending.proofs.Ended.{thread-kept, thread-can-end, thread-ended}
 use borrow.Author.Needs.{needs}
 use Rattle.ending.proofs.end_thread.Statement.{statement}

@@ -1,5 +1,5 @@
 -- `remove` meets its contract: the thread goes, or its process with it. Assumes nothing.
-use Rattle.sound.specs.Lent.{storeOf}
+use Rattle.sound.specs.Lent.{lent, decoded}
 use Rattle.view.proofs.Live.{owner-known}
 use Rattle.ending.proofs.Ended.{thread-fits, process-fits, thread-removed, process-removed}
 use borrow.Author.Needs.{needs}
@@ -40,7 +40,7 @@ returns c =
     let a = o .before .before .before .before .before .before .before .before in
     thread-removed (a .args .ps .now) (a .args .ts .now) (a .args .tb .now) (a .args .pb .now) (a .pre .0) (a .args .thread) (a .pre .1)
     (o .before .before .process-of .result) (o .before .before .process-of .ensures) (o .has-other .result) (o .has-other .ensures) (i .if1 .taken)
-    (storeOf (a .args .ps .now) (f .remove-thread .last .1 .0) (f .remove-thread .last .1 .1 .0) (f .remove-thread .last .1 .1 .1 .0)) (f .remove-thread .ensures .0)
+    (decoded (lent (a .args .ps .now) (f .remove-thread .last .1 .0) (f .remove-thread .last .1 .1 .0) (f .remove-thread .last .1 .1 .1 .0))) (f .remove-thread .ensures .0)
 
 returns-2 : tie.Need-returns-2
 returns-2 c =
@@ -50,7 +50,7 @@ returns-2 c =
     let a = o .before .before .before .before .before .before .before .before in
     process-removed (a .args .ps .now) (a .args .ts .now) (a .args .tb .now) (a .args .pb .now) (a .pre .0) (a .args .thread) (a .pre .1)
     (o .before .before .process-of .result) (o .before .before .process-of .ensures) (o .has-other .result) (o .has-other .ensures) (i .if1 .left)
-    (storeOf (f .remove-process .last .0) (f .remove-process .last .1 .0) (f .remove-process .last .1 .1 .0) (f .remove-process .last .1 .1 .1 .0)) (f .remove-process .ensures .0)
+    (decoded (lent (f .remove-process .last .0) (f .remove-process .last .1 .0) (f .remove-process .last .1 .1 .0) (f .remove-process .last .1 .1 .1 .0))) (f .remove-process .ensures .0)
 
 pub remove-spec : {M : Type 1} → statement M
 remove-spec =

@@ -3,8 +3,7 @@ use mathlib.Core.Path.{_≡_, sym, _∙_}
 use mathlib.Core.Bool.{true}
 use native.Mathlib.Omega.{arith}
 use Rattle.rules.specs.View.{belongsTo}
-use Rattle.rules.specs.Store.{view}
-use Rattle.sound.specs.Lent.{storeOf}
+use Rattle.sound.specs.Lent.{viewOf, given}
 use Rattle.sound.proofs.Facts.{threads-long}
 use Rattle.looking.proofs.Takers.{threadIn, id-read, owner-read, owned, nobody-takes, other-takes, id-live, id-small, id-takes}
 use Rattle.looking.proofs.can_take.Statement.{statement}
@@ -13,7 +12,7 @@ use Rattle.looking.proofs.can_take.Tie as tie
 returns : tie.Need-returns
 returns c =
     let a = c .before .before .before .before .before in
-    nobody-takes (view (storeOf (a .args .ps .now) (a .args .ts .now) (a .args .tb .now) (a .args .pb .now))) (a .args .process) (threadIn (a .args .ts .now) (a .args .place)) (c .if1 .taken)
+    nobody-takes (viewOf (given (a .args .ps) (a .args .ts) (a .args .tb) (a .args .pb))) (a .args .process) (threadIn (a .args .ts .now) (a .args .place)) (c .if1 .taken)
 
 thread-field-at-requires : tie.Need-thread-field-at-requires
 thread-field-at-requires c κs =
@@ -24,7 +23,7 @@ returns-2 : tie.Need-returns-2
 returns-2 c =
     let a = c .before .before .before .before .before .before .before in
     let o = owner-read (a .args .ts .now) (a .args .place) (c .before .thread-field-at .result) (c .before .thread-field-at .ensures) in
-    other-takes (view (storeOf (a .args .ps .now) (a .args .ts .now) (a .args .tb .now) (a .args .pb .now))) (a .args .process) (threadIn (a .args .ts .now) (a .args .place)) (λ z. c .if2 .taken (o ∙ z))
+    other-takes (viewOf (given (a .args .ps) (a .args .ts) (a .args .tb) (a .args .pb))) (a .args .process) (threadIn (a .args .ts .now) (a .args .place)) (λ z. c .if2 .taken (o ∙ z))
 
 -- past both tests the thread is of the process
 is-own : (c : tie.Else2) → belongsTo (c .before .before .before .before .before .before .before .args .process) (threadIn (c .before .before .before .before .before .before .before .args .ts .now) (c .before .before .before .before .before .before .before .args .place)) ≡ true

@@ -1,15 +1,15 @@
 -- `look_part` meets its contract. Assumes nothing.
 use mathlib.Core.Path.{_∙_}
 use borrow.Author.Needs.{needs}
-use Rattle.answers.specs.Step.{lent}
+use Rattle.sound.specs.Lent.{given}
 use Rattle.looking.specs.Looks.{lookBytes}
 use Rattle.looking.proofs.Slots.{Told, told}
 use Rattle.looking.proofs.look_part.Statement.{statement}
 use Rattle.looking.proofs.look_part.Tie as tie
 
 -- what the number tells
-told-here : (c : tie.After-look-slot) → Told (lent (c .before .before .before .before .before .args .ps .now) (c .before .before .before .before .before .args .ts .now) (c .before .before .before .before .before .args .tb .now) (c .before .before .before .before .before .args .pb .now)) (c .look-slot .result) (lookBytes (c .before .before .before .before .before .args .thread) (lent (c .before .before .before .before .before .args .ps .now) (c .before .before .before .before .before .args .ts .now) (c .before .before .before .before .before .args .tb .now) (c .before .before .before .before .before .args .pb .now)))
-told-here c = told (c .before .before .before .before .before .args .thread) (lent (c .before .before .before .before .before .args .ps .now) (c .before .before .before .before .before .args .ts .now) (c .before .before .before .before .before .args .tb .now) (c .before .before .before .before .before .args .pb .now)) (c .look-slot .result) (c .look-slot .ensures)
+told-here : (c : tie.After-look-slot) → Told (given (c .before .before .before .before .before .args .ps) (c .before .before .before .before .before .args .ts) (c .before .before .before .before .before .args .tb) (c .before .before .before .before .before .args .pb)) (c .look-slot .result) (lookBytes (c .before .before .before .before .before .args .thread) (given (c .before .before .before .before .before .args .ps) (c .before .before .before .before .before .args .ts) (c .before .before .before .before .before .args .tb) (c .before .before .before .before .before .args .pb)))
+told-here c = told (c .before .before .before .before .before .args .thread) (given (c .before .before .before .before .before .args .ps) (c .before .before .before .before .before .args .ts) (c .before .before .before .before .before .args .tb) (c .before .before .before .before .before .args .pb)) (c .look-slot .result) (c .look-slot .ensures)
 
 returns : tie.Need-returns
 returns c = told-here (c .before .before) .nothing (c .before .if1 .taken)

@@ -3,14 +3,14 @@ use mathlib.Core.Path.{_≡_}
 use mathlib.Core.Bool.{true}
 use native.Mathlib.Omega.{arith}
 use borrow.Author.Needs.{needs}
-use Rattle.sound.specs.Lent.{soundTables}
+use Rattle.sound.specs.Lent.{soundTables, given}
 use Rattle.sound.proofs.Facts.{thread-buffer-long, process-buffer-long}
 use Rattle.looking.proofs.Looks.{look-sound, look-live, found-small, slot-refused, slot-nothing, slot-mark, slot-shared, slot-own}
 use Rattle.looking.proofs.look_slot.Statement.{statement}
 use Rattle.looking.proofs.look_slot.Tie as tie
 
 -- past the refusal the tables are sound
-sound-here : (c : tie.Else1) → soundTables (c .before .before .before .before .before .before .args .ps .now) (c .before .before .before .before .before .before .args .ts .now) (c .before .before .before .before .before .before .args .tb .now) (c .before .before .before .before .before .before .args .pb .now) ≡ true
+sound-here : (c : tie.Else1) → soundTables (given (c .before .before .before .before .before .before .args .ps) (c .before .before .before .before .before .before .args .ts) (c .before .before .before .before .before .before .args .tb) (c .before .before .before .before .before .before .args .pb)) ≡ true
 sound-here c =
     let a = c .before .before .before .before .before .before in
     look-sound (a .args .ps .now) (a .args .ts .now) (a .args .tb .now) (a .args .pb .now) (a .args .thread) (c .before .thread-refusal .result) (c .before .thread-refusal .ensures) (c .if1 .left)

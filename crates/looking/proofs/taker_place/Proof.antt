@@ -8,18 +8,17 @@ use Rattle.limits.specs.Limits.{threadPlaces}
 use Rattle.lists.specs.Lists.{find}
 use Rattle.lists.proofs.Loops.{find-none, find-more, find-here, find-done}
 use Rattle.rules.specs.Types.{noThread}
-use Rattle.rules.specs.Store.{view}
 use Rattle.rules.specs.Taking.{canTakeSome}
 use Rattle.tables.specs.Tables.{heldThreads}
 use Rattle.tables.proofs.Words.{length-heldThreads}
-use Rattle.sound.specs.Lent.{storeOf}
+use Rattle.sound.specs.Lent.{lent, viewOf, given}
 use Rattle.looking.proofs.taker_place.Statement.{statement}
 use Rattle.looking.proofs.taker_place.Tie as tie
 
 abbrev Inv-loop : tie.InvT-loop
 Inv-loop ps ts tb pb process i₀ i =
     (i ≤ threadPlaces)
-    × (find (canTakeSome (view (storeOf ps ts tb pb)) process) (heldThreads ts) ≡ i + find (canTakeSome (view (storeOf ps ts tb pb)) process) (drop i (heldThreads ts)))
+    × (find (canTakeSome (viewOf (lent ps ts tb pb)) process) (heldThreads ts) ≡ i + find (canTakeSome (viewOf (lent ps ts tb pb)) process) (drop i (heldThreads ts)))
 
 abbrev μ-loop : tie.MeasureT-loop
 μ-loop ps ts tb pb process i₀ i = threadPlaces - i
@@ -27,7 +26,7 @@ abbrev μ-loop : tie.MeasureT-loop
 loop-holds : tie.Need-loop-holds Inv-loop μ-loop
 loop-holds c =
     let a = c .before .before .before .before in
-    (omega arith, find-none (canTakeSome (view (storeOf (a .args .ps .now) (a .args .ts .now) (a .args .tb .now) (a .args .pb .now))) (a .args .process)) noThread (heldThreads (a .args .ts .now)))
+    (omega arith, find-none (canTakeSome (viewOf (given (a .args .ps) (a .args .ts) (a .args .tb) (a .args .pb))) (a .args .process)) noThread (heldThreads (a .args .ts .now)))
 
 can-take-requires : tie.Need-can-take-requires Inv-loop μ-loop
 can-take-requires c κs = (c .before .before .before .before .before .before .pre, omega arith)
@@ -36,7 +35,7 @@ returns : tie.Need-returns Inv-loop μ-loop
 returns c =
     let l = c .before .before .before in
     let a = l .before .before .before .before .before in
-    sym (find-here (canTakeSome (view (storeOf (a .args .ps .now) (a .args .ts .now) (a .args .tb .now) (a .args .pb .now))) (a .args .process)) noThread (heldThreads (a .args .ts .now)) (l .loop .i)
+    sym (find-here (canTakeSome (viewOf (given (a .args .ps) (a .args .ts) (a .args .tb) (a .args .pb))) (a .args .process)) noThread (heldThreads (a .args .ts .now)) (l .loop .i)
     (rw length-heldThreads (omega arith)) (l .loop .inv .1) (sym (c .before .can-take .ensures) ∙ c .if1 .taken))
 
 loop-again : tie.Need-loop-again Inv-loop μ-loop
@@ -44,7 +43,7 @@ loop-again c =
     let l = c .before .before .before in
     let a = l .before .before .before .before .before in (
       omega arith,
-      find-more (canTakeSome (view (storeOf (a .args .ps .now) (a .args .ts .now) (a .args .tb .now) (a .args .pb .now))) (a .args .process)) noThread (heldThreads (a .args .ts .now)) (l .loop .i)
+      find-more (canTakeSome (viewOf (given (a .args .ps) (a .args .ts) (a .args .tb) (a .args .pb))) (a .args .process)) noThread (heldThreads (a .args .ts .now)) (l .loop .i)
           (rw length-heldThreads (omega arith)) (l .loop .inv .1) (sym (c .before .can-take .ensures) ∙ c .if1 .left),
     )
 
@@ -52,7 +51,7 @@ returns-2 : tie.Need-returns-2 Inv-loop μ-loop
 returns-2 c =
     let l = c .before in
     let a = l .before .before .before .before .before in
-    sym (find-done (canTakeSome (view (storeOf (a .args .ps .now) (a .args .ts .now) (a .args .tb .now) (a .args .pb .now))) (a .args .process)) noThread (heldThreads (a .args .ts .now)) (l .loop .i)
+    sym (find-done (canTakeSome (viewOf (given (a .args .ps) (a .args .ts) (a .args .tb) (a .args .pb))) (a .args .process)) noThread (heldThreads (a .args .ts .now)) (l .loop .i)
     (rw length-heldThreads (omega arith)) (l .loop .inv .1))
 
 pub taker-place-spec : {M : Type 1} → statement M

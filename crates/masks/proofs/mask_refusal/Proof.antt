@@ -2,7 +2,7 @@
 use mathlib.Core.Path.{sym, _∙_}
 use borrow.Author.Tests.{not-true, not-false}
 use Rattle.sound.proofs.Facts.{threads-long}
-use Rattle.answers.specs.Step.{lent}
+use Rattle.sound.specs.Lent.{lent}
 use Rattle.view.proofs.Live.{no-thread}
 use Rattle.masks.specs.Given.{newSet}
 use Rattle.masks.proofs.Masks.{mask-fault, mask-bad, mask-gone, mask-none}

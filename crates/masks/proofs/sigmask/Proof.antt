@@ -5,7 +5,7 @@ use Rattle.siginfo.proofs.Numbers.{bytes-each}
 use Rattle.rules.specs.Types.{mask}
 use Rattle.sound.proofs.Facts.{threads-long, thread-listed}
 use Rattle.answers.specs.Answers.{answerOf}
-use Rattle.answers.specs.Step.{lent}
+use Rattle.sound.specs.Lent.{lent}
 use Rattle.answers.proofs.Endings.{refused-ends}
 use Rattle.masks.specs.Given.{newSet}
 use Rattle.masks.proofs.Masks.{mask-sound, mask-live, mask-kept, mask-ready, mask-stored}

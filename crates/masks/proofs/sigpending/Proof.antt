@@ -1,7 +1,7 @@
 -- `sigpending` meets its contract: refused, or the pending set. Assumes nothing.
 use Rattle.rules.specs.Types.{pending}
 use Rattle.answers.specs.Answers.{answerOf}
-use Rattle.answers.specs.Step.{lent}
+use Rattle.sound.specs.Lent.{lent}
 use Rattle.answers.proofs.Endings.{refused-ends}
 use Rattle.answers.proofs.Rows.{live-thread}
 use Rattle.masks.proofs.Pending.{pending-refusal, pending-answered}

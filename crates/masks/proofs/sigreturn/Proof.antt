@@ -1,6 +1,6 @@
 -- `sigreturn` meets its contract: it is sigmask with way 2. Assumes nothing.
 use mathlib.Core.Path.{ap, _∙_}
-use Rattle.answers.specs.Step.{lent}
+use Rattle.sound.specs.Lent.{lent}
 use Rattle.masks.specs.Given.{newSet}
 use Rattle.masks.proofs.Masks.{return-is}
 use borrow.Author.Needs.{needs}

@@ -3,8 +3,7 @@ use borrow.Author.Needs.{needs}
 use Rattle.next.proofs.next_of.Statement.{statement}
 use Rattle.next.proofs.next_of.Tie as tie
 use Rattle.rules.specs.View.{theThread}
-use Rattle.rules.specs.Store.{view}
-use Rattle.sound.specs.Lent.{storeOf}
+use Rattle.sound.specs.Lent.{viewOf, given}
 use Rattle.sound.proofs.Facts.{threads-long, thread-buffer-long, process-buffer-long, thread-listed}
 use Rattle.view.proofs.Live.{owner-good, own-queue}
 use Rattle.next.proofs.Nexts.{nothing-next, own-next, shared-next}
@@ -12,8 +11,8 @@ use Rattle.next.proofs.Nexts.{nothing-next, own-next, shared-next}
 returns : tie.Need-returns
 returns c =
     let a = c .before .before .before .before .before .before in
-    nothing-next (view (storeOf (a .args .ps .now) (a .args .ts .now) (a .args .tb .now) (a .args .pb .now)))
-    (theThread (view (storeOf (a .args .ps .now) (a .args .ts .now) (a .args .tb .now) (a .args .pb .now))) (a .args .thread))
+    nothing-next (viewOf (given (a .args .ps) (a .args .ts) (a .args .tb) (a .args .pb)))
+    (theThread (viewOf (given (a .args .ps) (a .args .ts) (a .args .tb) (a .args .pb))) (a .args .thread))
     (c .before .next-signal .result) (c .before .next-signal .ensures) (c .if1 .taken)
 
 process-of-requires : tie.Need-process-of-requires

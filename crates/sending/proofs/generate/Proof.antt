@@ -4,7 +4,7 @@ use mathlib.Core.List.{[]}
 use borrow.Author.Needs.{needs}
 use Rattle.rules.specs.View.{removeProcess, setMark, append, queueOf}
 use Rattle.rules.specs.Sending.{jobControl, sendChanges}
-use Rattle.sound.specs.Lent.{storeOf}
+use Rattle.sound.specs.Lent.{lent, decoded, given}
 use Rattle.effects.proofs.Chain.{made, made-none, made-one, starts, last-fits, last-made}
 use Rattle.sending.specs.Generations.{generationOf}
 use Rattle.sending.proofs.Carried.{of-testing, of-killing, of-marking, of-keeping, control-fits, of-control}
@@ -14,7 +14,7 @@ use Rattle.sending.proofs.generate.Tie as tie
 returns : tie.Need-returns
 returns c =
     let a = c .before .before .before .before .before .before in
-    let st = storeOf (a .args .ps .now) (a .args .ts .now) (a .args .tb .now) (a .args .pb .now) in
+    let st = decoded (given (a .args .ps) (a .args .ts) (a .args .tb) (a .args .pb)) in
     let f = a .args .f in
     let r = a .args .r in
     let cs = sendChanges (generationOf f) r in
@@ -25,7 +25,7 @@ returns c =
 remove-process-requires : tie.Need-remove-process-requires
 remove-process-requires c κs =
     let a = c .before .before .before .before .before .before .before .before .before .before in
-    let st = storeOf (a .args .ps .now) (a .args .ts .now) (a .args .tb .now) (a .args .pb .now) in
+    let st = decoded (given (a .args .ps) (a .args .ts) (a .args .tb) (a .args .pb)) in
     let f = a .args .f in
     let r = a .args .r in
     let cs = sendChanges (generationOf f) r in
@@ -38,12 +38,12 @@ returns-2 : tie.Need-returns-2
 returns-2 c =
     let d = removed c in
     let a = d .before .before .before .before .before .before .before .before .before .before .before in
-    let st = storeOf (a .args .ps .now) (a .args .ts .now) (a .args .tb .now) (a .args .pb .now) in
+    let st = decoded (given (a .args .ps) (a .args .ts) (a .args .tb) (a .args .pb)) in
     let f = a .args .f in
     let r = a .args .r in
     let cs = sendChanges (generationOf f) r in
     let k = d .remove-process in
-    let st′ = storeOf (k .last .0) (k .last .1 .0) (k .last .1 .1 .0) (k .last .1 .1 .1 .0) in
+    let st′ = decoded (lent (k .last .0) (k .last .1 .0) (k .last .1 .1 .0) (k .last .1 .1 .1 .0)) in
     (made-one cs st (removeProcess (r .process)) (of-killing f r (d .before .before .before .before .before .enum-told2 .given .1)) st′ (k .ensures .0), k .ensures .1)
 
 -- ---- job control, and a mark after it
@@ -51,19 +51,19 @@ returns-2 c =
 job-control-requires : tie.Need-job-control-requires
 job-control-requires c κs =
     let a = c .before .before .before .before .before .before .before .before .before in
-    let st = storeOf (a .args .ps .now) (a .args .ts .now) (a .args .tb .now) (a .args .pb .now) in
+    let st = decoded (given (a .args .ps) (a .args .ts) (a .args .tb) (a .args .pb)) in
     (a .pre .0, control-fits (a .args .f) (a .args .r) st (c .before .before .before .before .match .keys3) (a .pre .1))
 
 set-mark-requires : tie.Need-set-mark-requires
 set-mark-requires c κs =
     let d = c .before .before .before .before .before .before .before .before .before .before .before .before .before .before in
     let a = d .before .before .before .before .before .before .before .before .before .before in
-    let st = storeOf (a .args .ps .now) (a .args .ts .now) (a .args .tb .now) (a .args .pb .now) in
+    let st = decoded (given (a .args .ps) (a .args .ts) (a .args .tb) (a .args .pb)) in
     let f = a .args .f in
     let r = a .args .r in
     let cs = sendChanges (generationOf f) r in
     let k = d .job-control in
-    let st′ = storeOf (k .last .0) (k .last .1 .0) (k .last .1 .1 .0) (k .last .1 .1 .1 .0) in
+    let st′ = decoded (lent (k .last .0) (k .last .1 .0) (k .last .1 .1 .0) (k .last .1 .1 .1 .0)) in
     let j = jobControl (r .process) (r .signal) in
     let e = of-marking f r (c .before .before .before .before .enum-told3 .given .1) in
     (k .ensures .1, last-fits cs st (a .pre .1) j (setMark (queueOf r) (r .signal)) e st′ (k .ensures .0))
@@ -79,16 +79,16 @@ returns-3 c =
     let w = marked c in
     let d = before-mark c in
     let a = d .before .before .before .before .before .before .before .before .before .before in
-    let st = storeOf (a .args .ps .now) (a .args .ts .now) (a .args .tb .now) (a .args .pb .now) in
+    let st = decoded (given (a .args .ps) (a .args .ts) (a .args .tb) (a .args .pb)) in
     let f = a .args .f in
     let r = a .args .r in
     let cs = sendChanges (generationOf f) r in
     let k = d .job-control in
-    let st′ = storeOf (k .last .0) (k .last .1 .0) (k .last .1 .1 .0) (k .last .1 .1 .1 .0) in
+    let st′ = decoded (lent (k .last .0) (k .last .1 .0) (k .last .1 .1 .0) (k .last .1 .1 .1 .0)) in
     let j = jobControl (r .process) (r .signal) in
     let e = of-marking f r (w .before .before .before .before .before .enum-told3 .given .1) in (
       last-made cs st (a .pre .1) j (setMark (queueOf r) (r .signal)) e st′ (k .ensures .0)
-          (storeOf (w .set-mark .last .0) (w .set-mark .last .1 .0) (k .last .1 .1 .0) (k .last .1 .1 .1 .0)) (w .set-mark .ensures .0),
+          (decoded (lent (w .set-mark .last .0) (w .set-mark .last .1 .0) (k .last .1 .1 .0) (k .last .1 .1 .1 .0))) (w .set-mark .ensures .0),
       w .set-mark .ensures .1,
     )
 
@@ -98,12 +98,12 @@ append-requires : tie.Need-append-requires
 append-requires c κs =
     let d = c .before .before .before .before .before .before .before .before .before .before .before .before .before .before in
     let a = d .before .before .before .before .before .before .before .before .before .before in
-    let st = storeOf (a .args .ps .now) (a .args .ts .now) (a .args .tb .now) (a .args .pb .now) in
+    let st = decoded (given (a .args .ps) (a .args .ts) (a .args .tb) (a .args .pb)) in
     let f = a .args .f in
     let r = a .args .r in
     let cs = sendChanges (generationOf f) r in
     let k = d .job-control in
-    let st′ = storeOf (k .last .0) (k .last .1 .0) (k .last .1 .1 .0) (k .last .1 .1 .1 .0) in
+    let st′ = decoded (lent (k .last .0) (k .last .1 .0) (k .last .1 .1 .0) (k .last .1 .1 .1 .0)) in
     let j = jobControl (r .process) (r .signal) in
     let e = of-keeping f r (c .before .before .before .before .enum-told4 .given .1) in
     (k .ensures .1, last-fits cs st (a .pre .1) j (append r) e st′ (k .ensures .0))
@@ -119,16 +119,16 @@ returns-4 c =
     let w = kept c in
     let d = before-record c in
     let a = d .before .before .before .before .before .before .before .before .before .before in
-    let st = storeOf (a .args .ps .now) (a .args .ts .now) (a .args .tb .now) (a .args .pb .now) in
+    let st = decoded (given (a .args .ps) (a .args .ts) (a .args .tb) (a .args .pb)) in
     let f = a .args .f in
     let r = a .args .r in
     let cs = sendChanges (generationOf f) r in
     let k = d .job-control in
-    let st′ = storeOf (k .last .0) (k .last .1 .0) (k .last .1 .1 .0) (k .last .1 .1 .1 .0) in
+    let st′ = decoded (lent (k .last .0) (k .last .1 .0) (k .last .1 .1 .0) (k .last .1 .1 .1 .0)) in
     let j = jobControl (r .process) (r .signal) in
     let e = of-keeping f r (w .before .before .before .before .before .enum-told4 .given .1) in (
       last-made cs st (a .pre .1) j (append r) e st′ (k .ensures .0)
-          (storeOf (k .last .0) (k .last .1 .0) (w .append .last .1 .1 .0) (w .append .last .1 .1 .1 .0)) (w .append .ensures .0),
+          (decoded (lent (k .last .0) (k .last .1 .0) (w .append .last .1 .1 .0) (w .append .last .1 .1 .1 .0))) (w .append .ensures .0),
       w .append .ensures .1,
     )
 
@@ -141,12 +141,12 @@ returns-5 : tie.Need-returns-5
 returns-5 c =
     let d = controlled c in
     let a = d .before .before .before .before .before .before .before .before .before .before in
-    let st = storeOf (a .args .ps .now) (a .args .ts .now) (a .args .tb .now) (a .args .pb .now) in
+    let st = decoded (given (a .args .ps) (a .args .ts) (a .args .tb) (a .args .pb)) in
     let f = a .args .f in
     let r = a .args .r in
     let cs = sendChanges (generationOf f) r in
     let k = d .job-control in
-    let st′ = storeOf (k .last .0) (k .last .1 .0) (k .last .1 .1 .0) (k .last .1 .1 .1 .0) in
+    let st′ = decoded (lent (k .last .0) (k .last .1 .0) (k .last .1 .1 .0) (k .last .1 .1 .1 .0)) in
     let j = jobControl (r .process) (r .signal) in
     (made cs st j (of-control f r (d .before .before .before .before .before .match .keys3) (c .match2 .keys3)) st′ (k .ensures .0), k .ensures .1)
 

@@ -5,7 +5,7 @@ use native.Mathlib.Omega.{arith}
 use Rattle.rules.specs.View.{targetQueue, liveProcess}
 use Rattle.rules.specs.Store.{view}
 use Rattle.rules.proofs.Queues.{queue-target, target-process}
-use Rattle.sound.specs.Lent.{storeOf}
+use Rattle.sound.specs.Lent.{lent, decoded, viewOf, given}
 use Rattle.sound.proofs.Facts.{processes-long}
 use Rattle.sending.specs.Generations.{generationOf}
 use Rattle.sending.proofs.Decided.{is-testing, is-killing, is-stopping, is-dropping, is-absorbing, is-keeping, is-marking, ignored-read}
@@ -16,7 +16,7 @@ returns : tie.Need-returns
 unfolding generationOf
 returns c =
     let a = c .before .before .before .before .before in
-    let v = view (storeOf (a .args .ps .now) (a .args .ts .now) (a .args .tb .now) (a .args .pb .now)) in
+    let v = viewOf (given (a .args .ps) (a .args .ts) (a .args .tb) (a .args .pb)) in
     let q = targetQueue (a .args .process) (a .args .thread) in
     is-testing v (a .args .queued) q (a .args .signal) (c .if1 .taken)
 
@@ -24,7 +24,7 @@ returns-2 : tie.Need-returns-2
 unfolding generationOf
 returns-2 c =
     let a = c .before .before .before .before .before .before in
-    let v = view (storeOf (a .args .ps .now) (a .args .ts .now) (a .args .tb .now) (a .args .pb .now)) in
+    let v = viewOf (given (a .args .ps) (a .args .ts) (a .args .tb) (a .args .pb)) in
     let q = targetQueue (a .args .process) (a .args .thread) in
     is-killing v (a .args .queued) q (a .args .signal) (c .before .if1 .left) (c .if2 .taken)
 
@@ -32,19 +32,19 @@ returns-3 : tie.Need-returns-3
 unfolding generationOf
 returns-3 c =
     let a = c .before .before .before .before .before .before .before in
-    let v = view (storeOf (a .args .ps .now) (a .args .ts .now) (a .args .tb .now) (a .args .pb .now)) in
+    let v = viewOf (given (a .args .ps) (a .args .ts) (a .args .tb) (a .args .pb)) in
     let q = targetQueue (a .args .process) (a .args .thread) in
     is-stopping v (a .args .queued) q (a .args .signal) (c .before .before .if1 .left) (c .before .if2 .left) (c .if3 .taken)
 
 action-of-requires : tie.Need-action-of-requires
-unfolding liveProcess view storeOf
+unfolding liveProcess view decoded
 action-of-requires c κs =
     let a = c .before .before .before .before .before .before .before in
     let ps = a .args .ps .now in
     let ts = a .args .ts .now in
     let tb = a .args .tb .now in
     let pb = a .args .pb .now in
-    let v = view (storeOf ps ts tb pb) in
+    let v = viewOf (lent ps ts tb pb) in
     let p = a .args .process in
     let t = a .args .thread in
     (processes-long ps ts tb pb (a .pre .0), (target-process v p t (queue-target v p t (a .pre .1 .0)), (omega (arith, c .before .before .if1 .left), a .pre .1 .1)))
@@ -61,7 +61,7 @@ returns-4 c =
     let p = a .args .process in
     let s = a .args .signal in
     let i = ignored-read ps ts tb pb p s (d .action-of .result) (c .before .is-ignored .result) (d .action-of .ensures) (c .before .is-ignored .ensures) in
-    is-dropping (view (storeOf ps ts tb pb)) (a .args .queued) (targetQueue p (a .args .thread)) s
+    is-dropping (viewOf (lent ps ts tb pb)) (a .args .queued) (targetQueue p (a .args .thread)) s
     (d .before .before .before .if1 .left) (d .before .before .if2 .left) (d .before .if3 .left) (sym i ∙ c .if4 .taken)
 
 is-absorbed-requires : tie.Need-is-absorbed-requires
@@ -83,7 +83,7 @@ returns-5 c =
     let p = a .args .process in
     let s = a .args .signal in
     let i = ignored-read ps ts tb pb p s (d .action-of .result) (f .before .is-ignored .result) (d .action-of .ensures) (f .before .is-ignored .ensures) in
-    is-absorbing (view (storeOf ps ts tb pb)) (a .args .queued) (targetQueue p (a .args .thread)) s
+    is-absorbing (viewOf (lent ps ts tb pb)) (a .args .queued) (targetQueue p (a .args .thread)) s
     (d .before .before .before .if1 .left) (d .before .before .if2 .left) (d .before .if3 .left) (sym i ∙ f .if4 .left)
     (sym (c .before .is-absorbed .ensures) ∙ c .if5 .taken)
 
@@ -101,7 +101,7 @@ returns-6 c =
     let p = a .args .process in
     let s = a .args .signal in
     let i = ignored-read ps ts tb pb p s (d .action-of .result) (f .before .is-ignored .result) (d .action-of .ensures) (f .before .is-ignored .ensures) in
-    is-keeping (view (storeOf ps ts tb pb)) (a .args .queued) (targetQueue p (a .args .thread)) s
+    is-keeping (viewOf (lent ps ts tb pb)) (a .args .queued) (targetQueue p (a .args .thread)) s
     (d .before .before .before .if1 .left) (d .before .before .if2 .left) (d .before .if3 .left) (sym i ∙ f .if4 .left)
     (sym (g .before .is-absorbed .ensures) ∙ g .if5 .left) (c .if6 .taken)
 
@@ -119,7 +119,7 @@ returns-7 c =
     let p = a .args .process in
     let s = a .args .signal in
     let i = ignored-read ps ts tb pb p s (d .action-of .result) (f .before .is-ignored .result) (d .action-of .ensures) (f .before .is-ignored .ensures) in
-    is-marking (view (storeOf ps ts tb pb)) (a .args .queued) (targetQueue p (a .args .thread)) s
+    is-marking (viewOf (lent ps ts tb pb)) (a .args .queued) (targetQueue p (a .args .thread)) s
     (d .before .before .before .if1 .left) (d .before .before .if2 .left) (d .before .if3 .left) (sym i ∙ f .if4 .left)
     (sym (g .before .is-absorbed .ensures) ∙ g .if5 .left) (c .if6 .left)
 

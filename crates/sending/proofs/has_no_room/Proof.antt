@@ -1,8 +1,7 @@
 -- `has_no_room` meets its contract. Assumes nothing.
 use borrow.Author.Needs.{needs}
 use native.Mathlib.Omega.{arith}
-use Rattle.rules.specs.Store.{view}
-use Rattle.sound.specs.Lent.{storeOf}
+use Rattle.sound.specs.Lent.{lent, viewOf, given}
 use Rattle.sound.proofs.Facts.{thread-buffer-long, process-buffer-long}
 use Rattle.sending.proofs.Decided.{counted, count-fits, room-read, room-unasked}
 use Rattle.sending.proofs.has_no_room.Statement.{statement}
@@ -38,13 +37,13 @@ returns c =
     let pb = a .args .pb .now in
     let m = d .count-of .result in
     let n = c .count-of2 .result in
-    room-read (view (storeOf ps ts tb pb)) (a .args .to) (a .args .f) (d .before .enum-told .given .1) m n
+    room-read (viewOf (lent ps ts tb pb)) (a .args .to) (a .args .f) (d .before .enum-told .given .1) m n
     (counted ps ts tb pb (a .args .to) m n (d .count-of .ensures) (c .count-of2 .ensures))
 
 returns-2 : tie.Need-returns-2
 returns-2 c =
     let a = c .before .before .before .before .before in
-    room-unasked (view (storeOf (a .args .ps .now) (a .args .ts .now) (a .args .tb .now) (a .args .pb .now))) (a .args .to) (a .args .f) (c .match .keys2)
+    room-unasked (viewOf (given (a .args .ps) (a .args .ts) (a .args .tb) (a .args .pb))) (a .args .to) (a .args .f) (c .match .keys2)
 
 pub has-no-room-spec : {M : Type 1} → statement M
 has-no-room-spec =

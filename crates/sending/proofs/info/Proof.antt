@@ -1,14 +1,14 @@
 -- `info` meets its contract. Assumes nothing.
 use Rattle.rules.specs.View.{liveProcess}
 use Rattle.rules.specs.Store.{view}
-use Rattle.sound.specs.Lent.{storeOf}
+use Rattle.sound.specs.Lent.{decoded}
 use Rattle.sound.proofs.Facts.{processes-long}
 use Rattle.sending.proofs.Decided.{sender-fits, info-read}
 use Rattle.sending.proofs.info.Statement.{statement}
 use Rattle.sending.proofs.info.Tie as tie
 
 real-of-requires : tie.Need-real-of-requires
-unfolding liveProcess view storeOf
+unfolding liveProcess view decoded
 real-of-requires c κs =
     let a = c .before .before .before .before in
     let ps = a .args .ps .now in

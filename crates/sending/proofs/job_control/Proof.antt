@@ -8,7 +8,7 @@ use borrow.Author.Tests.{not-true, not-false}
 use Rattle.limits.specs.Limits.{SIGSTOP}
 use Rattle.rules.specs.View.{setStopped, discard}
 use Rattle.rules.specs.Sending.{jobControl}
-use Rattle.sound.specs.Lent.{storeOf}
+use Rattle.sound.specs.Lent.{lent, decoded, given}
 use Rattle.effects.proofs.Chain.{one-made, made-none, made-one, starts, last-fits, last-made}
 use Rattle.sending.proofs.Carried.{leaves, settling, discards-first, commits, discards-only}
 use Rattle.sending.proofs.job_control.Statement.{statement}
@@ -17,7 +17,7 @@ use Rattle.sending.proofs.job_control.Tie as tie
 returns : tie.Need-returns
 returns c =
     let a = c .before .before .before .before .before .before in
-    let st = storeOf (a .args .ps .now) (a .args .ts .now) (a .args .tb .now) (a .args .pb .now) in
+    let st = decoded (given (a .args .ps) (a .args .ts) (a .args .tb) (a .args .pb)) in
     let p = a .args .process in
     let s = a .args .signal in
     let i = c .before .is-job-control in
@@ -27,7 +27,7 @@ discard-requires : tie.Need-discard-requires
 discard-requires r κs =
     let g = r .before .before .before .before .before in
     let a = g .before .before .before .before .before .before in
-    let st = storeOf (a .args .ps .now) (a .args .ts .now) (a .args .tb .now) (a .args .pb .now) in
+    let st = decoded (given (a .args .ps) (a .args .ts) (a .args .tb) (a .args .pb)) in
     let p = a .args .process in
     let s = a .args .signal in
     let k = sym (g .before .is-job-control .ensures) ∙ not-false (g .before .is-job-control .result) (g .if1 .left) in
@@ -41,13 +41,13 @@ set-stopped-requires c κs =
     let r = c .before .before .before .before .before .before .before .before .before .before .before .before .before .before in
     let g = r .before .before .before .before .before in
     let a = g .before .before .before .before .before .before in
-    let st = storeOf (a .args .ps .now) (a .args .ts .now) (a .args .tb .now) (a .args .pb .now) in
+    let st = decoded (given (a .args .ps) (a .args .ts) (a .args .tb) (a .args .pb)) in
     let p = a .args .process in
     let s = a .args .signal in
     let k = sym (g .before .is-job-control .ensures) ∙ not-false (g .before .is-job-control .result) (g .if1 .left) in
     let x = r .discarded-by .result in
     let d = c .before .before .before .before .before .before .before .before .before .before .before .before .before .discard in
-    let st′ = storeOf (d .last .0) (d .last .1 .0) (d .last .1 .1 .0) (d .last .1 .1 .1 .0) in (
+    let st′ = decoded (lent (d .last .0) (d .last .1 .0) (d .last .1 .1 .0) (d .last .1 .1 .1 .0)) in (
       d .ensures .1,
       last-fits (jobControl p s) st (a .pre .1) (discard p x ∷ []) (setStopped p (boolByte (eqb s SIGSTOP)))
           (commits p s k x (r .discarded-by .ensures) (c .before .before .before .before .if2 .taken)) st′ (one-made (discard p x) st st′ (d .ensures .0)),
@@ -62,16 +62,16 @@ returns-2 c =
     let r = committed c .before in
     let g = r .before .before .before .before .before in
     let a = g .before .before .before .before .before .before in
-    let st = storeOf (a .args .ps .now) (a .args .ts .now) (a .args .tb .now) (a .args .pb .now) in
+    let st = decoded (given (a .args .ps) (a .args .ts) (a .args .tb) (a .args .pb)) in
     let p = a .args .process in
     let s = a .args .signal in
     let k = sym (g .before .is-job-control .ensures) ∙ not-false (g .before .is-job-control .result) (g .if1 .left) in
     let x = r .discarded-by .result in
     let d = committed c .discard in
-    let st′ = storeOf (d .last .0) (d .last .1 .0) (d .last .1 .1 .0) (d .last .1 .1 .1 .0) in (
+    let st′ = decoded (lent (d .last .0) (d .last .1 .0) (d .last .1 .1 .0) (d .last .1 .1 .1 .0)) in (
       last-made (jobControl p s) st (a .pre .1) (discard p x ∷ []) (setStopped p (boolByte (eqb s SIGSTOP)))
           (commits p s k x (r .discarded-by .ensures) (w .before .before .before .before .before .if2 .taken)) st′ (one-made (discard p x) st st′ (d .ensures .0))
-          (storeOf (w .set-stopped .last .0) (d .last .1 .0) (d .last .1 .1 .0) (d .last .1 .1 .1 .0)) (w .set-stopped .ensures .0),
+          (decoded (lent (w .set-stopped .last .0) (d .last .1 .0) (d .last .1 .1 .0) (d .last .1 .1 .1 .0))) (w .set-stopped .ensures .0),
       w .set-stopped .ensures .1,
     )
 
@@ -85,13 +85,13 @@ returns-3 c =
     let r = uncommitted c .before in
     let g = r .before .before .before .before .before in
     let a = g .before .before .before .before .before .before in
-    let st = storeOf (a .args .ps .now) (a .args .ts .now) (a .args .tb .now) (a .args .pb .now) in
+    let st = decoded (given (a .args .ps) (a .args .ts) (a .args .tb) (a .args .pb)) in
     let p = a .args .process in
     let s = a .args .signal in
     let k = sym (g .before .is-job-control .ensures) ∙ not-false (g .before .is-job-control .result) (g .if1 .left) in
     let x = r .discarded-by .result in
     let d = uncommitted c .discard in
-    let st′ = storeOf (d .last .0) (d .last .1 .0) (d .last .1 .1 .0) (d .last .1 .1 .1 .0) in
+    let st′ = decoded (lent (d .last .0) (d .last .1 .0) (d .last .1 .1 .0) (d .last .1 .1 .1 .0)) in
     (made-one (jobControl p s) st (discard p x) (discards-only p s k x (r .discarded-by .ensures) (c .if2 .left)) st′ (d .ensures .0), d .ensures .1)
 
 pub job-control-spec : {M : Type 1} → statement M

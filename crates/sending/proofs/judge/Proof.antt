@@ -2,9 +2,8 @@
 use mathlib.Core.Path.{sym, _∙_}
 use native.Mathlib.Omega.{arith}
 use borrow.Author.Needs.{needs}
-use Rattle.rules.specs.Store.{view}
 use Rattle.rules.proofs.Queues.{target-queue}
-use Rattle.answers.specs.Step.{lent, decoded}
+use Rattle.sound.specs.Lent.{viewOf, given}
 use Rattle.sending.specs.Generations.{generationOf}
 use Rattle.sending.specs.Decisions.{Decided}
 use Rattle.sending.proofs.Refused.{kill-allowed, send-refused, send-full, send-passes}
@@ -16,7 +15,7 @@ unfolding Decided
 returns c =
     let k = c .before .kill-refusal in
     let a = c .before .before .before .before .before .before in
-    let l = lent (a .args .ps .now) (a .args .ts .now) (a .args .tb .now) (a .args .pb .now) in
+    let l = given (a .args .ps) (a .args .ts) (a .args .tb) (a .args .pb) in
     let x = a .args in
     (send-refused l (x .by) (x .to) (x .thread) (x .signal) (x .value) (x .queued) (k .result) (k .ensures) (c .if1 .taken), c .if1 .taken)
 
@@ -24,17 +23,17 @@ generation-of-requires : tie.Need-generation-of-requires
 generation-of-requires c κs =
     let k = c .before .kill-refusal in
     let a = c .before .before .before .before .before .before in
-    let l = lent (a .args .ps .now) (a .args .ts .now) (a .args .tb .now) (a .args .pb .now) in
+    let l = given (a .args .ps) (a .args .ts) (a .args .tb) (a .args .pb) in
     let x = a .args in
     let y = kill-allowed l (x .by) (x .to) (x .thread) (x .signal) (sym (k .ensures) ∙ c .if1 .left) in
-    (y .sound, (target-queue (view (decoded l)) (x .to) (x .thread) (y .target), y .signal))
+    (y .sound, (target-queue (viewOf l) (x .to) (x .thread) (y .target), y .signal))
 
 has-no-room-requires : tie.Need-has-no-room-requires
 has-no-room-requires c κs =
     let g = c .before in
     let k = g .before .kill-refusal in
     let a = g .before .before .before .before .before .before in
-    let l = lent (a .args .ps .now) (a .args .ts .now) (a .args .tb .now) (a .args .pb .now) in
+    let l = given (a .args .ps) (a .args .ts) (a .args .tb) (a .args .pb) in
     let x = a .args in
     kill-allowed l (x .by) (x .to) (x .thread) (x .signal) (sym (k .ensures) ∙ g .if1 .left) .sound
 
@@ -46,7 +45,7 @@ returns-2 c =
     let g = c .before .before .before in
     let k = g .before .kill-refusal in
     let a = g .before .before .before .before .before .before in
-    let l = lent (a .args .ps .now) (a .args .ts .now) (a .args .tb .now) (a .args .pb .now) in
+    let l = given (a .args .ps) (a .args .ts) (a .args .tb) (a .args .pb) in
     let x = a .args in
     let e = sym (k .ensures) ∙ g .if1 .left in
     (send-full l (x .by) (x .to) (x .thread) (x .signal) (x .value) e (generationOf (f .result)) (h .result) (h .ensures) (x .queued) (f .ensures) (c .if2 .taken), λ z. omega arith)
@@ -56,7 +55,7 @@ info-requires c κs =
     let g = c .before .before .before in
     let k = g .before .kill-refusal in
     let a = g .before .before .before .before .before .before in
-    let l = lent (a .args .ps .now) (a .args .ts .now) (a .args .tb .now) (a .args .pb .now) in
+    let l = given (a .args .ps) (a .args .ts) (a .args .tb) (a .args .pb) in
     let x = a .args in
     let y = kill-allowed l (x .by) (x .to) (x .thread) (x .signal) (sym (k .ensures) ∙ g .if1 .left) in
     (y .sound, y .sender)
@@ -69,7 +68,7 @@ returns-3 c =
     let g = c .before .before .before .before in
     let k = g .before .kill-refusal in
     let a = g .before .before .before .before .before .before in
-    let l = lent (a .args .ps .now) (a .args .ts .now) (a .args .tb .now) (a .args .pb .now) in
+    let l = given (a .args .ps) (a .args .ts) (a .args .tb) (a .args .pb) in
     let x = a .args in
     let e = sym (k .ensures) ∙ g .if1 .left in (
       send-passes l (x .by) (x .to) (x .thread) (x .signal) (x .value) e (generationOf (f .result)) (h .result) (h .ensures) (x .queued) (f .ensures) (c .before .if2 .left),

@@ -8,7 +8,7 @@ use Rattle.lists.proofs.Bools.{or-fst-false, or-snd-false}
 use Rattle.rules.specs.View.{liveProcess}
 use Rattle.rules.specs.Store.{view}
 use Rattle.rules.proofs.Queues.{target-process}
-use Rattle.sound.specs.Lent.{storeOf}
+use Rattle.sound.specs.Lent.{lent, decoded, viewOf}
 use Rattle.sound.proofs.Facts.{processes-long}
 use Rattle.sending.proofs.Refused.{nobody-read, may-read, kill-fault, kill-over, kill-nobody, kill-barred, kill-passes}
 use Rattle.sending.proofs.kill_refusal.Statement.{statement}
@@ -56,7 +56,7 @@ returns-3 c =
     (sym (nobody-read ps ts tb pb by to t s (i .result) (b .result) (i .ensures) (b .ensures)) ∙ c .if3 .taken)
 
 may-signal-requires : tie.Need-may-signal-requires
-unfolding liveProcess view storeOf
+unfolding liveProcess view decoded
 may-signal-requires c κs =
     let d = c .before .before .before .before .before in
     let a = d .before .before .before .before .before in
@@ -71,7 +71,7 @@ may-signal-requires c κs =
       processes-long ps ts tb pb (sym (d .sound .ensures) ∙ not-false (d .sound .result) (c .before .before .before .before .if1 .left)),
       (
         sym (i .ensures) ∙ not-false (i .result) (or-fst-false (not (i .result)) (b .result) (c .if3 .left)),
-        target-process (view (storeOf ps ts tb pb)) to t (sym (b .ensures) ∙ or-snd-false (not (i .result)) (b .result) (c .if3 .left)),
+        target-process (viewOf (lent ps ts tb pb)) to t (sym (b .ensures) ∙ or-snd-false (not (i .result)) (b .result) (c .if3 .left)),
       ),
     )
 

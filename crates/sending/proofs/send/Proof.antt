@@ -3,11 +3,10 @@ use mathlib.Core.Path.{refl, _∙_}
 use borrow.Author.Needs.{needs}
 use native.Mathlib.Omega.{arith}
 use Rattle.siginfo.proofs.Numbers.{bytes-each}
-use Rattle.rules.specs.Store.{view}
 use Rattle.rules.specs.Sending.{sendChanges}
 use Rattle.rules.specs.Calls.{changes}
 use Rattle.answers.specs.Answers.{answerOf}
-use Rattle.answers.specs.Step.{lent, decoded}
+use Rattle.sound.specs.Lent.{lent, decoded, viewOf, given}
 use Rattle.answers.proofs.Endings.{refused-ends, accepted-ends}
 use Rattle.effects.proofs.Chain.{made}
 use Rattle.sending.specs.Generations.{generationOf}
@@ -22,7 +21,7 @@ generate-requires c κs =
     let d = c .before .before .before .before .before .decision2 .given in
     let j = c .before .before .before .before .before .before .before .judge in
     let a = c .before .before .before .before .before .before .before .before .before .before .before .before .before .before .before .before in
-    let l = lent (a .args .ps .now) (a .args .ts .now) (a .args .tb .now) (a .args .pb .now) in
+    let l = given (a .args .ps) (a .args .ts) (a .args .tb) (a .args .pb) in
     let x = a .args in
     let f = d .0 .0 in
     let r = d .0 .1 .0 in
@@ -34,7 +33,7 @@ returns c =
     let d = c .before .decision .given in
     let j = c .before .before .before .judge in
     let a = c .before .before .before .before .before .before .before .before .before .before .before .before in
-    let l = lent (a .args .ps .now) (a .args .ts .now) (a .args .tb .now) (a .args .pb .now) in
+    let l = given (a .args .ps) (a .args .ts) (a .args .tb) (a .args .pb) in
     let x = a .args in
     let y = when-refused l (x .queued) (x .by) (x .to) (x .thread) (x .signal) (x .value) (j .result) (j .ensures) (d .0 .0) (d .1) in
     refused-ends (sendCall (x .queued) (x .by) (x .to) (x .thread) (x .signal) (x .value)) l (d .0 .0) (y .0) (y .1)
@@ -48,7 +47,7 @@ returns-2 c =
     let d = w .before .before .before .before .before .before .decision2 .given in
     let j = w .before .before .before .before .before .before .before .before .judge in
     let a = w .before .before .before .before .before .before .before .before .before .before .before .before .before .before .before .before .before in
-    let l = lent (a .args .ps .now) (a .args .ts .now) (a .args .tb .now) (a .args .pb .now) in
+    let l = given (a .args .ps) (a .args .ts) (a .args .tb) (a .args .pb) in
     let x = a .args in
     let f = d .0 .0 in
     let r = d .0 .1 .0 in
@@ -56,7 +55,7 @@ returns-2 c =
     let k = w .generate in
     let m = lent (k .last .0) (k .last .1 .0) (k .last .1 .1 .0) (k .last .1 .1 .1 .0) in
     let call = sendCall (x .queued) (x .by) (x .to) (x .thread) (x .signal) (x .value) in
-    let v = view (decoded l) in
+    let v = viewOf l in
     accepted-ends call l (y .0) (answerOf (c .sent .result))
     (c .sent .ensures ∙ send-answers v (x .by) (x .to) (x .thread) (x .signal) (x .value) (x .queued) (generationOf f) (y .1 .0)) m
     (record { processes = k .kept .0; threads = k .kept .1 .0; threadBuffer = k .kept .1 .1 .0; processBuffer = k .kept .1 .1 .1 .0 })

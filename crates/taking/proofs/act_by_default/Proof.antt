@@ -4,7 +4,7 @@ use mathlib.Core.Path.{ap}
 use borrow.Author.Needs.{needs}
 use Rattle.rules.specs.Taking.{outcomeChanges}
 use Rattle.rules.specs.View.{removeProcess, setStopped}
-use Rattle.sound.specs.Lent.{storeOf}
+use Rattle.sound.specs.Lent.{lent, decoded}
 use Rattle.effects.proofs.Chain.{starts, made-none, made-one}
 use Rattle.taking.specs.Takes.{outcomeOf}
 use Rattle.taking.proofs.act_by_default.Statement.{statement}
@@ -18,7 +18,7 @@ set-stopped-requires c κs =
     let ts = a .args .ts .now in
     let tb = a .args .tb .now in
     let pb = a .args .pb .now in
-    let st = storeOf ps ts tb pb in
+    let st = decoded (lent ps ts tb pb) in
     let p = a .args .process in
     let cs = outcomeChanges (outcomeOf (a .args .o)) p in
     let e = ap (λ o. outcomeChanges (outcomeOf o) p) (c .before .before .before .before .enum-told2 .given .1) in
@@ -32,7 +32,7 @@ remove-process-requires c κs =
     let ts = a .args .ts .now in
     let tb = a .args .tb .now in
     let pb = a .args .pb .now in
-    let st = storeOf ps ts tb pb in
+    let st = decoded (lent ps ts tb pb) in
     let p = a .args .process in
     let cs = outcomeChanges (outcomeOf (a .args .o)) p in
     let e = ap (λ o. outcomeChanges (outcomeOf o) p) (c .before .before .before .before .enum-told4 .given .1) in
@@ -46,7 +46,7 @@ returns c =
     let ts = a .args .ts .now in
     let tb = a .args .tb .now in
     let pb = a .args .pb .now in
-    let st = storeOf ps ts tb pb in
+    let st = decoded (lent ps ts tb pb) in
     let p = a .args .process in
     let cs = outcomeChanges (outcomeOf (a .args .o)) p in
     let e = ap (λ o. outcomeChanges (outcomeOf o) p) (c .enum-told .given .1) in
@@ -60,12 +60,12 @@ returns-2 c =
     let ts = a .args .ts .now in
     let tb = a .args .tb .now in
     let pb = a .args .pb .now in
-    let st = storeOf ps ts tb pb in
+    let st = decoded (lent ps ts tb pb) in
     let p = a .args .process in
     let cs = outcomeChanges (outcomeOf (a .args .o)) p in
     let e = ap (λ o. outcomeChanges (outcomeOf o) p) (c .before .before .before .before .before .before .before .enum-told2 .given .1) in
     let w = c .before .before .set-stopped in
-    (made-one cs st (setStopped p 1) e (storeOf (w .last .0) ts tb pb) (w .ensures .0), w .ensures .1)
+    (made-one cs st (setStopped p 1) e (decoded (lent (w .last .0) ts tb pb)) (w .ensures .0), w .ensures .1)
 
 returns-3 : tie.Need-returns-3
 unfolding outcomeOf outcomeChanges
@@ -75,7 +75,7 @@ returns-3 c =
     let ts = a .args .ts .now in
     let tb = a .args .tb .now in
     let pb = a .args .pb .now in
-    let st = storeOf ps ts tb pb in
+    let st = decoded (lent ps ts tb pb) in
     let p = a .args .process in
     let cs = outcomeChanges (outcomeOf (a .args .o)) p in
     let e = ap (λ o. outcomeChanges (outcomeOf o) p) (c .enum-told3 .given .1) in
@@ -89,12 +89,12 @@ returns-4 c =
     let ts = a .args .ts .now in
     let tb = a .args .tb .now in
     let pb = a .args .pb .now in
-    let st = storeOf ps ts tb pb in
+    let st = decoded (lent ps ts tb pb) in
     let p = a .args .process in
     let cs = outcomeChanges (outcomeOf (a .args .o)) p in
     let e = ap (λ o. outcomeChanges (outcomeOf o) p) (c .before .before .before .before .before .before .before .before .before .before .before .before .before .enum-told4 .given .1) in
     let w = c .before .before .before .before .before .before .before .before .remove-process in
-    (made-one cs st (removeProcess p) e (storeOf (w .last .0) (w .last .1 .0) (w .last .1 .1 .0) (w .last .1 .1 .1 .0)) (w .ensures .0), w .ensures .1)
+    (made-one cs st (removeProcess p) e (decoded (lent (w .last .0) (w .last .1 .0) (w .last .1 .1 .0) (w .last .1 .1 .1 .0))) (w .ensures .0), w .ensures .1)
 
 pub act-by-default-spec : {M : Type 1} → statement M
 act-by-default-spec =

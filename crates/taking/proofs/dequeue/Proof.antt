@@ -3,7 +3,7 @@ use mathlib.Core.List.{[]}
 use mathlib.Core.Path.{ap}
 use borrow.Author.Needs.{needs}
 use Rattle.rules.specs.View.{clearMark, dropOldest, queueOf, targetQueue}
-use Rattle.sound.specs.Lent.{storeOf}
+use Rattle.sound.specs.Lent.{lent, decoded}
 use Rattle.answers.specs.Answers.{nextOf}
 use Rattle.effects.proofs.Chain.{starts, made-none, made-one}
 use Rattle.taking.specs.Takes.{dequeueChanges}
@@ -18,7 +18,7 @@ clear-mark-requires c κs =
     let ts = a .args .ts .now in
     let tb = a .args .tb .now in
     let pb = a .args .pb .now in
-    let st = storeOf ps ts tb pb in
+    let st = decoded (lent ps ts tb pb) in
     let cs = dequeueChanges (nextOf (a .args .next)) in
     let d = c .before .before .before .before .before .next .given .0 in
     let ch = clearMark (targetQueue (d .0) (d .1 .0)) (d .1 .1 .0) in
@@ -33,7 +33,7 @@ drop-oldest-requires c κs =
     let ts = a .args .ts .now in
     let tb = a .args .tb .now in
     let pb = a .args .pb .now in
-    let st = storeOf ps ts tb pb in
+    let st = decoded (lent ps ts tb pb) in
     let cs = dequeueChanges (nextOf (a .args .next)) in
     let r = c .before .before .before .before .before .next2 .given .0 .0 in
     let ch = dropOldest (queueOf r) (r .signal) in
@@ -48,7 +48,7 @@ returns c =
     let ts = a .args .ts .now in
     let tb = a .args .tb .now in
     let pb = a .args .pb .now in
-    let st = storeOf ps ts tb pb in
+    let st = decoded (lent ps ts tb pb) in
     let cs = dequeueChanges (nextOf (a .args .next)) in
     let e = ap (λ n. dequeueChanges (nextOf n)) (c .enum-told .given .1) in
     (made-none cs st e, a .pre .0)
@@ -61,13 +61,13 @@ returns-2 c =
     let ts = a .args .ts .now in
     let tb = a .args .tb .now in
     let pb = a .args .pb .now in
-    let st = storeOf ps ts tb pb in
+    let st = decoded (lent ps ts tb pb) in
     let cs = dequeueChanges (nextOf (a .args .next)) in
     let d = c .before .before .before .before .before .before .before .before .before .before .next .given .0 in
     let ch = clearMark (targetQueue (d .0) (d .1 .0)) (d .1 .1 .0) in
     let e = ap (λ n. dequeueChanges (nextOf n)) (c .before .before .before .before .before .before .before .before .before .before .next .given .1) in
     let w = c .before .before .before .before .clear-mark in
-    (made-one cs st ch e (storeOf (w .last .0) (w .last .1 .0) tb pb) (w .ensures .0), w .ensures .1)
+    (made-one cs st ch e (decoded (lent (w .last .0) (w .last .1 .0) tb pb)) (w .ensures .0), w .ensures .1)
 
 returns-3 : tie.Need-returns-3
 unfolding dequeueChanges nextOf
@@ -77,13 +77,13 @@ returns-3 c =
     let ts = a .args .ts .now in
     let tb = a .args .tb .now in
     let pb = a .args .pb .now in
-    let st = storeOf ps ts tb pb in
+    let st = decoded (lent ps ts tb pb) in
     let cs = dequeueChanges (nextOf (a .args .next)) in
     let r = c .before .before .before .before .before .before .before .before .before .before .next2 .given .0 .0 in
     let ch = dropOldest (queueOf r) (r .signal) in
     let e = ap (λ n. dequeueChanges (nextOf n)) (c .before .before .before .before .before .before .before .before .before .before .next2 .given .1) in
     let w = c .before .before .before .before .drop-oldest in
-    (made-one cs st ch e (storeOf ps ts (w .last .1 .1 .0) (w .last .1 .1 .1 .0)) (w .ensures .0), w .ensures .1)
+    (made-one cs st ch e (decoded (lent ps ts (w .last .1 .1 .0) (w .last .1 .1 .1 .0))) (w .ensures .0), w .ensures .1)
 
 pub dequeue-spec : {M : Type 1} → statement M
 dequeue-spec =

@@ -2,7 +2,7 @@
 use native.Mathlib.Omega.{arith}
 use borrow.Author.Needs.{needs}
 use Rattle.answers.specs.Answers.{answerOf}
-use Rattle.answers.specs.Step.{lent}
+use Rattle.sound.specs.Lent.{lent}
 use Rattle.taking.proofs.Call.{something, take-made, take-nothing, take-refused, taker-live, taker-sound}
 use Rattle.taking.proofs.take.Statement.{statement}
 use Rattle.taking.proofs.take.Tie as tie

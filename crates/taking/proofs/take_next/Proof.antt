@@ -1,7 +1,7 @@
 -- `take_next` meets its contract: what is next leaves its queue, then it is delivered. Assumes nothing.
 use borrow.Author.Needs.{needs}
 use Rattle.sound.proofs.Facts.{processes-long, threads-long, thread-listed}
-use Rattle.sound.specs.Lent.{storeOf}
+use Rattle.sound.specs.Lent.{lent, decoded}
 use Rattle.answers.specs.Answers.{answerOf}
 use Rattle.view.proofs.Live.{owner-good, process-held}
 use Rattle.taking.proofs.Taken.{dequeue-fits, delivering-fits, taken, answered, signal-named, ready}
@@ -69,7 +69,7 @@ deliver-requires c κs =
     let b = c .before .before .before .before .before .before .before .before .before .before .before .before .before .before .before .before .before .action-of in
     let d = ready ps ts tb pb (a .pre .0) t (a .pre .1 .0) (a .args .next) (a .pre .1 .1 .0) (a .pre .1 .1 .1) (r .result) (r .ensures) (p .result) (p .ensures) (m .result) (m .ensures) (b .result) (b .ensures) in
     let w = c .before .before .before .before .before .before .before .before .before .before .before .before .dequeue in
-    (w .ensures .1, delivering-fits d (storeOf (w .last .0) (w .last .1 .0) (w .last .1 .1 .0) (w .last .1 .1 .1 .0)) (w .ensures .0))
+    (w .ensures .1, delivering-fits d (decoded (lent (w .last .0) (w .last .1 .0) (w .last .1 .1 .0) (w .last .1 .1 .1 .0))) (w .ensures .0))
 
 returns : tie.Need-returns
 returns c =
@@ -86,7 +86,7 @@ returns c =
     let d = ready ps ts tb pb (a .pre .0) t (a .pre .1 .0) (a .args .next) (a .pre .1 .1 .0) (a .pre .1 .1 .1) (r .result) (r .ensures) (p .result) (p .ensures) (m .result) (m .ensures) (b .result) (b .ensures) in
     let w = c .before .before .before .before .before .before .before .before .before .before .before .before .before .before .before .before .before .before .before .before .before .before .dequeue in
     let z = c .before .before .before .before .before .before .before .before .before .deliver in
-    (answered d (answerOf (c .delivered .result)) (c .delivered .ensures), taken d (storeOf (w .last .0) (w .last .1 .0) (w .last .1 .1 .0) (w .last .1 .1 .1 .0)) (w .ensures .0) (storeOf (z .last .0) (z .last .1 .0) (z .last .1 .1 .0) (z .last .1 .1 .1 .0)) (z .ensures .0))
+    (answered d (answerOf (c .delivered .result)) (c .delivered .ensures), taken d (decoded (lent (w .last .0) (w .last .1 .0) (w .last .1 .1 .0) (w .last .1 .1 .1 .0))) (w .ensures .0) (decoded (lent (z .last .0) (z .last .1 .0) (z .last .1 .1 .0) (z .last .1 .1 .1 .0))) (z .ensures .0))
 
 pub take-next-spec : {M : Type 1} → statement M
 take-next-spec =
