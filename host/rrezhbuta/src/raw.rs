@@ -39,7 +39,7 @@ extern "C" {
         z: u64,
     ) -> u64;
 
-    fn rrezhbuta_look(
+    fn rrezhbuta_look_slot(
         processes: *const u64,
         process_words: usize,
         thread_buffer: *const u8,
@@ -100,11 +100,11 @@ pub fn call(tables: &mut Tables<'_>, answer: &mut [u64], numbers: &Numbers) -> u
 }
 
 /// Where the record lies that a thread takes next: 0 for none, 1 to 512 for a slot of the thread buffer, 513 to 1024 for a slot of the process buffer.
-pub fn look(tables: &Tables<'_>, thread: u32) -> u64 {
+pub fn look_slot(tables: &Tables<'_>, thread: u32) -> u64 {
     // SAFETY: each pointer is that of a live slice that is borrowed for the call and comes with its length; the library only reads, within the lengths,
     // and keeps no pointer.
     unsafe {
-        rrezhbuta_look(
+        rrezhbuta_look_slot(
             tables.processes.as_ptr(),
             tables.processes.len(),
             tables.thread_buffer.as_ptr(),

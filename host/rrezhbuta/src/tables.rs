@@ -4,7 +4,7 @@ use crate::limits::{BUFFER_BYTES, PROCESS_TABLE, THREAD_PLACES};
 use crate::SigSet;
 use std::ops::{Deref, DerefMut};
 
-/// A place of the thread table.
+/// A place of the thread table: four words, and whoever keeps the table may have written any numbers there.
 #[derive(Clone, Copy, Debug, Default, PartialEq, Eq, Hash)]
 #[repr(C)]
 pub struct Thread {
@@ -109,7 +109,7 @@ impl<'a> Tables<'a> {
     ///
     /// ```
     /// use rrezhbuta::limits::{BUFFER_BYTES, PROCESS_TABLE, THREAD_PLACES};
-    /// use rrezhbuta::{Errno, NewProcess, Tables, Thread};
+    /// use rrezhbuta::{Errno, NewProcess, ProcessId, Tables, Thread, ThreadId};
     ///
     /// let mut processes = [0; PROCESS_TABLE];
     /// let mut threads = [Thread::FREE; THREAD_PLACES];
@@ -121,7 +121,8 @@ impl<'a> Tables<'a> {
     ///     &mut thread_buffer[..],
     ///     &mut process_buffer[..],
     /// );
-    /// tables.add_process(NewProcess { id: 100, thread: 200, ..NewProcess::default() })?;
+    /// let (id, thread) = (ProcessId(100), ThreadId(200));
+    /// tables.add_process(NewProcess { id, thread, ..NewProcess::default() })?;
     /// assert_eq!((processes[0], threads[0].id), (100, 200));
     ///
     /// let mut short = Tables::from_parts(vec![], &mut threads[..], vec![], vec![]);
