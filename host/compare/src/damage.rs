@@ -53,7 +53,7 @@ fn compare_fixed<L: Layer>(
     let found = layer.call(call);
     let mut differs = first_difference(after, layer.tables());
     if let Call::Look { thread } = call {
-        let part = layer.look(*thread);
+        let part = layer.look_part(*thread);
         differs = differs.or((!part.is_empty()).then(|| (Place::Look, both(&"nothing", &part))));
     }
     verdict(call, expected, found, differs)

@@ -12,14 +12,14 @@ pub const CALLS: [&str; 14] = [
     "end_process",
     "end_thread",
     "kill",
-    "queue",
-    "action",
-    "mask",
-    "pending",
+    "sigqueue",
+    "sigaction",
+    "sigmask",
+    "sigpending",
     "look",
     "who",
     "take",
-    "return",
+    "sigreturn",
 ];
 
 /// The answers.
@@ -58,14 +58,14 @@ pub fn kind(call: &Call) -> usize {
         Call::EndProcess { .. } => 3,
         Call::EndThread { .. } => 4,
         Call::Kill { .. } => 5,
-        Call::Queue { .. } => 6,
-        Call::Action { .. } => 7,
-        Call::Mask { .. } => 8,
-        Call::Pending { .. } => 9,
+        Call::Sigqueue { .. } => 6,
+        Call::Sigaction { .. } => 7,
+        Call::Sigmask { .. } => 8,
+        Call::Sigpending { .. } => 9,
         Call::Look { .. } => 10,
         Call::Who { .. } => 11,
         Call::Take { .. } => 12,
-        Call::Return { .. } => 13,
+        Call::Sigreturn { .. } => 13,
     }
 }
 
