@@ -19,7 +19,7 @@ fn deliver(tables: &mut Tables) -> Result<(), Errno> {
                 println!("thread {thread} returns; meanwhile it blocked {blocked}");
             }
             Taken::Stop(signal) => {
-                // the host runs none of its threads until a CONT is sent; until then nobody can take
+                // its threads neither run nor take until a CONT is sent
                 println!("signal {signal} has stopped process {PROCESS}");
             }
             Taken::NoAction(signal) => {
