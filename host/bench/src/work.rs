@@ -132,7 +132,8 @@ fn batch(name: &'static str, count: usize, call: impl Fn(usize) -> Call) -> Batc
     }
 }
 
-/// A batch for each kind of call, in the documented order. Those that use up places or records are as long as these last.
+/// A batch for each kind of call, in the documented order. Those that use up places or records are as long as these
+/// last.
 pub fn batches() -> Vec<Batch> {
     let calls = [
         batch(CALLS[0], 1, |_| Call::Clear),

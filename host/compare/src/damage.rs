@@ -1,4 +1,5 @@
-//! Tables that were reached by calls and then damaged: a call on them is refused with 14 and writes nothing, or they are still sound.
+//! Tables that were reached by calls and then damaged: a call on them is refused with 14 and writes nothing, or they
+//! are still sound.
 
 use crate::edit::{damaged, edits, Edit};
 use crate::image::{decode, encode};
@@ -18,7 +19,8 @@ fn judged(tables: &Tables<'_>) -> Result<Model, Unsound> {
     Model::from_rows(rows)
 }
 
-/// Makes the call on damaged tables on both sides: what it told, and the clause that they break if they are not sound all the same.
+/// Makes the call on damaged tables on both sides: what it told, and the clause that they break if they are not sound
+/// all the same.
 fn compare<L: Layer>(
     layer: &mut L,
     tables: Tables<'static>,

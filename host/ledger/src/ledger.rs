@@ -1,4 +1,5 @@
-//! The ledger: it starts empty and is told of each call its arguments and whether it was refused, and nothing of the tables.
+//! The ledger: it starts empty and is told of each call its arguments and whether it was refused, and nothing of the
+//! tables.
 
 use crate::call::{AddProcess, Call, Send};
 use crate::limits::*;

@@ -58,7 +58,8 @@ impl Model {
         judge(&self.rows)
     }
 
-    /// One call: its answer, or the errno of its refusal, which changes nothing. The store is sound, so 14 is never given.
+    /// One call: its answer, or the errno of its refusal, which changes nothing. The store is sound, so 14 is never
+    /// given.
     pub fn call(&mut self, call: &Call) -> Result<Answer, u32> {
         match *call {
             Call::Clear => Ok(self.clear()),

@@ -1,5 +1,5 @@
-//! The proved POSIX signal layer behind a safe interface. The tables are the host's; every call checks the whole of them,
-//! does its work or refuses it, and a refusal writes nothing. Which call does what, and when it is refused, is in
+//! The proved POSIX signal layer behind a safe interface. The tables are the host's; every call checks the whole of
+//! them, does its work or refuses it, and a refusal writes nothing. Which call does what, and when it is refused, is in
 //! `docs/CALLS.md`.
 //!
 //! ```

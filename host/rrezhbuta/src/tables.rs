@@ -77,7 +77,8 @@ impl<T: PartialEq> PartialEq for Table<'_, T> {
 
 impl<T: Eq> Eq for Table<'_, T> {}
 
-/// The four tables. Any lengths and any contents are safe: a call on tables that are not as they should be is refused with EFAULT.
+/// The four tables. Any lengths and any contents are safe: a call on tables that are not as they should be is refused
+/// with EFAULT.
 #[derive(Debug, PartialEq, Eq)]
 pub struct Tables<'a> {
     pub(crate) processes: Table<'a, u64>,
@@ -105,7 +106,8 @@ impl Tables<'static> {
 }
 
 impl<'a> Tables<'a> {
-    /// Tables from vectors, or from slices of a host that keeps its own: processes, threads, the thread buffer, the process buffer.
+    /// Tables from vectors, or from slices of a host that keeps its own: processes, threads, the thread buffer, the
+    /// process buffer.
     ///
     /// ```
     /// use rrezhbuta::limits::{BUFFER_BYTES, PROCESS_TABLE, THREAD_PLACES};

@@ -114,7 +114,8 @@ fn eperm_for_a_stranger() {
     refused(&mut model, send(100, 101, 0, 18), EPERM);
 }
 
-/// Whether a sender of these user ids may send CONT and another signal to a target of real 1, effective 2, saved 3 in the same session.
+/// Whether a sender of these user ids may send CONT and another signal to a target of real 1, effective 2, saved 3 in
+/// the same session.
 fn may(real: u32, effective: u32) -> [bool; 2] {
     let mut model = Model::new();
     let user = |id, real, effective, saved| {
