@@ -18,7 +18,7 @@ use Rattle.rules.specs.Refusals.{overLast, badAction, noProcessLive, rows, isCl
 use Rattle.rules.specs.Actions.{stored, storeChanges, actionChanges}
 use Rattle.rules.specs.Calls.{changes, answer}
 use Rattle.rules.specs.Fitting.{fitsAll}
-use Rattle.rules.proofs.Fitted.{action-fits}
+use Rattle.rules.proofs.SendFits.{action-fits}
 use Rattle.sound.proofs.Facts.{store-sound}
 use Rattle.answers.specs.Step.{Lent, decoded, refusalOn, stepOn}
 use Rattle.answers.proofs.Endings.{AsLong, isSound, accepted-tables-sound, accepted-rows, same-ends, accepted-ends}

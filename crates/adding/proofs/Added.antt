@@ -15,10 +15,10 @@ use Rattle.rules.specs.Types.{Call, addProcess, addThread}
 use Rattle.rules.specs.View.{isThread, liveThread, theThread}
 use Rattle.rules.specs.Store.{isFreeProcess, isFreeThread, fill, view, apply, applyAll}
 use Rattle.rules.specs.Sound.{goodId}
-use Rattle.rules.specs.Adding.{newborn, addProcessChanges, addThreadChanges}
+use Rattle.rules.specs.Adding.{addedProcess, addProcessChanges, addThreadChanges}
 use Rattle.rules.specs.Refusals.{rows, isClear, fault, table, refusalOf, noThreadLive, noProcessPlace, noThreadPlace}
 use Rattle.rules.specs.Calls.{changes, answer}
-use Rattle.rules.proofs.Table.{Off}
+use Rattle.rules.proofs.RefusalTable.{Off}
 use Rattle.tables.specs.Tables.{processesOf, threadsOf, heldProcesses, heldThreads}
 use Rattle.sound.specs.Lent.{storeOf, soundTables}
 use Rattle.effects.proofs.Places.{with-all}
@@ -69,7 +69,7 @@ module _ (ps ts tb pb : List ℕ) (id thread n : ℕ) (r : n ≡ refusalOn (addP
     process-refused = refused-ends call (lent ps ts tb pb) n number
 
     module _ (ps′ ts′ : List ℕ) (given : SigSet) (g : given ≡ maskable mask)
-        (p : processesOf ps′ ≡ fill isFreeProcess (newborn id real effective saved session) (processesOf ps))
+        (p : processesOf ps′ ≡ fill isFreeProcess (addedProcess id real effective saved session) (processesOf ps))
         (t : threadsOf ts′ ≡ fill isFreeThread (threadOf thread id given) (threadsOf ts)) where
       process-made : storeOf ps′ ts′ tb pb ≡ applyAll (changes (view (storeOf ps ts tb pb)) call) (storeOf ps ts tb pb)
       unfolding storeOf changes addProcessChanges applyAll apply

@@ -15,9 +15,9 @@ use Rattle.rules.specs.Store.{view, applyAll}
 use Rattle.rules.specs.Sound.{sound, lengthsRight}
 use Rattle.rules.specs.Refusals.{Row, refusal, rows, isClear, fault, table, refusalOf}
 use Rattle.rules.specs.Calls.{changes, answer, stages, runStages, finish, step, isRefused}
-use Rattle.rules.proofs.Table.{Off, accepted-off, accepted-sound}
+use Rattle.rules.proofs.RefusalTable.{Off, accepted-off, accepted-sound}
 use Rattle.rules.proofs.Refused.{accepted-answers, refused-number}
-use Rattle.rules.proofs.Parts.{lengths-by}
+use Rattle.rules.proofs.ClausesByTable.{lengths-by}
 use Rattle.tables.specs.Tables.{processesOf, threadsOf, processWordsOf, threadWordsOf}
 use Rattle.tables.proofs.Words.{length-processesOf, length-threadsOf, all-actionsLong, words-back, thread-words-back}
 use Rattle.queue.proofs.Buffer.{length-slotsOf, buffer-is}
@@ -25,7 +25,7 @@ use Rattle.sound.specs.Lent.{storeOf, lengthsAre, soundTables}
 use Rattle.sound.proofs.Facts.{as-long, right-processes, right-threads, right-thread-buffer, right-process-buffer}
 use Rattle.answers.specs.declared.Answer.the-variants.{Refused}
 use Rattle.answers.specs.Answers.{answerOf}
-use Rattle.answers.specs.Step.{Lent, lent, decoded, encoded, refusalOn, rowsOn, settled, stepOn}
+use Rattle.answers.specs.Step.{Lent, lent, decoded, encoded, refusalOn, rowsOn, committed, stepOn}
 
 abbrev pub longAs : Lent → Bool
 longAs l = lengthsAre (l .processes) (l .threads) (l .threadBuffer) (l .processBuffer)
@@ -98,7 +98,7 @@ module _ (c : Call) (l : Lent) where
 
   module _ (n : (refusalOn c l ≡ 0 → ⊥)) where
     refused-step : stepOn c l ≡ (l, refused (refusalOn c l))
-    unfolding stepOn settled refusalOn isRefused
+    unfolding stepOn committed refusalOn isRefused
     refused-step =
         split (longAs l)
         (λ a.
@@ -121,7 +121,7 @@ module _ (c : Call) (l : Lent) where
     step-is = ap (λ (n : ℕ). finish n c (decoded l)) (accepted-rules e)
 
     pub accepted-step : stepOn c l ≡ (encoded (applyAll (changes (view (decoded l)) c) (decoded l)), answer (view (decoded l)) c)
-    unfolding stepOn settled
+    unfolding stepOn committed
     accepted-step = rw (accepted-long e, step-is, accepted-answers (view (decoded l)) c)
 
     -- the tables after it, from what they say

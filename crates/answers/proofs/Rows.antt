@@ -11,7 +11,7 @@ use Rattle.rules.specs.Types.{Call, endProcess, endThread}
 use Rattle.rules.specs.View.{liveProcess, liveThread}
 use Rattle.rules.specs.Store.{view}
 use Rattle.rules.specs.Refusals.{Row, refusal, rows, isClear, esrch, noProcessLive, noThreadLive}
-use Rattle.rules.proofs.Table.{Off, first-given, none-given}
+use Rattle.rules.proofs.RefusalTable.{Off, first-given, none-given}
 use Rattle.answers.specs.Step.{Lent, decoded, refusalOn, rowsOn}
 use Rattle.answers.proofs.Endings.{isSound, rows-fault, rows-sound, rows-given, accepted-tables-sound, accepted-rows}
 

@@ -39,10 +39,10 @@ unfoldable pub rowsOn : List Row → Lent → ℕ
 rowsOn rs l = cond (soundTables (l .processes) (l .threads) (l .threadBuffer) (l .processBuffer)) (refusal rs) EFAULT
 
 -- "Every refusal writes nothing": then the tables are exactly as they were, else they say what the rules' step leaves
-unfoldable pub settled : Lent → Store × Answer → Lent × Answer
-settled l r = (cond (isRefused (r .1)) l (encoded (r .0)), r .1)
+unfoldable pub committed : Lent → Store × Answer → Lent × Answer
+committed l r = (cond (isRefused (r .1)) l (encoded (r .0)), r .1)
 
 -- one call: the tables after it, and its answer
 unfoldable pub stepOn : Call → Lent → Lent × Answer
 stepOn c l =
-    cond (lengthsAre (l .processes) (l .threads) (l .threadBuffer) (l .processBuffer)) (settled l (step c (decoded l))) (l, refused EFAULT)
+    cond (lengthsAre (l .processes) (l .threads) (l .threadBuffer) (l .processBuffer)) (committed l (step c (decoded l))) (l, refused EFAULT)

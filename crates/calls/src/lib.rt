@@ -65,7 +65,7 @@ pub fn step(ps: &mut [u64], ts: &mut [u64], tb: &mut [u8], pb: &mut [u8], c: Cal
         Call::Action(process, s, new) => actions::sigaction(ps, ts, tb, pb, process, s, new),
         Call::Mask(thread, way, set) => masks::sigmask(ps, ts, tb, pb, thread, way, set),
         Call::Pending(thread) => masks::sigpending(ps, ts, tb, pb, thread),
-        Call::Look(thread) => looking::looked(ps, ts, tb, pb, thread),
+        Call::Look(thread) => looking::look(ps, ts, tb, pb, thread),
         Call::Who(process) => looking::who(ps, ts, tb, pb, process),
         Call::Take(thread) => taking::take(ps, ts, tb, pb, thread),
         Call::Return(thread, saved) => masks::sigreturn(ps, ts, tb, pb, thread, saved),

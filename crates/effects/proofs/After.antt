@@ -9,7 +9,7 @@ use Rattle.rules.specs.View.{Change}
 use Rattle.rules.specs.Store.{view, apply}
 use Rattle.rules.specs.Sound.{sound}
 use Rattle.rules.specs.Fitting.{fits}
-use Rattle.rules.proofs.Keeps.{fits-keeps}
+use Rattle.rules.proofs.ChangesSound.{fits-keeps}
 use Rattle.sound.specs.Lent.{storeOf, soundTables}
 use Rattle.sound.proofs.Facts.{as-long, right-lengths, store-sound}
 

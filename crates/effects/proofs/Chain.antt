@@ -6,7 +6,7 @@ use Rattle.lists.proofs.Bools.{and-fst, and-snd}
 use Rattle.rules.specs.View.{Change}
 use Rattle.rules.specs.Store.{Store, view, apply, applyAll}
 use Rattle.rules.specs.Fitting.{fits, fitsAll}
-use Rattle.rules.proofs.Fitted.{fitsAll-append}
+use Rattle.rules.proofs.SendFits.{fitsAll-append}
 
 module _ (ch : Change) (cs : List Change) (st : Store) where
   pub first-fits : fitsAll (ch ∷ cs) st ≡ true → fits (view st) ch ≡ true

@@ -1,4 +1,4 @@
--- Marks read, changed and stored at a place are those of the place remarked; and a turn of the loops over the threads of a process. Assumes nothing.
+-- Marks read, changed and stored at a place are those of the place with its marks changed; and a turn of the loops over the threads of a process. Assumes nothing.
 use Prim.Native.Nat.{ℕ, _+_, _≤_, _<_}
 use mathlib.Core.Path.{_≡_, sym, ap, _∙_}
 use mathlib.Core.Bool.{true, false, not, _&&_, cond}
@@ -20,33 +20,33 @@ use Rattle.rules.specs.Store.{Place, freeThread, vacate}
 use Rattle.tables.specs.Tables.{processesOf, threadsOf, heldProcesses, heldThreads, processAt, threadAt, headTo, headed, threadTo, threadFrom, withField, withThreadField}
 use Rattle.tables.proofs.Words.{length-threadsOf}
 use Rattle.effects.specs.declared.Marking.{Marking}
-use Rattle.effects.specs.Effects.{markedBy, remarked, remarkedOf}
+use Rattle.effects.specs.Effects.{markedBy, withMarking, withMarkingOf}
 
 -- ---- one place: u is the word that was read, m what it became
 
 module _ (how : Marking) (u : ℕ) (m : SigSet) (e : m ≡ markedBy how (bits u)) where
-  process-marked : (x : Place Process) → u ≡ getD (headTo x) processMarks 0 → withField processMarks (m .0) x ≡ remarked how x
-  unfolding withField headed headTo remarked
+  process-marked : (x : Place Process) → u ≡ getD (headTo x) processMarks 0 → withField processMarks (m .0) x ≡ withMarking how x
+  unfolding withField headed headTo withMarking
   process-marked x k =
       ap (λ (n : SigSet). record { holds = x .holds; marks = n }) (e ∙ ap (λ w. markedBy how (bits w)) k)
 
-  thread-marked : (x : Place Thread) → u ≡ getD (threadTo x) threadMarks 0 → withThreadField threadMarks (m .0) x ≡ remarked how x
-  unfolding withThreadField threadFrom threadTo remarked
+  thread-marked : (x : Place Thread) → u ≡ getD (threadTo x) threadMarks 0 → withThreadField threadMarks (m .0) x ≡ withMarking how x
+  unfolding withThreadField threadFrom threadTo withMarking
   thread-marked x k =
       ap (λ (n : SigSet). record { holds = x .holds; marks = n }) (e ∙ ap (λ w. markedBy how (bits w)) k)
 
   module _ (ws ws′ : List ℕ) (n place : ℕ) where
-    pub process-remarked : place ≡ find (isProcess n) (heldProcesses ws) → u ≡ getD (headTo (processAt ws place)) processMarks 0
+    pub process-marks-changed : place ≡ find (isProcess n) (heldProcesses ws) → u ≡ getD (headTo (processAt ws place)) processMarks 0
         → processesOf ws′ ≡ set (processesOf ws) place (withField processMarks (m .0) (processAt ws place))
-        → processesOf ws′ ≡ set (processesOf ws) (find (isProcess n) (heldProcesses ws)) (remarked how (processAt ws (find (isProcess n) (heldProcesses ws))))
-    process-remarked here k z =
-        z ∙ ap (set (processesOf ws) place) (process-marked (processAt ws place) k) ∙ ap (λ i. set (processesOf ws) i (remarked how (processAt ws i))) here
+        → processesOf ws′ ≡ set (processesOf ws) (find (isProcess n) (heldProcesses ws)) (withMarking how (processAt ws (find (isProcess n) (heldProcesses ws))))
+    process-marks-changed here k z =
+        z ∙ ap (set (processesOf ws) place) (process-marked (processAt ws place) k) ∙ ap (λ i. set (processesOf ws) i (withMarking how (processAt ws i))) here
 
-    pub thread-remarked : place ≡ find (isThread n) (heldThreads ws) → u ≡ getD (threadTo (threadAt ws place)) threadMarks 0
+    pub thread-marks-changed : place ≡ find (isThread n) (heldThreads ws) → u ≡ getD (threadTo (threadAt ws place)) threadMarks 0
         → threadsOf ws′ ≡ set (threadsOf ws) place (withThreadField threadMarks (m .0) (threadAt ws place))
-        → threadsOf ws′ ≡ set (threadsOf ws) (find (isThread n) (heldThreads ws)) (remarked how (threadAt ws (find (isThread n) (heldThreads ws))))
-    thread-remarked here k z =
-        z ∙ ap (set (threadsOf ws) place) (thread-marked (threadAt ws place) k) ∙ ap (λ i. set (threadsOf ws) i (remarked how (threadAt ws i))) here
+        → threadsOf ws′ ≡ set (threadsOf ws) (find (isThread n) (heldThreads ws)) (withMarking how (threadAt ws (find (isThread n) (heldThreads ws))))
+    thread-marks-changed here k z =
+        z ∙ ap (set (threadsOf ws) place) (thread-marked (threadAt ws place) k) ∙ ap (λ i. set (threadsOf ws) i (withMarking how (threadAt ws i))) here
 
 -- ---- a loop over all threads: those below i are as f leaves them; w is the process that was read
 
@@ -83,15 +83,15 @@ module _ (f : Place Thread → Place Thread) where
 
 module _ (p w : ℕ) (x : Place Thread) (e : w ≡ getD (threadTo x) threadProcess 0) where
   module _ (how : Marking) where
-    pub remarked-here : (u : ℕ) (m : SigSet) → w ≡ p → u ≡ getD (threadTo x) threadMarks 0 → m ≡ markedBy how (bits u)
-        → withThreadField threadMarks (m .0) x ≡ remarkedOf p how x
-    unfolding remarkedOf threadTo
-    remarked-here u m z k d =
-        thread-marked how u m d x k ∙ sym (cond-true (remarked how x) x (eq-eqb (x .holds .process) p (sym e ∙ z)))
+    pub marks-changed-here : (u : ℕ) (m : SigSet) → w ≡ p → u ≡ getD (threadTo x) threadMarks 0 → m ≡ markedBy how (bits u)
+        → withThreadField threadMarks (m .0) x ≡ withMarkingOf p how x
+    unfolding withMarkingOf threadTo
+    marks-changed-here u m z k d =
+        thread-marked how u m d x k ∙ sym (cond-true (withMarking how x) x (eq-eqb (x .holds .process) p (sym e ∙ z)))
 
-    pub remarked-not : (w ≡ p → ⊥) → remarkedOf p how x ≡ x
-    unfolding remarkedOf threadTo
-    remarked-not z = cond-false (remarked how x) x (ne-eqb (x .holds .process) p (λ d. z (e ∙ d)))
+    pub marks-changed-not : (w ≡ p → ⊥) → withMarkingOf p how x ≡ x
+    unfolding withMarkingOf threadTo
+    marks-changed-not z = cond-false (withMarking how x) x (ne-eqb (x .holds .process) p (λ d. z (e ∙ d)))
 
 -- ---- the places of the threads of a process
 

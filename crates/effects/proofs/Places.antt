@@ -16,7 +16,7 @@ use Rattle.sigset.specs.declared.SigSet.{SigSet}
 use Rattle.types.specs.declared.Siginfo.{Siginfo}
 use Rattle.rules.specs.Types.{Process, Thread}
 use Rattle.rules.specs.View.{isProcess, isThread, liveProcess, liveThread}
-use Rattle.rules.specs.Store.{Place, held, freeProcess, freeThread, remark, view}
+use Rattle.rules.specs.Store.{Place, held, freeProcess, freeThread, mapMarks, view}
 use Rattle.rules.proofs.Marks.{placeWhere, where-below, where-passes}
 use Rattle.queue.specs.Queue.{slotsOf}
 use Rattle.tables.specs.Tables.{processesOf, threadsOf, heldProcesses, heldThreads, processAt, threadAt}
@@ -25,7 +25,7 @@ use Rattle.sound.proofs.Facts.{one-process, one-thread, process-found, thread-f
 
 -- the marks change where the test passes
 abbrev pub marksWhere : {A : Type 0} → (A → Bool) → (SigSet → SigSet) → List (Place A) → List (Place A)
-marksWhere t h = remark (λ a m. cond (t a) (h m) m)
+marksWhere t h = mapMarks (λ a m. cond (t a) (h m) m)
 
 -- a place with its marks changed
 abbrev pub withMarks : {A : Type 0} → (SigSet → SigSet) → Place A → Place A

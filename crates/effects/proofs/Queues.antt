@@ -18,16 +18,16 @@ use Rattle.rules.specs.Sound.{ifFree, threadId, zeroThread, sound}
 use Rattle.rules.specs.Fitting.{liveQueue, fits}
 use Rattle.rules.proofs.Facts.{one-process, one-thread}
 use Rattle.rules.proofs.Marks.{processWith, threadWith, the-thread, process-is, thread-is, process-named, thread-named, queue-same, same-queue, same-comm, not-of-process, not-of-thread}
-use Rattle.rules.proofs.Parts.{parts}
+use Rattle.rules.proofs.ClausesByTable.{parts}
 use Rattle.rules.proofs.Queues.{target-process, target-thread, target-owner, queue-target}
-use Rattle.queue.specs.Queue.{slotsOf, spares}
-use Rattle.queue.specs.declared.Doomed.the-variants.{OfSignals}
+use Rattle.queue.specs.Queue.{slotsOf, isLeft}
+use Rattle.queue.specs.declared.Discarded.the-variants.{OfSignals}
 use Rattle.tables.specs.Tables.{processesOf, threadsOf, heldProcesses, heldThreads, processAt, threadAt}
 use Rattle.sound.specs.Lent.{storeOf, soundTables}
 use Rattle.sound.proofs.Facts.{store-sound}
 use Rattle.effects.specs.declared.Marking.{Marking}
 use Rattle.effects.specs.declared.Marking.the-variants.{Adding, Removing}
-use Rattle.effects.specs.Effects.{markedBy, remarked, remarkedOf}
+use Rattle.effects.specs.Effects.{markedBy, withMarking, withMarkingOf}
 use Rattle.effects.proofs.Fitted.{mark-queue, unmark-queue}
 use Rattle.effects.proofs.Places.{marksWhere, withMarks, marked-place, unmarked-places, with-all}
 
@@ -91,9 +91,9 @@ module _ (ps ts tb pb : List ℕ) (e : soundTables ps ts tb pb ≡ true) (n t : 
   st = storeOf ps ts tb pb
 
   process-store : t ≡ 0 → (ps′ : List ℕ)
-      → processesOf ps′ ≡ set (processesOf ps) (find (isProcess n) (heldProcesses ps)) (remarked how (processAt ps (find (isProcess n) (heldProcesses ps))))
+      → processesOf ps′ ≡ set (processesOf ps) (find (isProcess n) (heldProcesses ps)) (withMarking how (processAt ps (find (isProcess n) (heldProcesses ps))))
       → storeOf ps′ ts tb pb ≡ onMarks (marking how (targetQueue n t)) st
-  unfolding storeOf remarked
+  unfolding storeOf withMarking
   process-store z ps′ k =
       let l = target-process (view st) n t (queue-target (view st) n t live) in
       let s = store-sound ps ts tb pb e in
@@ -101,9 +101,9 @@ module _ (ps ts tb pb : List ℕ) (e : soundTables ps ts tb pb ≡ true) (n t : 
       (with-all ps′ ts tb pb (k ∙ sym (process-marks-set st s (markedBy how) n l)) (sym (thread-marks-kept st s (markedBy how) n l)) refl refl)
 
   thread-store : eqb t 0 ≡ false → (ts′ : List ℕ)
-      → threadsOf ts′ ≡ set (threadsOf ts) (find (isThread t) (heldThreads ts)) (remarked how (threadAt ts (find (isThread t) (heldThreads ts))))
+      → threadsOf ts′ ≡ set (threadsOf ts) (find (isThread t) (heldThreads ts)) (withMarking how (threadAt ts (find (isThread t) (heldThreads ts))))
       → storeOf ps ts′ tb pb ≡ onMarks (marking how (targetQueue n t)) st
-  unfolding storeOf remarked
+  unfolding storeOf withMarking
   thread-store z ts′ k =
       let q = targetQueue n t in
       let b = queue-target (view st) n t live in
@@ -115,10 +115,10 @@ module _ (ps ts tb pb : List ℕ) (e : soundTables ps ts tb pb ≡ true) (n t : 
 -- o is the signal alone
 module _ (ps ts tb pb : List ℕ) (e : soundTables ps ts tb pb ≡ true) (n t s : ℕ) (o : SigSet) (alone : o ≡ ofSignal s) where
   abbrev processTo : Marking → List ℕ → Type 0
-  processTo how ps′ = processesOf ps′ ≡ set (processesOf ps) (find (isProcess n) (heldProcesses ps)) (remarked how (processAt ps (find (isProcess n) (heldProcesses ps))))
+  processTo how ps′ = processesOf ps′ ≡ set (processesOf ps) (find (isProcess n) (heldProcesses ps)) (withMarking how (processAt ps (find (isProcess n) (heldProcesses ps))))
 
   abbrev threadTo : Marking → List ℕ → Type 0
-  threadTo how ts′ = threadsOf ts′ ≡ set (threadsOf ts) (find (isThread t) (heldThreads ts)) (remarked how (threadAt ts (find (isThread t) (heldThreads ts))))
+  threadTo how ts′ = threadsOf ts′ ≡ set (threadsOf ts) (find (isThread t) (heldThreads ts)) (withMarking how (threadAt ts (find (isThread t) (heldThreads ts))))
 
   module _ (f : fits (view (storeOf ps ts tb pb)) (setMark (targetQueue n t) s) ≡ true) where
     pub set-process : t ≡ 0 → (ps′ : List ℕ) → processTo (Adding o) ps′ → storeOf ps′ ts tb pb ≡ apply (setMark (targetQueue n t) s) (storeOf ps ts tb pb)
@@ -148,23 +148,23 @@ module _ (ps ts tb pb : List ℕ) (e : soundTables ps ts tb pb ≡ true) (n t s 
 
 -- ---- the tables: all queues of a process
 
-threads-remarked : (n : ℕ) (how : Marking) (xs : List (Place Thread)) → map (remarkedOf n how) xs ≡ marksWhere (λ (t : Thread). eqb (t .process) n) (markedBy how) xs
-unfolding remarkedOf remarked
-threads-remarked n how xs =
+threads-marks-changed : (n : ℕ) (how : Marking) (xs : List (Place Thread)) → map (withMarkingOf n how) xs ≡ marksWhere (λ (t : Thread). eqb (t .process) n) (markedBy how) xs
+unfolding withMarkingOf withMarking
+threads-marks-changed n how xs =
     ap (λ (f : Place Thread → Place Thread). map f xs)
     (fun-ext (λ x. sym (cond-map (λ m. record { holds = x .holds; marks = m }) (eqb (x .holds .process) n) (markedBy how (x .marks)) (x .marks))))
 
 module _ (ps ts tb pb : List ℕ) (e : soundTables ps ts tb pb ≡ true) (n : ℕ) (signals : SigSet)
     (f : fits (view (storeOf ps ts tb pb)) (discard n signals) ≡ true) where
   pub discard-store : (ps′ ts′ tb′ pb′ : List ℕ)
-      → processesOf ps′ ≡ set (processesOf ps) (find (isProcess n) (heldProcesses ps)) (remarked (Removing signals) (processAt ps (find (isProcess n) (heldProcesses ps))))
-      → threadsOf ts′ ≡ map (remarkedOf n (Removing signals)) (threadsOf ts)
-      → slotsOf tb′ ≡ onSlots (keep (spares (OfSignals n signals))) (slotsOf tb)
-      → slotsOf pb′ ≡ onSlots (keep (spares (OfSignals n signals))) (slotsOf pb)
+      → processesOf ps′ ≡ set (processesOf ps) (find (isProcess n) (heldProcesses ps)) (withMarking (Removing signals) (processAt ps (find (isProcess n) (heldProcesses ps))))
+      → threadsOf ts′ ≡ map (withMarkingOf n (Removing signals)) (threadsOf ts)
+      → slotsOf tb′ ≡ onSlots (keep (isLeft (OfSignals n signals))) (slotsOf tb)
+      → slotsOf pb′ ≡ onSlots (keep (isLeft (OfSignals n signals))) (slotsOf pb)
       → storeOf ps′ ts′ tb′ pb′ ≡ apply (discard n signals) (storeOf ps ts tb pb)
-  unfolding apply fits storeOf remarked markedBy spares
+  unfolding apply fits storeOf withMarking markedBy isLeft
   discard-store ps′ ts′ tb′ pb′ p t b q =
       with-all ps′ ts′ tb′ pb′
       (p ∙ sym (marks-of-id (storeOf ps ts tb pb) (store-sound ps ts tb pb e) (λ m. without m signals) n f))
-      (t ∙ threads-remarked n (Removing signals) (threadsOf ts))
+      (t ∙ threads-marks-changed n (Removing signals) (threadsOf ts))
       b q

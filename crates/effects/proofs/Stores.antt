@@ -19,17 +19,17 @@ module _ (p s : ℕ) (a : Action) where
   unfolding storeChanges
   stores-ignored i = cond-true _ _ i
 
-  pub stores-heard : ignored a s ≡ false → storeChanges p s a ≡ setAction p s a ∷ []
+  pub stores-not-ignored : ignored a s ≡ false → storeChanges p s a ≡ setAction p s a ∷ []
   unfolding storeChanges
-  stores-heard i = cond-false _ _ i
+  stores-not-ignored i = cond-false _ _ i
 
   module _ (st : Store) (f : fitsAll (storeChanges p s a) st ≡ true) where
     module _ (i : ignored a s ≡ false) where
-      pub heard-fits : fits (view st) (setAction p s a) ≡ true
-      heard-fits = starts (storeChanges p s a) st f (setAction p s a) [] (stores-heard i)
+      pub not-ignored-fits : fits (view st) (setAction p s a) ≡ true
+      not-ignored-fits = starts (storeChanges p s a) st f (setAction p s a) [] (stores-not-ignored i)
 
-      pub heard-made : (st′ : Store) → st′ ≡ apply (setAction p s a) st → st′ ≡ applyAll (storeChanges p s a) st
-      heard-made st′ h = made (storeChanges p s a) st (setAction p s a ∷ []) (stores-heard i) st′ (one-made (setAction p s a) st st′ h)
+      pub not-ignored-made : (st′ : Store) → st′ ≡ apply (setAction p s a) st → st′ ≡ applyAll (storeChanges p s a) st
+      not-ignored-made st′ h = made (storeChanges p s a) st (setAction p s a ∷ []) (stores-not-ignored i) st′ (one-made (setAction p s a) st st′ h)
 
     -- the signal's set as the code has it
     module _ (i : ignored a s ≡ true) (g : SigSet) (o : g ≡ ofSignal s) where

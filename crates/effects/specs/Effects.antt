@@ -14,12 +14,12 @@ markedBy (Adding s) m = union m s
 markedBy (Removing s) m = without m s
 
 -- a place with its marks changed
-unfoldable pub remarked : {A : Type 0} → Marking → Place A → Place A
-remarked how x = record { holds = x .holds; marks = markedBy how (x .marks) }
+unfoldable pub withMarking : {A : Type 0} → Marking → Place A → Place A
+withMarking how x = record { holds = x .holds; marks = markedBy how (x .marks) }
 
 -- where it is a thread of the process
-unfoldable pub remarkedOf : (process : ℕ) → Marking → Place Thread → Place Thread
-remarkedOf p how x = cond (eqb (x .holds .process) p) (remarked how x) x
+unfoldable pub withMarkingOf : (process : ℕ) → Marking → Place Thread → Place Thread
+withMarkingOf p how x = cond (eqb (x .holds .process) p) (withMarking how x) x
 
 -- a thread with these fields
 abbrev pub threadOf : (id process : ℕ) → SigSet → Thread

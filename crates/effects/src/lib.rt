@@ -9,18 +9,18 @@ ghost use Rattle.lists.specs.Lists.{any, find};
 ghost use Rattle.rules.specs.View.{isProcess, isThread, belongsTo, targetQueue, forget, removeProcess, removeThread, setStopped, setAction, setMask, setMark, clearMark, append, dropOldest, discard};
 ghost use Rattle.rules.specs.Store.{freeThread, isFreeProcess, isFreeThread, vacate, fill, view, apply, applyAll};
 ghost use Rattle.rules.specs.Actions.{storeChanges};
-ghost use Rattle.rules.specs.Adding.{newborn};
+ghost use Rattle.rules.specs.Adding.{addedProcess};
 ghost use Rattle.rules.specs.Fitting.{fits, fitsAll};
 ghost use Rattle.tables.specs.Tables.{processesOf, threadsOf, heldProcesses, heldThreads, processAt, threadAt};
 ghost use Rattle.sound.specs.Lent.{storeOf, lengthsAre, soundTables};
-ghost use Rattle.effects.specs.Effects.{markedBy, remarked, remarkedOf, threadOf};
+ghost use Rattle.effects.specs.Effects.{markedBy, withMarking, withMarkingOf, threadOf};
 use limits::PROCESS_MARKS;
 use limits::PROCESS_STOPPED;
 use limits::THREAD_MARKS;
 use limits::THREAD_MASK;
 use limits::THREAD_PLACES;
 use limits::THREAD_PROCESS;
-use queue::Doomed;
+use queue::Discarded;
 use sigset::SigSet;
 use types::Action;
 use types::Siginfo;
@@ -43,11 +43,11 @@ fn marked(m: SigSet, how: Marking) -> SigSet
 }
 
 // The marks of a live process.
-fn remark_process(ps: &mut [u64], process: u32, how: Marking)
+fn change_process_marks(ps: &mut [u64], process: u32, how: Marking)
     requires { ⌜ length (now ps) ≡ processTable ⌝ }
     requires { ⌜ any (isProcess process) (heldProcesses (now ps)) ≡ true ⌝ }
     ensures { λ _. ⌜ processesOf (now (ps .exit)) ≡ set (processesOf (now (ps .entry))) (find (isProcess process) (heldProcesses (now (ps .entry))))
-        (remarked how (processAt (now (ps .entry)) (find (isProcess process) (heldProcesses (now (ps .entry)))))) ⌝ }
+        (withMarking how (processAt (now (ps .entry)) (find (isProcess process) (heldProcesses (now (ps .entry)))))) ⌝ }
 {
     let place = tables::find_process(ps, process as u64);
     let m = marked(SigSet(tables::field_at(ps, place, PROCESS_MARKS)), how);
@@ -55,11 +55,11 @@ fn remark_process(ps: &mut [u64], process: u32, how: Marking)
 }
 
 // The marks of a live thread.
-fn remark_thread(ts: &mut [u64], thread: u32, how: Marking)
+fn change_thread_marks(ts: &mut [u64], thread: u32, how: Marking)
     requires { ⌜ length (now ts) ≡ threadTable ⌝ }
     requires { ⌜ any (isThread thread) (heldThreads (now ts)) ≡ true ⌝ }
     ensures { λ _. ⌜ threadsOf (now (ts .exit)) ≡ set (threadsOf (now (ts .entry))) (find (isThread thread) (heldThreads (now (ts .entry))))
-        (remarked how (threadAt (now (ts .entry)) (find (isThread thread) (heldThreads (now (ts .entry)))))) ⌝ }
+        (withMarking how (threadAt (now (ts .entry)) (find (isThread thread) (heldThreads (now (ts .entry)))))) ⌝ }
 {
     let place = tables::find_thread(ts, thread as u64);
     let m = marked(
@@ -70,9 +70,9 @@ fn remark_thread(ts: &mut [u64], thread: u32, how: Marking)
 }
 
 // The marks of every thread of a process.
-fn remark_threads(ts: &mut [u64], process: u32, how: Marking)
+fn change_threads_marks(ts: &mut [u64], process: u32, how: Marking)
     requires { ⌜ length (now ts) ≡ threadTable ⌝ }
-    ensures { λ _. ⌜ threadsOf (now (ts .exit)) ≡ map (remarkedOf process how) (threadsOf (now (ts .entry))) ⌝ }
+    ensures { λ _. ⌜ threadsOf (now (ts .exit)) ≡ map (withMarkingOf process how) (threadsOf (now (ts .entry))) ⌝ }
 {
     let mut i = 0;
     while i < THREAD_PLACES {
@@ -101,9 +101,9 @@ pub fn set_mark(
 {
     let how = Marking::Adding(SigSet::of_signal(signal));
     if thread == 0 {
-        remark_process(ps, process, how);
+        change_process_marks(ps, process, how);
     } else {
-        remark_thread(ts, thread, how);
+        change_thread_marks(ts, thread, how);
     }
 }
 
@@ -124,9 +124,9 @@ pub fn clear_mark(
 {
     let how = Marking::Removing(SigSet::of_signal(signal));
     if thread == 0 {
-        remark_process(ps, process, how);
+        change_process_marks(ps, process, how);
     } else {
-        remark_thread(ts, thread, how);
+        change_thread_marks(ts, thread, how);
     }
 }
 
@@ -184,10 +184,10 @@ pub fn discard(
     ensures { λ _. ⌜ storeOf (now (ps .exit)) (now (ts .exit)) (now (tb .exit)) (now (pb .exit)) ≡ apply (discard process signals) (storeOf (now (ps .entry)) (now (ts .entry)) (now (tb .entry)) (now (pb .entry))) ⌝ }
     ensures { λ _. ⌜ soundTables (now (ps .exit)) (now (ts .exit)) (now (tb .exit)) (now (pb .exit)) ≡ true ⌝ }
 {
-    queue::discard(tb, Doomed::OfSignals(process, signals));
-    queue::discard(pb, Doomed::OfSignals(process, signals));
-    remark_process(ps, process, Marking::Removing(signals));
-    remark_threads(ts, process, Marking::Removing(signals));
+    queue::discard(tb, Discarded::OfSignals(process, signals));
+    queue::discard(pb, Discarded::OfSignals(process, signals));
+    change_process_marks(ps, process, Marking::Removing(signals));
+    change_threads_marks(ts, process, Marking::Removing(signals));
 }
 
 // ---- fields
@@ -262,7 +262,7 @@ pub fn set_mask(ps: &[u64], ts: &mut [u64], tb: &[u8], pb: &[u8], thread: u32, m
 pub fn new_process(ps: &mut [u64], id: u32, real: u32, effective: u32, saved: u32, session: u32)
     requires { ⌜ length (now ps) ≡ processTable ⌝ }
     requires { ⌜ any isFreeProcess (heldProcesses (now ps)) ≡ true ⌝ }
-    ensures { λ _. ⌜ processesOf (now (ps .exit)) ≡ fill isFreeProcess (newborn id real effective saved session) (processesOf (now (ps .entry))) ⌝ }
+    ensures { λ _. ⌜ processesOf (now (ps .exit)) ≡ fill isFreeProcess (addedProcess id real effective saved session) (processesOf (now (ps .entry))) ⌝ }
 {
     let place = tables::free_process(ps);
     tables::fill_process(ps, place, id, real, effective, saved, session);
@@ -302,8 +302,8 @@ pub fn remove_process(ps: &mut [u64], ts: &mut [u64], tb: &mut [u8], pb: &mut [u
     let place = tables::find_process(ps, process as u64);
     tables::clear_process(ps, place);
     vacate_threads(ts, process);
-    queue::discard(tb, Doomed::OfProcess(process));
-    queue::discard(pb, Doomed::OfProcess(process));
+    queue::discard(tb, Discarded::OfProcess(process));
+    queue::discard(pb, Discarded::OfProcess(process));
 }
 
 // A thread goes, with all that is pending for it.
@@ -315,8 +315,8 @@ pub fn remove_thread(ps: &[u64], ts: &mut [u64], tb: &mut [u8], pb: &mut [u8], t
 {
     let place = tables::find_thread(ts, thread as u64);
     tables::clear_thread(ts, place);
-    queue::discard(tb, Doomed::OfThread(thread));
-    queue::discard(pb, Doomed::OfThread(thread));
+    queue::discard(tb, Discarded::OfThread(thread));
+    queue::discard(pb, Discarded::OfThread(thread));
 }
 
 // All of the store is cleared, whatever it held.

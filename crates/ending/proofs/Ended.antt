@@ -13,7 +13,7 @@ use Rattle.rules.specs.Refusals.{rows, isClear, esrch, noProcessLive, noThreadL
 use Rattle.rules.specs.Calls.{changes, answer}
 use Rattle.rules.specs.Fitting.{fits}
 use Rattle.rules.proofs.Marks.{the-thread-id}
-use Rattle.rules.proofs.Taken.{end-thread-fits}
+use Rattle.rules.proofs.TakeFits.{end-thread-fits}
 use Rattle.tables.specs.Tables.{heldThreads}
 use Rattle.sound.specs.Lent.{storeOf, soundTables}
 use Rattle.sound.proofs.Facts.{store-sound}

@@ -15,8 +15,8 @@ use Rattle.types.specs.declared.Siginfo.{Siginfo}
 use Rattle.types.specs.Values.{defaultAction}
 use Rattle.rules.specs.Types.{Process, Thread, Queue, addProcess, kill, queue, clear, refused, done}
 use Rattle.rules.specs.View.{Change, newProcess, newThread, setStopped, setAction, setMask, setMark, append, processQueue, isProcess}
-use Rattle.rules.specs.Store.{Store, cleared, withAction, amend, remark, isFreeProcess, isFreeThread, onProcesses, onThreads, onBuffer, applyAll}
-use Rattle.rules.specs.Sound.{lengthsRight, freeZero, idsInRange, idsDistinct, fieldsInRange, threadsOwned, processesPeopled, nothingUnmaskable, unmaskableDefault, allFlagsKnown, recordsLaidOut, limitKept, pendingOnce, nothingIgnored}
+use Rattle.rules.specs.Store.{Store, cleared, withAction, amend, mapMarks, isFreeProcess, isFreeThread, onProcesses, onThreads, onBuffer, applyAll}
+use Rattle.rules.specs.Sound.{lengthsRight, freeZero, idsInRange, idsDistinct, fieldsInRange, threadsOwned, processesHaveThreads, nothingUnmaskable, unmaskableDefault, allFlagsKnown, recordsLaidOut, limitKept, pendingOnce, nothingIgnored}
 use Rattle.rules.specs.Calls.{run, step}
 use Rattle.rules.specs.Computing.{computing}
 use Rattle.examples.specs.Cases.{times}
@@ -24,7 +24,7 @@ use Rattle.examples.specs.Cases.{times}
 -- what each clause says of a store, in the order of `sound`
 unfoldable pub verdicts : Store → List Bool
 verdicts st =
-    lengthsRight st ∷ freeZero st ∷ idsInRange st ∷ idsDistinct st ∷ fieldsInRange st ∷ threadsOwned st ∷ processesPeopled st ∷ nothingUnmaskable st
+    lengthsRight st ∷ freeZero st ∷ idsInRange st ∷ idsDistinct st ∷ fieldsInRange st ∷ threadsOwned st ∷ processesHaveThreads st ∷ nothingUnmaskable st
     ∷ unmaskableDefault st ∷ allFlagsKnown st ∷ recordsLaidOut st ∷ limitKept st ∷ pendingOnce st ∷ nothingIgnored st ∷ []
 
 abbrev clauseCount : ℕ
@@ -138,8 +138,8 @@ freePlaces =
     ∷ by 1 (newThread (threadOf 0 100) ∷ [])
     ∷ by 1 (newThread (record { id = 0; process = 0; mask = bits 1 }) ∷ [])
     -- marks in free places of either table
-    ∷ damage 1 (onProcesses (remark (λ (p : Process) (m : SigSet). cond (isFreeProcess p) (bits 1) m)) sample)
-    ∷ damage 1 (onThreads (remark (λ (t : Thread) (m : SigSet). cond (isFreeThread t) (bits 1) m)) sample)
+    ∷ damage 1 (onProcesses (mapMarks (λ (p : Process) (m : SigSet). cond (isFreeProcess p) (bits 1) m)) sample)
+    ∷ damage 1 (onThreads (mapMarks (λ (t : Thread) (m : SigSet). cond (isFreeThread t) (bits 1) m)) sample)
     ∷ []
 
 abbrev ids : List Damage

@@ -15,7 +15,7 @@ use Rattle.rules.specs.Calls.{run, Part, emptyPart, processSlot, lookPart}
 use Rattle.rules.specs.Machine.{machine}
 use Rattle.rules.specs.Computing.{computing}
 use Rattle.rules.proofs.Cleared.{sound-cleared}
-use Rattle.rules.proofs.Lasting.{run-sound}
+use Rattle.rules.proofs.StaysSound.{run-sound}
 use Rattle.rules.proofs.QuickRuns.{quickComputing, quickRun, same-run, quickPart, same-part}
 use Rattle.examples.specs.Cases.{Case, Holds, holds, times}
 

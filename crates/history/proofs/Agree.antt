@@ -17,13 +17,13 @@ use Rattle.types.specs.Values.{noSiginfo}
 use Rattle.rules.specs.Types.{Process, Thread, Queue, noProcess, noThread}
 use Rattle.rules.specs.Signals.{isSignal}
 use Rattle.rules.specs.View.{sameQueue, processQueue, Change, forget, newProcess, newThread, removeProcess, removeThread, setStopped, setAction, setMask, setMark, clearMark, append, dropOldest, discard, isProcess, isThread, belongsTo, inQueue, liveThread}
-use Rattle.rules.specs.Store.{Store, held, view, inUse, used, recordsFor, markIn, spared, processMark, threadMark, amend, onProcesses, freeProcess, freeThread, isFreeProcess, isFreeThread, withStopped, withAction, withMask, cleared, apply}
+use Rattle.rules.specs.Store.{Store, held, view, inUse, used, recordsFor, markIn, leftBy, processMark, threadMark, amend, onProcesses, freeProcess, freeThread, isFreeProcess, isFreeThread, withStopped, withAction, withMask, cleared, apply}
 use Rattle.rules.specs.Sound.{ifFree, processId, threadId, zeroProcess, zeroThread, nameable, freeZero, sound}
 use Rattle.rules.specs.Fitting.{admits, liveQueue, fits}
 use Rattle.rules.proofs.Clauses.{clauses}
-use Rattle.rules.proofs.Fading.{discard-records, discard-marks}
+use Rattle.rules.proofs.DiscardPending.{discard-records, discard-marks}
 use Rattle.rules.proofs.Marks.{process-named, thread-named}
-use Rattle.rules.proofs.Seen.{seen-setMark-processes, seen-setMark-threads, seen-clearMark-processes, seen-clearMark-threads, seen-discard-processes, seen-discard-threads}
+use Rattle.rules.proofs.PendingInView.{seen-setMark-processes, seen-setMark-threads, seen-clearMark-processes, seen-clearMark-threads, seen-discard-processes, seen-discard-threads}
 use Rattle.rules.proofs.Slots.{zero-free}
 use Rattle.rules.proofs.Vacated.{held-vacated, free-process-unmarked, free-thread-unmarked}
 use Rattle.history.specs.Ledger as ledger
@@ -154,7 +154,7 @@ module _ (st : Store) (k : Ledger) (a : Agrees st k) where
         threads = unfold view in seen-discard-threads st n x ∙ a .threads;
         records = λ q s.
             ap (keep (inQueue q s)) (discard-records n x st q)
-            ∙ keep-left (ofSignals n x) (spared n x) (λ r. refl) q s (recordsFor q st)
+            ∙ keep-left (ofSignals n x) (leftBy n x) (λ r. refl) q s (recordsFor q st)
             ∙ made-part (eqb (q .process) n && has x s) (k .lines q s) sendsOf emptyLine _ (a .records q s);
         marks = λ q s. discard-marks n x st q s ∙ unmarked (eqb (q .process) n && has x s) (k .lines q s) emptyLine refl (markIn st q s) (a .marks q s);
       }

@@ -12,12 +12,12 @@ use Rattle.lists.proofs.Bools.{split, clash, same-test, cond-false}
 use Rattle.rules.specs.Types.{Call, clear, addProcess, addThread, endProcess, endThread, kill, queue, action, mask, pending, look, who, take, return, Answer, refused, done, tested, acted, dropped, absorbed, marked, kept, oldAction, oldMask, pendingSet, looked, canTake, noneCan, nothing, handler, end, stop, noAction}
 use Rattle.rules.specs.View.{View, targetQueue}
 use Rattle.rules.specs.Store.{Store, view}
-use Rattle.rules.specs.Sending.{fate, needsRecord}
+use Rattle.rules.specs.Sending.{generation, needsRecord}
 use Rattle.rules.specs.Refusals.{Row, refusal, rows, table, refusalOf, noRoom, einval, esrch, eperm, eagain}
 use Rattle.rules.specs.Calls.{answer, finish, step, isRefused}
 use Rattle.rules.proofs.Facts.{within-limit}
 use Rattle.rules.proofs.Refused.{accepted-answers}
-use Rattle.rules.proofs.Table.{given-passes, no-fault}
+use Rattle.rules.proofs.RefusalTable.{given-passes, no-fault}
 use Rattle.history.specs.Ledger.{Ledger, ledgerView, ledgerRefusal, ledgerAnswer, ofProcess, pendingWhere}
 use Rattle.history.specs.History.{isRefusedWith}
 use Rattle.history.proofs.Counted.{same-queued}
@@ -128,10 +128,10 @@ module _ (st : Store) (k : Ledger) (h : Holds st k) where
 
   pub room-counted : (by to t s value : ℕ) → isRefusedWith EAGAIN (ledgerAnswer k (queue by to t s value))
       ≡ (eqb (refusal (rows (ledgerView k) (kill by to t s))) 0
-      && (needsRecord (fate (ledgerView k) true (targetQueue to t) s) && eqb (pendingWhere k (ofProcess to)) recordLimit))
+      && (needsRecord (generation (ledgerView k) true (targetQueue to t) s) && eqb (pendingWhere k (ofProcess to)) recordLimit))
   unfolding ledgerRefusal rows noRoom
   room-counted by to t s value =
       refused-with k (queue by to t s value) EAGAIN refl
       ∙ last-row _ _ _ (noRoom (ledgerView k) to t s)
-      ∙ ap (λ (b : Bool). eqb (refusal (rows (ledgerView k) (kill by to t s))) 0 && (needsRecord (fate (ledgerView k) true (targetQueue to t) s) && b))
+      ∙ ap (λ (b : Bool). eqb (refusal (rows (ledgerView k) (kill by to t s))) 0 && (needsRecord (generation (ledgerView k) true (targetQueue to t) s) && b))
       (unfold ledgerView in full (pendingWhere k (ofProcess to)) (pending-limit to))

@@ -11,11 +11,11 @@ use Rattle.lists.proofs.Bools.{split, and-both, cond-true}
 use Rattle.types.specs.declared.Siginfo.{Siginfo}
 use Rattle.rules.specs.Types.{Queue, Next, nextRecord, Call, queue, take}
 use Rattle.rules.specs.View.{View, Change, forget, newProcess, newThread, removeProcess, removeThread, setStopped, setAction, setMask, setMark, clearMark, append, dropOldest, discard, sameQueue, targetQueue, inQueue, theThread, threadAction}
-use Rattle.rules.specs.Sending.{Fate, keeping, fate, infoOf, jobControl, sendChanges}
+use Rattle.rules.specs.Sending.{Generation, keeping, generation, infoOf, jobControl, sendChanges}
 use Rattle.rules.specs.Taking.{next, deliver, takeChanges}
 use Rattle.rules.specs.Asking.{takenBy}
 use Rattle.rules.specs.Calls.{send, changes}
-use Rattle.rules.proofs.Made.{Quiet, Keeps, changes-made, job-made, deliver-made}
+use Rattle.rules.proofs.CallChanges.{Quiet, Keeps, changes-made, job-made, deliver-made}
 use Rattle.rules.proofs.Marks.{same-queue}
 use Rattle.queue.proofs.Signals.{eqb-comm}
 use Rattle.history.specs.Ledger.{ofThread, ofSignals, Counts, Line, Ledger, everywhere, ofProcess, isAt, keepSend, oneOf, takeSend, emptyLine, withMark, onLines, emptying, note, noteAll}
@@ -94,9 +94,9 @@ places-fade k k′ k″ f e t =
       taken = ap (λ (n : Counts). n .taken) t ∙ f .taken;
     }
 
-fading : Quiet Fading
+discard-pending : Quiet Fading
 unfolding note
-fading =
+discard-pending =
     record {
       forgets = λ k. places-fade k (emptying everywhere k) _ (emptying-fades everywhere k) refl refl;
       comes = λ p k. places-fade k k _ (fades-refl k) refl refl;
@@ -145,17 +145,17 @@ module _ (f : Counts → ℕ) where
   steadying : ((k k′ : Ledger) → Fades k k′ → Steady f k k′) → Quiet Steadying
   steadying h =
       record {
-        forgets = λ k. h k (note forget k) (fading .forgets k);
-        comes = λ p k. h k (note (newProcess p) k) (fading .comes p k);
-        joins = λ t k. h k (note (newThread t) k) (fading .joins t k);
-        ended = λ n k. h k (note (removeProcess n) k) (fading .ended n k);
-        left = λ n k. h k (note (removeThread n) k) (fading .left n k);
-        stopped = λ n b k. h k (note (setStopped n b) k) (fading .stopped n b k);
-        acts = λ n s a k. h k (note (setAction n s a) k) (fading .acts n s a k);
-        masks = λ n m k. h k (note (setMask n m) k) (fading .masks n m k);
-        marks = λ q s k. h k (note (setMark q s) k) (fading .marks q s k);
-        unmarks = λ q s k. h k (note (clearMark q s) k) (fading .unmarks q s k);
-        discards = λ p x k. h k (note (discard p x) k) (fading .discards p x k);
+        forgets = λ k. h k (note forget k) (discard-pending .forgets k);
+        comes = λ p k. h k (note (newProcess p) k) (discard-pending .comes p k);
+        joins = λ t k. h k (note (newThread t) k) (discard-pending .joins t k);
+        ended = λ n k. h k (note (removeProcess n) k) (discard-pending .ended n k);
+        left = λ n k. h k (note (removeThread n) k) (discard-pending .left n k);
+        stopped = λ n b k. h k (note (setStopped n b) k) (discard-pending .stopped n b k);
+        acts = λ n s a k. h k (note (setAction n s a) k) (discard-pending .acts n s a k);
+        masks = λ n m k. h k (note (setMask n m) k) (discard-pending .masks n m k);
+        marks = λ q s k. h k (note (setMark q s) k) (discard-pending .marks q s k);
+        unmarks = λ q s k. h k (note (clearMark q s) k) (discard-pending .unmarks q s k);
+        discards = λ p x k. h k (note (discard p x) k) (discard-pending .discards p x k);
       }
 
 pub fades-kept : (k k′ : Ledger) → Fades k k′ → Steady kept k k′
@@ -197,17 +197,17 @@ unfolding noteAll
 noteAll-append [] ys k = refl
 noteAll-append (c ∷ xs) ys k = noteAll-append xs ys (note c k)
 
-module _ (k : Ledger) (v : View) (by to t s value : ℕ) (e : fate v true (targetQueue to t) s ≡ keeping) where
+module _ (k : Ledger) (v : View) (by to t s value : ℕ) (e : generation v true (targetQueue to t) s ≡ keeping) where
   abbrev controlled : Ledger
   controlled = noteAll (jobControl to s) k
 
   kept-last : noteAll (changes v (queue by to t s value)) k ≡ note (append (infoOf v by to t s value)) controlled
   unfolding changes send sendChanges infoOf noteAll
   kept-last =
-      ap (λ (f : Fate). noteAll (sendChanges f (infoOf v by to t s value)) k) e ∙ noteAll-append (jobControl to s) (append (infoOf v by to t s value) ∷ []) k
+      ap (λ (f : Generation). noteAll (sendChanges f (infoOf v by to t s value)) k) e ∙ noteAll-append (jobControl to s) (append (infoOf v by to t s value) ∷ []) k
 
   controlled-kept : Steady kept k controlled
-  controlled-kept = fades-kept k controlled (fades-all (jobControl to s) k (job-made Fading fading to s))
+  controlled-kept = fades-kept k controlled (fades-all (jobControl to s) k (job-made Fading discard-pending to s))
 
   pub kept-one : (q : Queue) (n : ℕ) → noteAll (changes v (queue by to t s value)) k .lines q n .counts .kept ≡ k .lines q n .counts .kept + cond (isAt (targetQueue to t) s q n) 1 0
   unfolding note infoOf inQueue
@@ -238,7 +238,7 @@ module _ (k : Ledger) (v : View) (t : ℕ) (q : Queue) (s : ℕ) (r : Siginfo) (
   taken-first = ap (λ (n : Next). noteAll (takeChanges v (theThread v t) n) k) e
 
   delivered-fades : Fades relieved (noteAll delivering relieved)
-  delivered-fades = fades-all delivering relieved (deliver-made Fading fading (theThread v t) (threadAction v (theThread v t) s) s)
+  delivered-fades = fades-all delivering relieved (deliver-made Fading discard-pending (theThread v t) (threadAction v (theThread v t) s) s)
 
   -- o: there is a send to take
   module _ (o : oneOf (k .lines q s .sends) ≡ 1) where

@@ -22,17 +22,17 @@ use Rattle.rules.specs.Sound.{actionsLong, sound}
 use Rattle.rules.specs.Refusals.{refusal, rows, isClear, fault, table, refusalOf}
 use Rattle.rules.specs.Machine.{machine}
 use Rattle.rules.specs.Calls.{changes, step, isRefused}
-use Rattle.rules.proofs.Parts.{Lengths, parts}
+use Rattle.rules.proofs.ClausesByTable.{Lengths, parts}
 use Rattle.rules.proofs.Steps.{accepted-step}
 use Rattle.rules.proofs.Refused.{refused-by-table, refused-keeps}
-use Rattle.rules.proofs.Lasting.{step-sound}
+use Rattle.rules.proofs.StaysSound.{step-sound}
 use Rattle.rules.proofs.Cleared.{sound-cleared}
 use Rattle.tables.specs.Tables.{processTo, threadTo, processWordsOf, threadWordsOf}
 use Rattle.tables.proofs.Words.{ActionsLong, words-forth, thread-words-forth, length-processWordsOf, length-threadWordsOf, free-process-words, free-thread-words}
 use Rattle.queue.specs.Queue.{slotsOf}
 use Rattle.sound.specs.Lent.{storeOf, lengthsAre, soundTables}
 use Rattle.sound.proofs.Facts.{right-lengths, store-sound}
-use Rattle.answers.specs.Step.{Lent, lent, decoded, encoded, settled, stepOn}
+use Rattle.answers.specs.Step.{Lent, lent, decoded, encoded, committed, stepOn}
 use Rattle.answers.proofs.Endings.{longAs, isSound, places-right}
 use Rattle.history.specs.History.{clearedTables}
 use Rattle.history.proofs.Widths.{Widths, widths-cleared, widths-step}
@@ -77,21 +77,21 @@ module _ (st : Store) (e : sound st ≡ true) where
 
 module _ (c : Call) (l : Lent) (h : longAs l ≡ true) where
   -- tables of the right lengths: nothing but the rules decides
-  on-long : stepOn c l ≡ settled l (step c (decoded l))
+  on-long : stepOn c l ≡ committed l (step c (decoded l))
   unfolding stepOn
-  on-long = cond-true (settled l (step c (decoded l))) (l, refused EFAULT) h
+  on-long = cond-true (committed l (step c (decoded l))) (l, refused EFAULT) h
 
   pub answer-on : stepOn c l .1 ≡ step c (decoded l) .1
-  unfolding settled
+  unfolding committed
   answer-on = ap (λ x. x .1) on-long
 
   -- the tables after it: the same where it is refused, else what the rules' step says
   refused-on : isRefused (step c (decoded l) .1) ≡ true → stepOn c l .0 ≡ l
-  unfolding settled
+  unfolding committed
   refused-on r = ap (λ x. x .0) on-long ∙ cond-true l (encoded (step c (decoded l) .0)) r
 
   accepted-on : isRefused (step c (decoded l) .1) ≡ false → stepOn c l .0 ≡ encoded (step c (decoded l) .0)
-  unfolding settled
+  unfolding committed
   accepted-on r = ap (λ x. x .0) on-long ∙ cond-false l (encoded (step c (decoded l) .0)) r
 
 module _ (c : Call) (l : Lent) (u : machine c ≡ true) (e : isSound l ≡ true) (w : Widths (decoded l)) where

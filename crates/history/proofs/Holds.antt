@@ -19,8 +19,8 @@ use Rattle.rules.specs.Fitting.{fits, fitsAll}
 use Rattle.rules.specs.Machine.{machine}
 use Rattle.rules.proofs.Clauses.{clauses}
 use Rattle.rules.proofs.Cleared.{sound-cleared}
-use Rattle.rules.proofs.Keeps.{fits-keeps}
-use Rattle.rules.proofs.Lasting.{isAddProcess, call-fits, accepted-sound-after}
+use Rattle.rules.proofs.ChangesSound.{fits-keeps}
+use Rattle.rules.proofs.StaysSound.{isAddProcess, call-fits, accepted-sound-after}
 use Rattle.rules.proofs.Refused.{refused-by-table, refused-keeps}
 use Rattle.rules.proofs.Steps.{accepted-step}
 use Rattle.history.specs.Ledger.{Ledger, Entry, emptyLedger, ledgerView, note, noteAll, noteStages, enter}

@@ -15,13 +15,13 @@ use Rattle.sigset.proofs.Laws.{has-empty, has-union, has-of}
 use Rattle.rules.specs.Types.{Process, Thread, Queue, noThread}
 use Rattle.rules.specs.Signals.{isSignal}
 use Rattle.rules.specs.View.{View, isProcess, isThread, belongsTo, sameQueue, processQueue, threadQueue, liveProcess, liveThread, theThread, setMark, clearMark, newProcess, newThread, removeProcess, removeThread}
-use Rattle.rules.specs.Store.{Place, Store, held, view, markIn, vacate, fill, remark, freeProcess, freeThread, isFreeProcess, isFreeThread, processMark, threadMark, apply}
+use Rattle.rules.specs.Store.{Place, Store, held, view, markIn, vacate, fill, mapMarks, freeProcess, freeThread, isFreeProcess, isFreeThread, processMark, threadMark, apply}
 use Rattle.rules.specs.Sound.{ifFree, isLive, processId, threadId, zeroProcess, zeroThread, freeZero}
 use Rattle.rules.specs.Fitting.{liveQueue}
-use Rattle.rules.proofs.Fading.{cut-marks}
+use Rattle.rules.proofs.DiscardPending.{cut-marks}
 use Rattle.rules.proofs.Marks.{queue-same, same-queue}
 use Rattle.rules.proofs.Queues.{queue-target, target-process, target-thread, target-owner}
-use Rattle.rules.proofs.Remarks.{free-process-marks, free-thread-marks}
+use Rattle.rules.proofs.MarksSound.{free-process-marks, free-thread-marks}
 use Rattle.rules.proofs.Signals.{is-signal}
 use Rattle.queue.proofs.Signals.{eqb-comm}
 use Rattle.history.specs.Ledger.{isAt}
@@ -61,8 +61,8 @@ module _ {A : Type 0} (f : A → Queue) (q : Queue) (s : ℕ) where
           none false = refl
 
   -- none of the places has a queue that goes
-  marks-spared : (gone : Bool) → ((a : A) → sameQueue q (f a) ≡ true → gone ≡ false) → (xs : List (Place A)) → any marked xs ≡ (any marked xs && not gone)
-  marks-spared gone h xs =
+  marks-left : (gone : Bool) → ((a : A) → sameQueue q (f a) ≡ true → gone ≡ false) → (xs : List (Place A)) → any marked xs ≡ (any marked xs && not gone)
+  marks-left gone h xs =
       any-same marked (λ (x : Place A). marked x && not gone) xs
       (λ x.
       split (marked x)
@@ -80,7 +80,7 @@ module _ {A : Type 0} (f : A → Queue) (q : Queue) (s : ℕ) where
 
   -- the signal n is marked in the queue k
   marks-set : (k : Queue) (n : ℕ) → Signal s → (xs : List (Place A))
-      → any marked (remark (λ (a : A) (m : SigSet). cond (sameQueue (f a) k) (union m (ofSignal n)) m) xs)
+      → any marked (mapMarks (λ (a : A) (m : SigSet). cond (sameQueue (f a) k) (union m (ofSignal n)) m) xs)
       ≡ (any marked xs || (any (λ (a : A). sameQueue q (f a)) (map held xs) && isAt k n q s))
   marks-set k n g xs =
       any-map marked _ xs
@@ -163,7 +163,7 @@ module _ (st : Store) (q : Queue) (s : ℕ) where
   unfolding apply isThread
   remove-thread-marks n z =
       marks-gone (apply (removeThread n) st) (eqb (q .thread) n)
-      (marks-spared (λ (p : Process). processQueue (p .id)) q s (eqb (q .thread) n)
+      (marks-left (λ (p : Process). processQueue (p .id)) q s (eqb (q .thread) n)
       (λ p e. ap (λ (k : Queue). eqb (k .thread) n) (queue-same q (processQueue (p .id)) e) ∙ eqb-comm 0 n ∙ z) (st .processes))
       (marks-vacated threadQueue q s freeThread refl (isThread n) (eqb (q .thread) n)
       (λ t e. ended n (q .thread) (t .id) z (ap (λ (k : Queue). k .thread) (queue-same q (threadQueue t) e))) (st .threads))

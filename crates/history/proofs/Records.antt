@@ -15,7 +15,7 @@ use Rattle.rules.specs.Types.{Queue}
 use Rattle.rules.specs.View.{append, dropOldest, sameQueue, queueOf, inQueue}
 use Rattle.rules.specs.Store.{Store, view, inUse, used, recordsFor, onSlots, apply}
 use Rattle.rules.specs.Fitting.{admits, fits}
-use Rattle.rules.proofs.Grows.{admitted}
+use Rattle.rules.proofs.PendingSound.{admitted}
 use Rattle.rules.proofs.Marks.{queue-same, process-named}
 use Rattle.rules.proofs.Slots.{used-inUse, used-after, used-within, inUse-within}
 use Rattle.queue.proofs.Signals.{eqb-comm}

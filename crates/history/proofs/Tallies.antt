@@ -13,13 +13,13 @@ use Rattle.types.specs.declared.Siginfo.{Siginfo}
 use Rattle.rules.specs.Types.{Thread, Queue, Next, noNext, nextMark, nextRecord, Call, clear, addProcess, addThread, endProcess, endThread, kill, queue, action, mask, pending, look, who, take, return, Answer, refused}
 use Rattle.rules.specs.View.{View, targetQueue, liveThread, theThread, threadAction}
 use Rattle.rules.specs.Signals.{Outcome, ignores, stops, continues, ends, outcome}
-use Rattle.rules.specs.Sending.{Fate, testing, killing, stopping, dropping, absorbing, marking, keeping, fate, sendAnswer, needsRecord}
+use Rattle.rules.specs.Sending.{Generation, testing, killing, stopping, dropping, absorbing, marking, keeping, generation, sendAnswer, needsRecord}
 use Rattle.rules.specs.Taking.{whoAnswer, taker, next, markInfo, outcomeAnswer, delivered, takeAnswer}
 use Rattle.rules.specs.Asking.{MayTake, hasOffer, yieldsOne, takenBy}
 use Rattle.rules.specs.Refusals.{refusal, rows, noThreadLive}
 use Rattle.rules.specs.Calls.{answer, changes, stages, isRefused}
 use Rattle.rules.proofs.Asking.{delivered-yields, asking-yields, next-record}
-use Rattle.rules.proofs.Made.{Keeps, queued, plain-send, needs-keeping, keeping-needs}
+use Rattle.rules.proofs.CallChanges.{Keeps, queued, plain-send, needs-keeping, keeping-needs}
 use Rattle.rules.proofs.Refused.{accepted-answers}
 use Rattle.history.specs.Ledger.{Ledger, isAt, oneOf, ledgerView, ledgerRefusal, ledgerAnswer, noteAll, noteStages, enter}
 use Rattle.history.specs.History.{isKept, keepsAt, isSendAt, isSend, takesAt, takesOne}
@@ -59,15 +59,15 @@ module _ (k : Ledger) (c : Call) where
 
 -- ---- which call is answered "kept"
 
-kept-fate : (f : Fate) → isKept (sendAnswer f) ≡ needsRecord f
+kept-generation : (f : Generation) → isKept (sendAnswer f) ≡ needsRecord f
 unfolding sendAnswer isKept needsRecord
-kept-fate testing = refl
-kept-fate killing = refl
-kept-fate stopping = refl
-kept-fate dropping = refl
-kept-fate absorbing = refl
-kept-fate marking = refl
-kept-fate keeping = refl
+kept-generation testing = refl
+kept-generation killing = refl
+kept-generation stopping = refl
+kept-generation dropping = refl
+kept-generation absorbing = refl
+kept-generation marking = refl
+kept-generation keeping = refl
 
 kept-outcome : (o : Outcome) (s : ℕ) → isKept (outcomeAnswer o s) ≡ false
 unfolding outcomeAnswer isKept
@@ -99,7 +99,7 @@ keepsOne v (addThread creator id) = false
 keepsOne v (endProcess id) = false
 keepsOne v (endThread id) = false
 keepsOne v (kill by to t s) = false
-keepsOne v (queue by to t s value) = needsRecord (fate v true (targetQueue to t) s)
+keepsOne v (queue by to t s value) = needsRecord (generation v true (targetQueue to t) s)
 keepsOne v (action p s new) = false
 keepsOne v (mask t way set) = false
 keepsOne v (pending t) = false
@@ -115,8 +115,8 @@ kept-call v (addProcess id real effective saved session thread m) = refl
 kept-call v (addThread creator id) = refl
 kept-call v (endProcess id) = refl
 kept-call v (endThread id) = refl
-kept-call v (kill by to t s) = kept-fate (fate v false (targetQueue to t) s) ∙ plain-send v (targetQueue to t) s
-kept-call v (queue by to t s value) = kept-fate (fate v true (targetQueue to t) s)
+kept-call v (kill by to t s) = kept-generation (generation v false (targetQueue to t) s) ∙ plain-send v (targetQueue to t) s
+kept-call v (queue by to t s value) = kept-generation (generation v true (targetQueue to t) s)
 kept-call v (action p s new) = refl
 kept-call v (mask t way set) = refl
 kept-call v (pending t) = refl
@@ -135,7 +135,7 @@ more m n false y z = z refl ∙ omega arith
 
 module _ (k : Ledger) (v : View) where
   -- the only call that keeps one
-  keeps-cases : (P : Call → Type 0) → ((by to t s value : ℕ) → fate v true (targetQueue to t) s ≡ keeping → P (queue by to t s value)) → (c : Call) → keepsOne v c ≡ true → P c
+  keeps-cases : (P : Call → Type 0) → ((by to t s value : ℕ) → generation v true (targetQueue to t) s ≡ keeping → P (queue by to t s value)) → (c : Call) → keepsOne v c ≡ true → P c
   unfolding keepsOne
   keeps-cases P h clear e = clash e refl
   keeps-cases P h (addProcess id real effective saved session thread m) e = clash e refl
@@ -143,7 +143,7 @@ module _ (k : Ledger) (v : View) where
   keeps-cases P h (endProcess id) e = clash e refl
   keeps-cases P h (endThread id) e = clash e refl
   keeps-cases P h (kill by to t s) e = clash e refl
-  keeps-cases P h (queue by to t s value) e = h by to t s value (keeping-needs (fate v true (targetQueue to t) s) e)
+  keeps-cases P h (queue by to t s value) e = h by to t s value (keeping-needs (generation v true (targetQueue to t) s) e)
   keeps-cases P h (action p s new) e = clash e refl
   keeps-cases P h (mask t way set) e = clash e refl
   keeps-cases P h (pending t) e = clash e refl
@@ -156,7 +156,7 @@ module _ (k : Ledger) (v : View) where
   kept-none c z = kept-steady k v c (no c z)
     where
       no : (c : Call) → keepsOne v c ≡ false → (r : Siginfo) → Keeps v c r → ⊥
-      no (queue by to t s value) z r (queued e) = unfold keepsOne in clash (needs-keeping (fate v true (targetQueue to t) s) e) z
+      no (queue by to t s value) z r (queued e) = unfold keepsOne in clash (needs-keeping (generation v true (targetQueue to t) s) e) z
 
   abbrev KeptAt : Queue → ℕ → Call → Type 0
   KeptAt q s c = noteAll (changes v c) k .lines q s .counts .kept ≡ k .lines q s .counts .kept + cond (keepsOne v c && keepsAt c q s) 1 0
@@ -166,7 +166,7 @@ module _ (k : Ledger) (v : View) where
       split (keepsOne v c)
       (λ e.
       keeps-cases (KeptAt q s)
-      (λ by to t n value f. unfold keepsOne keepsAt in (kept-one k v by to t n value f q s ∙ ap (λ (b : Bool). k .lines q s .counts .kept + cond (b && isAt (targetQueue to t) n q s) 1 0) (sym (needs-keeping (fate v true (targetQueue to t) n) f))))
+      (λ by to t n value f. unfold keepsOne keepsAt in (kept-one k v by to t n value f q s ∙ ap (λ (b : Bool). k .lines q s .counts .kept + cond (b && isAt (targetQueue to t) n q s) 1 0) (sym (needs-keeping (generation v true (targetQueue to t) n) f))))
       c e)
       (λ e. more _ _ (keepsOne v c && keepsAt c q s) (λ y. clash y (and-left (keepsAt c q s) e)) (λ _. kept-none c e .lines q s))
 
@@ -178,7 +178,7 @@ module _ (k : Ledger) (v : View) where
       split (keepsOne v c)
       (λ e.
       keeps-cases KeptInAll
-      (λ by to t n value f. unfold keepsOne in (kept-total k v by to t n value f ∙ ap (λ (b : Bool). k .total .kept + cond b 1 0) (sym (needs-keeping (fate v true (targetQueue to t) n) f))))
+      (λ by to t n value f. unfold keepsOne in (kept-total k v by to t n value f ∙ ap (λ (b : Bool). k .total .kept + cond b 1 0) (sym (needs-keeping (generation v true (targetQueue to t) n) f))))
       c e)
       (λ e. more _ _ (keepsOne v c) (λ y. clash y e) (λ _. kept-none c e .total))
 

@@ -24,7 +24,7 @@ use Rattle.rules.specs.Sending.{infoOf}
 use Rattle.rules.specs.Machine.{isU32, isU64, machine}
 use Rattle.rules.specs.Calls.{changes, step}
 use Rattle.rules.proofs.Facts.{users-fit}
-use Rattle.rules.proofs.Made.{Quiet, Keeps, queued, changes-made}
+use Rattle.rules.proofs.CallChanges.{Quiet, Keeps, queued, changes-made}
 use Rattle.rules.proofs.Steps.{call-keeps}
 
 -- ---- lists

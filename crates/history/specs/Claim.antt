@@ -13,7 +13,7 @@ use Rattle.types.specs.declared.Siginfo.{Siginfo}
 use Rattle.rules.specs.Types.{Thread, Queue, Call, kill, queue, take, Answer, nextRecord}
 use Rattle.rules.specs.View.{View, inQueue, targetQueue, liveThread, theThread, threadAction}
 use Rattle.rules.specs.Store.{held, used, recordsFor, markIn}
-use Rattle.rules.specs.Sending.{fate, needsRecord}
+use Rattle.rules.specs.Sending.{generation, needsRecord}
 use Rattle.rules.specs.Taking.{next, delivered}
 use Rattle.rules.specs.Asking.{MayTake, hasOffer, yieldsOne}
 use Rattle.rules.specs.Refusals.{refusal, rows}
@@ -91,7 +91,7 @@ module _ (l : Lent) (k : Ledger) where
     -- for the process are 32 then; they are never more
     pub room : (by to t s value : ℕ) → isRefusedWith EAGAIN (answered (queue by to t s value))
         ≡ (eqb (refusal (rows seen (kill by to t s))) 0
-        && (needsRecord (fate seen true (targetQueue to t) s) && eqb (pendingWhere k (ofProcess to)) recordLimit))
+        && (needsRecord (generation seen true (targetQueue to t) s) && eqb (pendingWhere k (ofProcess to)) recordLimit))
     pub limit : (n : ℕ) → pendingWhere k (ofProcess n) ≤ recordLimit
 
 -- "Start from a cleared store and make a list of calls on the tables .., refused ones included." The calls are the dispatcher's; of each `calls::step`

@@ -22,8 +22,8 @@ use Rattle.rules.specs.Refusals.{esrch, isClear, noProcessLive, rows}
 use Rattle.rules.specs.Calls.{answer}
 use Rattle.rules.proofs.Facts.{thread-id}
 use Rattle.rules.proofs.Marks.{free-of-nobody}
-use Rattle.rules.proofs.Own.{own-thread}
-use Rattle.rules.proofs.Parts.{parts}
+use Rattle.rules.proofs.FoundByKey.{own-thread}
+use Rattle.rules.proofs.ClausesByTable.{parts}
 use Rattle.tables.specs.Tables.{threadsOf, heldThreads, threadAt, threadTo}
 use Rattle.tables.proofs.Words.{length-threadsOf, length-heldThreads}
 use Rattle.tables.proofs.Places.{held-at}

@@ -55,7 +55,7 @@ pub fn look_slot(ps: &[u64], ts: &[u64], tb: &[u8], pb: &[u8], thread: u32) -> u
 }
 
 // The 32 bytes of the record that a thread takes next, in the buffer that holds it; an empty part for a mark, for nothing, and where the look is refused.
-pub fn look<'a>(ps: &[u64], ts: &[u64], tb: &'a [u8], pb: &'a [u8], thread: u32) -> &'a [u8]
+pub fn look_part<'a>(ps: &[u64], ts: &[u64], tb: &'a [u8], pb: &'a [u8], thread: u32) -> &'a [u8]
     ensures { λ r. ⌜ now r ≡ lookBytes thread (lent (now (ps .entry)) (now (ts .entry)) (now (tb .entry)) (now (pb .entry))) ⌝ }
 {
     let n = look_slot(ps, ts, tb, pb, thread);
@@ -69,7 +69,7 @@ pub fn look<'a>(ps: &[u64], ts: &[u64], tb: &'a [u8], pb: &'a [u8], thread: u32)
 }
 
 // What the look found, or its errno.
-pub fn looked(ps: &[u64], ts: &[u64], tb: &[u8], pb: &[u8], thread: u32) -> Answer
+pub fn look(ps: &[u64], ts: &[u64], tb: &[u8], pb: &[u8], thread: u32) -> Answer
     ensures { λ r. ⌜ answerOf r ≡ stepOn (call.look thread) (lent (now (ps .entry)) (now (ts .entry)) (now (tb .entry)) (now (pb .entry))) .1 ⌝ }
 {
     let n = view::thread_refusal(ps, ts, tb, pb, thread);

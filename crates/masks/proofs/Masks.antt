@@ -17,8 +17,8 @@ use Rattle.rules.specs.Actions.{newMask, maskChanges}
 use Rattle.rules.specs.Refusals.{badWay, noThreadLive, refusal, rows, isClear, fault, table, refusalOf, einval, esrch}
 use Rattle.rules.specs.Calls.{changes, answer, stages, runStages, finish, step}
 use Rattle.rules.specs.Fitting.{fits}
-use Rattle.rules.proofs.Fitted.{mask-fits}
-use Rattle.answers.specs.Step.{Lent, decoded, refusalOn, settled, stepOn}
+use Rattle.rules.proofs.SendFits.{mask-fits}
+use Rattle.answers.specs.Step.{Lent, decoded, refusalOn, committed, stepOn}
 use Rattle.answers.proofs.Endings.{AsLong, longAs, isSound, accepted-tables-sound, accepted-rows, same-ends, accepted-ends}
 use Rattle.answers.proofs.Rows.{refuses-fault, refuses-at, refuses-none}
 use Rattle.effects.proofs.Chain.{one-made, made, starts}
@@ -121,5 +121,5 @@ refusal-is st t m = refl
 pub return-is : (l : Lent) (t : ℕ) (m : SigSet) → stepOn (mask t sigSetmask (some m)) l ≡ stepOn (return t m) l
 unfolding stepOn step
 return-is l t m =
-    ap (λ r. cond (longAs l) (settled l r) (l, refused EFAULT))
+    ap (λ r. cond (longAs l) (committed l r) (l, refused EFAULT))
     (ap (λ (n : ℕ). finish n (mask t sigSetmask (some m)) (decoded l)) (refusal-is (decoded l) t m) ∙ finish-is (refusalOf (decoded l) (return t m)) (decoded l) t m)

@@ -21,7 +21,7 @@ use Rattle.rules.specs.Types.{Process, Thread, noThread}
 use Rattle.rules.specs.Signals.{standard, ignored}
 use Rattle.rules.specs.View.{actionOf, belongsTo}
 use Rattle.rules.specs.Store.{freeThread}
-use Rattle.rules.specs.Sound.{markHeard, marksHeard, nameable}
+use Rattle.rules.specs.Sound.{markNotIgnored, marksNotIgnored, nameable}
 use Rattle.tables.specs.Tables.{threadsOf, heldThreads, threadAt, threadTo}
 use Rattle.tables.proofs.Places.{held-at}
 use Rattle.places.specs.Check.{isFresh, withinAt, isDelivered}
@@ -54,10 +54,10 @@ module _ (cs ds : List ℕ) (i : ℕ) where
 -- ---- one mark, one record
 
 module _ (marks : SigSet) (actions : ℕ → Action) (s : ℕ) where
-  pub unmarked : has marks s ≡ false → true ≡ markHeard marks actions s
+  pub unmarked : has marks s ≡ false → true ≡ markNotIgnored marks actions s
   unmarked e = rw e
 
-  pub marked : {b : Bool} → has marks s ≡ true → b ≡ ignored (actions s) s → not b ≡ markHeard marks actions s
+  pub marked : {b : Bool} → has marks s ≡ true → b ≡ ignored (actions s) s → not b ≡ markNotIgnored marks actions s
   marked e k = rw (e, k)
 
 module _ (p : Process) (r : Siginfo) where
@@ -69,12 +69,12 @@ module _ (p : Process) (r : Siginfo) where
   unfolding isDelivered
   delivered e k = rw (e, k)
 
--- a queue without marks is heard
-pub no-marks : (marks : SigSet) (actions : ℕ → Action) → marks .0 ≡ 0 → true ≡ marksHeard marks actions
-unfolding marksHeard
+-- a queue without marks is not ignored
+pub no-marks : (marks : SigSet) (actions : ℕ → Action) → marks .0 ≡ 0 → true ≡ marksNotIgnored marks actions
+unfolding marksNotIgnored
 no-marks marks actions e =
-    sym (All-all (markHeard marks actions) (range 1 signals)
-    (All-every (Pass (markHeard marks actions)) (λ s. sym (unmarked marks actions s (ap (λ n. has (bits n) s) e ∙ has-empty s))) (range 1 signals)))
+    sym (All-all (markNotIgnored marks actions) (range 1 signals)
+    (All-every (Pass (markNotIgnored marks actions)) (λ s. sym (unmarked marks actions s (ap (λ n. has (bits n) s) e ∙ has-empty s))) (range 1 signals)))
 
 -- ---- the action at an index, the signal less one
 

@@ -15,20 +15,20 @@ use Rattle.sigset.specs.Set.{bits}
 use Rattle.rules.specs.Types.{noProcess}
 use Rattle.rules.specs.View.{isProcess, isThread, actionOf}
 use Rattle.rules.specs.Store.{freeProcess}
-use Rattle.rules.specs.Sound.{goodId, unmasked, marksHeard}
+use Rattle.rules.specs.Sound.{goodId, unmasked, marksNotIgnored}
 use Rattle.tables.specs.Tables.{processesOf, threadsOf, heldProcesses, heldThreads, processAt, threadAt, headTo, threadTo}
 use Rattle.tables.proofs.Words.{length-heldProcesses, process-row, thread-row}
 use Rattle.tables.proofs.Places.{held-at}
-use Rattle.places.specs.Check.{isNought, liveProcessOk, processOk, processOkAt, ownerOf, liveThreadOk, threadOk, threadOkAt}
+use Rattle.places.specs.Check.{isZeroWord, liveProcessOk, processOk, processOkAt, ownerOf, liveThreadOk, threadOk, threadOkAt}
 
 -- ---- a place by whether it is free
 
 module _ (ws vs : List ℕ) (place w : ℕ) (e : w ≡ getD (headTo (processAt ws place)) processId 0) where
   pub free-process : length ws ≡ processTable → place < processPlaces → w ≡ 0
-      → all isNought (row processWords ws place) ≡ processOkAt (processesOf ws) (threadsOf vs) place
+      → all isZeroWord (row processWords ws place) ≡ processOkAt (processesOf ws) (threadsOf vs) place
   unfolding processOkAt processOk headTo
   free-process long h z =
-      ap (all isNought) (sym (process-row ws long place h))
+      ap (all isZeroWord) (sym (process-row ws long place h))
       ∙ sym (cond-true _ _ (eq-eqb (processAt ws place .holds .id) 0 (sym e ∙ z)))
 
   pub live-process : (w ≡ 0 → ⊥)
@@ -38,10 +38,10 @@ module _ (ws vs : List ℕ) (place w : ℕ) (e : w ≡ getD (headTo (processAt w
 
 module _ (ws vs : List ℕ) (place w : ℕ) (e : w ≡ getD (threadTo (threadAt vs place)) threadId 0) where
   pub free-thread : length vs ≡ threadTable → place < threadPlaces → w ≡ 0
-      → all isNought (row threadWords vs place) ≡ threadOkAt (processesOf ws) (threadsOf vs) place
+      → all isZeroWord (row threadWords vs place) ≡ threadOkAt (processesOf ws) (threadsOf vs) place
   unfolding threadOkAt threadOk threadTo
   free-thread long h z =
-      ap (all isNought) (sym (thread-row vs long place h))
+      ap (all isZeroWord) (sym (thread-row vs long place h))
       ∙ sym (cond-true _ _ (eq-eqb (threadAt vs place .holds .id) 0 (sym e ∙ z)))
 
   pub live-thread : (w ≡ 0 → ⊥)
@@ -65,7 +65,7 @@ module _ (ws vs : List ℕ) (place owner w : ℕ) (k : w ≡ getD (threadTo (thr
       → m ≡ unmasked (bits (getD (threadTo (threadAt vs place)) threadMask 0))
       → u ≡ unmasked (bits (getD (threadTo (threadAt vs place)) threadMarks 0))
       → f ≡ eqb (find (isThread (getD (threadTo (threadAt vs place)) threadId 0)) (heldThreads vs)) place
-      → h ≡ marksHeard (bits (getD (threadTo (threadAt vs place)) threadMarks 0)) (actionOf (processAt ws owner .holds))
+      → h ≡ marksNotIgnored (bits (getD (threadTo (threadAt vs place)) threadMarks 0)) (actionOf (processAt ws owner .holds))
       → (i && (m && (u && (f && h)))) ≡ liveThreadOk (heldProcesses ws) (heldThreads vs) place (threadAt vs place)
   unfolding liveThreadOk threadTo ownerOf
   thread-end n ei em eu ef eh =

@@ -14,13 +14,13 @@ use Rattle.rules.specs.Types.{Process, Thread, Queue, noProcess}
 use Rattle.rules.specs.Signals.{standard, ignored}
 use Rattle.rules.specs.View.{View, isProcess, isThread, belongsTo, sameQueue, queueOf, processQueue, threadQueue, inQueue, actionOf}
 use Rattle.rules.specs.Store.{Place, Store, held, freeProcess, freeThread, ofProcess, used, view}
-use Rattle.rules.specs.Sound.{goodId, fieldsFit, unmasked, actionUnmasked, flagsKnown, killStopDefault, marksHeard, nameable, restZero, aimedAtThread, aimedAtProcess, recordHeard}
+use Rattle.rules.specs.Sound.{goodId, fieldsFit, unmasked, actionUnmasked, flagsKnown, killStopDefault, marksNotIgnored, nameable, restZero, aimedAtThread, aimedAtProcess, recordNotIgnored}
 use Rattle.tables.specs.Tables.{processTo, threadTo}
 
 -- ---- one place
 
-unfoldable pub isNought : ℕ → Bool
-isNought w = eqb w 0
+unfoldable pub isZeroWord : ℕ → Bool
+isZeroWord w = eqb w 0
 
 unfoldable pub headOk : Place Process → Bool
 headOk x = goodId (x .holds .id) && (fieldsFit x && unmasked (x .marks))
@@ -37,10 +37,10 @@ module _ (ps : List Process) (ts : List Thread) where
       && (any (belongsTo (x .holds .id)) ts
       && (killStopDefault x
       && (all actionOk (x .holds .actions)
-      && marksHeard (x .marks) (actionOf (x .holds))))))
+      && marksNotIgnored (x .marks) (actionOf (x .holds))))))
 
   unfoldable pub processOk : ℕ → Place Process → Bool
-  processOk i x = cond (eqb (x .holds .id) 0) (all isNought (processTo x)) (liveProcessOk i x)
+  processOk i x = cond (eqb (x .holds .id) 0) (all isZeroWord (processTo x)) (liveProcessOk i x)
 
   -- the process of a thread, by its place
   unfoldable pub ownerOf : Place Thread → Process
@@ -53,10 +53,10 @@ module _ (ps : List Process) (ts : List Thread) where
       && (unmasked (x .holds .mask)
       && (unmasked (x .marks)
       && (eqb (find (isThread (x .holds .id)) ts) i
-      && marksHeard (x .marks) (actionOf (ownerOf x))))))
+      && marksNotIgnored (x .marks) (actionOf (ownerOf x))))))
 
   unfoldable pub threadOk : ℕ → Place Thread → Bool
-  threadOk i x = cond (eqb (x .holds .id) 0) (all isNought (threadTo x)) (liveThreadOk i x)
+  threadOk i x = cond (eqb (x .holds .id) 0) (all isZeroWord (threadTo x)) (liveThreadOk i x)
 
 -- ---- all places
 
@@ -76,7 +76,7 @@ module _ (xs : List (Place Process)) (ys : List (Place Thread)) where
 
 -- ---- the records of a buffer, oldest first
 
--- a record is queued, names a signal that it may, and is heard by its process
+-- a record is queued, names a signal that it may, and is not ignored by its process
 unfoldable pub isDelivered : Process → Siginfo → Bool
 isDelivered p r = nameable (r .signal) && (eqb (r .code) siQueue && not (ignored (actionOf p (r .signal)) (r .signal)))
 
@@ -126,12 +126,12 @@ processPlace xs r = find (isProcess (r .process)) (map held xs)
 unfoldable pub threadPlace : List (Place Thread) → Siginfo → ℕ
 threadPlace ys r = find (isThread (r .thread)) (map held ys)
 
--- a record is well aimed and heard; one aimed at a process is held against no thread
+-- a record is well aimed and not ignored; one aimed at a process is held against no thread
 unfoldable pub threadRecordOk : List (Place Process) → List (Place Thread) → Siginfo → Bool
-threadRecordOk xs ys r = aimedAtThread (placesView xs ys) r && recordHeard (placesView xs ys) r
+threadRecordOk xs ys r = aimedAtThread (placesView xs ys) r && recordNotIgnored (placesView xs ys) r
 
 unfoldable pub processRecordOk : List (Place Process) → Siginfo → Bool
-processRecordOk xs r = aimedAtProcess (placesView xs []) r && recordHeard (placesView xs []) r
+processRecordOk xs r = aimedAtProcess (placesView xs []) r && recordNotIgnored (placesView xs []) r
 
 -- and not marked too
 unfoldable pub threadRecordGood : List (Place Process) → List (Place Thread) → Siginfo → Bool

@@ -6,9 +6,9 @@ ghost use lib.ListN.{length, take, drop};
 ghost use Rattle.limits.specs.Limits.{processPlaces, processTable, threadPlaces, threadTable, signals};
 ghost use Rattle.lists.specs.Lists.{all, any, range};
 ghost use Rattle.rules.specs.View.{actionOf, belongsTo};
-ghost use Rattle.rules.specs.Sound.{killStopDefault, markHeard, marksHeard};
+ghost use Rattle.rules.specs.Sound.{killStopDefault, markNotIgnored, marksNotIgnored};
 ghost use Rattle.tables.specs.Tables.{processesOf, threadsOf, heldProcesses, heldThreads, processAt, threadAt};
-ghost use Rattle.places.specs.Check.{isNought, headOk, actionOk, liveProcessOk, processOkAt, liveThreadOk, threadOkAt, placesOk};
+ghost use Rattle.places.specs.Check.{isZeroWord, headOk, actionOk, liveProcessOk, processOkAt, liveThreadOk, threadOkAt, placesOk};
 use limits::PROCESS_EFFECTIVE;
 use limits::PROCESS_ID;
 use limits::PROCESS_MARKS;
@@ -35,7 +35,7 @@ use types::Action;
 // Are n words from a place on all zero?
 fn zeros(ws: &[u64], from: usize, n: usize) -> bool
     requires { ⌜ from + n ≤ length (now ws) ⌝ }
-    ensures { λ r. ⌜ r ≡ all isNought (take n (drop from (now (ws .entry)))) ⌝ }
+    ensures { λ r. ⌜ r ≡ all isZeroWord (take n (drop from (now (ws .entry)))) ⌝ }
 {
     let mut i = 0;
     while i < n {
@@ -94,9 +94,9 @@ fn kill_stop_default(ps: &[u64], place: usize) -> bool
 }
 
 // Has no marked signal an ignored action, of the process in a place?
-fn marks_heard(ps: &[u64], place: usize, marks: SigSet) -> bool
+fn marks_not_ignored(ps: &[u64], place: usize, marks: SigSet) -> bool
     requires { ⌜ (length (now ps) ≡ processTable) × (place < processPlaces) ⌝ }
-    ensures { λ r. ⌜ r ≡ marksHeard marks (actionOf (processAt (now (ps .entry)) place .holds)) ⌝ }
+    ensures { λ r. ⌜ r ≡ marksNotIgnored marks (actionOf (processAt (now (ps .entry)) place .holds)) ⌝ }
 {
     // most queues have no mark
     if marks.0 == 0 {
@@ -104,7 +104,7 @@ fn marks_heard(ps: &[u64], place: usize, marks: SigSet) -> bool
     }
     let mut i = 0;
     while i < SIGNALS {
-        if !mark_heard(ps, place, marks, i + 1) {
+        if !mark_not_ignored(ps, place, marks, i + 1) {
             return false;
         }
         i += 1;
@@ -112,9 +112,9 @@ fn marks_heard(ps: &[u64], place: usize, marks: SigSet) -> bool
     true
 }
 
-fn mark_heard(ps: &[u64], place: usize, marks: SigSet, s: u32) -> bool
+fn mark_not_ignored(ps: &[u64], place: usize, marks: SigSet, s: u32) -> bool
     requires { ⌜ (length (now ps) ≡ processTable) × ((place < processPlaces) × ((1 ≤ s) × (s ≤ signals))) ⌝ }
-    ensures { λ r. ⌜ r ≡ markHeard marks (actionOf (processAt (now (ps .entry)) place .holds)) s ⌝ }
+    ensures { λ r. ⌜ r ≡ markNotIgnored marks (actionOf (processAt (now (ps .entry)) place .holds)) s ⌝ }
 {
     if !SigSet::has(marks, s) {
         return true;
@@ -147,11 +147,11 @@ fn live_process_ok(ps: &[u64], ts: &[u64], place: usize) -> bool
     let id = tables::field_at(ps, place, PROCESS_ID);
     let marks = SigSet(tables::field_at(ps, place, PROCESS_MARKS));
     let first = tables::find_process(ps, id) == place;
-    let peopled = has_thread(ts, id);
+    let have_threads = has_thread(ts, id);
     let unmaskable = kill_stop_default(ps, place);
     let actions = actions_ok(ps, place);
-    let heard = marks_heard(ps, place, marks);
-    head_ok(ps, place) & (first & (peopled & (unmaskable & (actions & heard))))
+    let not_ignored = marks_not_ignored(ps, place, marks);
+    head_ok(ps, place) & (first & (have_threads & (unmaskable & (actions & not_ignored))))
 }
 
 fn process_ok(ps: &[u64], ts: &[u64], place: usize) -> bool
@@ -176,8 +176,8 @@ fn live_thread_ok(ps: &[u64], ts: &[u64], place: usize) -> bool
     let marks = SigSet(tables::thread_field_at(ts, place, THREAD_MARKS));
     let mask = decide::is_unmasked(SigSet(tables::thread_field_at(ts, place, THREAD_MASK)));
     let first = tables::find_thread(ts, id) == place;
-    let heard = marks_heard(ps, owner, marks);
-    decide::is_id(id) & (mask & (decide::is_unmasked(marks) & (first & heard)))
+    let not_ignored = marks_not_ignored(ps, owner, marks);
+    decide::is_id(id) & (mask & (decide::is_unmasked(marks) & (first & not_ignored)))
 }
 
 fn thread_ok(ps: &[u64], ts: &[u64], place: usize) -> bool

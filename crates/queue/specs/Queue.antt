@@ -12,10 +12,10 @@ use Rattle.types.specs.declared.Siginfo.{Siginfo}
 use Rattle.siginfo.specs.Bytes.{slots}
 use Rattle.rules.specs.Types.{Queue}
 use Rattle.rules.specs.View.{inQueue}
-use Rattle.rules.specs.Store.{used, spared}
+use Rattle.rules.specs.Store.{used, leftBy}
 use Rattle.rules.specs.Sound.{restZero}
-use Rattle.queue.specs.declared.Doomed.{Doomed}
-use Rattle.queue.specs.declared.Doomed.the-variants.{OfProcess, OfThread, OfSignals}
+use Rattle.queue.specs.declared.Discarded.{Discarded}
+use Rattle.queue.specs.declared.Discarded.the-variants.{OfProcess, OfThread, OfSignals}
 
 -- every slot of the buffer
 unfoldable pub slotsOf : List ℕ → List Siginfo
@@ -42,7 +42,7 @@ unfoldable pub removeAt : ℕ → List Siginfo → List Siginfo
 removeAt k rs = take k rs ++ drop (suc k) rs
 
 -- the records that a discard leaves: all but those of a process or a thread that ends, or of a process's signals that go
-unfoldable pub spares : Doomed → Siginfo → Bool
-spares (OfProcess p) r = not (eqb (r .process) p)
-spares (OfThread t) r = not (eqb (r .thread) t)
-spares (OfSignals p signals) r = spared p signals r
+unfoldable pub isLeft : Discarded → Siginfo → Bool
+isLeft (OfProcess p) r = not (eqb (r .process) p)
+isLeft (OfThread t) r = not (eqb (r .thread) t)
+isLeft (OfSignals p signals) r = leftBy p signals r

@@ -10,14 +10,14 @@ ghost use Rattle.types.specs.Values.{noSiginfo};
 ghost use Rattle.rules.specs.View.{inQueue, targetQueue};
 ghost use Rattle.rules.specs.Store.{inUse, onSlots, ofProcess};
 ghost use Rattle.rules.specs.Sound.{isZero};
-ghost use Rattle.queue.specs.Queue.{slotsOf, recordsOf, isLaid, appended, removeAt, spares, signalsIn};
+ghost use Rattle.queue.specs.Queue.{slotsOf, recordsOf, isLaid, appended, removeAt, isLeft, signalsIn};
 use limits::BUFFER_BYTES;
 use limits::BUFFER_RECORDS;
 use sigset::SigSet;
 use types::Siginfo;
 
 // What a discard takes away: the records of a process or of a thread that ends, or those of a process whose signals are in a set.
-pub enum Doomed {
+pub enum Discarded {
     OfProcess(u32),
     OfThread(u32),
     OfSignals(u32, SigSet),
@@ -54,13 +54,13 @@ fn in_queue(r: Siginfo, process: u32, thread: u32, signal: u32) -> bool
     ((process == r.process) & (thread == r.thread)) & (r.signal == signal)
 }
 
-fn is_spared(r: Siginfo, doomed: Doomed) -> bool
-    ensures { λ h. ⌜ h ≡ spares doomed r ⌝ }
+fn is_left(r: Siginfo, discarded: Discarded) -> bool
+    ensures { λ h. ⌜ h ≡ isLeft discarded r ⌝ }
 {
-    match doomed {
-        Doomed::OfProcess(process) => r.process != process,
-        Doomed::OfThread(thread) => r.thread != thread,
-        Doomed::OfSignals(process, signals) => {
+    match discarded {
+        Discarded::OfProcess(process) => r.process != process,
+        Discarded::OfThread(thread) => r.thread != thread,
+        Discarded::OfSignals(process, signals) => {
             let s = r.signal;
             let hit = SigSet::has(signals, s);
             !((r.process == process) & hit)
@@ -196,17 +196,17 @@ pub fn append(b: &mut [u8], r: Siginfo)
     siginfo::write(b, n, r);
 }
 
-// The doomed records go, and the others keep their order.
-pub fn discard(b: &mut [u8], doomed: Doomed)
+// The discarded records go, and the others keep their order.
+pub fn discard(b: &mut [u8], discarded: Discarded)
     requires { ⌜ isLaid (now b) ≡ true ⌝ }
-    ensures { λ _. ⌜ slotsOf (now (b .exit)) ≡ onSlots (keep (spares doomed)) (slotsOf (now (b .entry))) ⌝ }
+    ensures { λ _. ⌜ slotsOf (now (b .exit)) ≡ onSlots (keep (isLeft discarded)) (slotsOf (now (b .entry))) ⌝ }
 {
     let n = used(b);
     let mut i: usize = 0;
     let mut j: usize = 0;
     while i < n {
         let r = siginfo::read(b, i);
-        if is_spared(r, doomed) {
+        if is_left(r, discarded) {
             siginfo::write(b, j, r);
             j += 1;
         }

@@ -12,7 +12,7 @@ use Rattle.lists.proofs.Rows.{nil-of}
 use Rattle.lists.proofs.Bools.{split, and-left, and-right, cond-true, cond-false}
 use Rattle.rules.specs.Types.{Answer, refused}
 use Rattle.sound.specs.Lent.{storeOf, lengthsAre, soundTables}
-use Rattle.answers.specs.Step.{Lent, lent, decoded, settled, stepOn}
+use Rattle.answers.specs.Step.{Lent, lent, decoded, committed, stepOn}
 use Rattle.rules.specs.Calls.{step, lookPart}
 use Rattle.rules.specs.Sound.{sound}
 use Rattle.looking.specs.Looks.{partBytes, lookBytes, slotNumber, lookSlot}
@@ -61,7 +61,7 @@ module _ (ps tb pb : List ℕ) (ts : List Thread) (o : T (not (eqb (length ts) t
     refused-here =
         split (accepted number (length out))
         (λ t. cond-true (stepOn (numbered number (arguments a b c d e f x y z)) before) (before, refused (cond (usable number before) EINVAL EFAULT)) t
-        ∙ cond-false (settled before (step (numbered number (arguments a b c d e f x y z)) (decoded before))) refusal short)
+        ∙ cond-false (committed before (step (numbered number (arguments a b c d e f x y z)) (decoded before))) refusal short)
         (λ t. cond-false (stepOn (numbered number (arguments a b c d e f x y z)) before) (before, refused (cond (usable number before) EINVAL EFAULT)) t
         ∙ ap (λ (k : Bool). (before, refused (cond k EINVAL EFAULT))) (unusable number))
 

@@ -1,4 +1,4 @@
-pub mod Remasked
+pub mod MaskChanges
 pub mod Worked
 pub mod Lengths
 pub mod Routes

@@ -12,9 +12,9 @@ use Rattle.rules.specs.Types.{Answer, refused, mask}
 use Rattle.answers.specs.Step.{Lent, lent, stepOn}
 use Rattle.boundary.specs.Boundary.{arguments, whereGiven, callsOf, numbered, errnoOf, written, usable, accepted, serveOn}
 use Rattle.threads.specs.declared.Thread.{Thread}
-use Rattle.threads.specs.Records.{remasked, wordsOf, recordsOf}
+use Rattle.threads.specs.Records.{withMaskAt, wordsOf, recordsOf}
 use Rattle.rrezhbuta.specs.Kernel.{served, errnoAt, processesAt, threadBufferAt, processBufferAt, threadsAt, answerAt, outAt, maskIn}
-use Rattle.rrezhbuta.proofs.Remasked.{mask-row, row-same}
+use Rattle.rrezhbuta.proofs.MaskChanges.{mask-row, row-same}
 
 module _ (ps tb pb out : List ℕ) (ts : List Thread) (number a b c d e f x y z : ℕ) (n : length ts ≡ threadPlaces) (ws : List ℕ) (w : ws ≡ wordsOf ts) where
   abbrev on : Lent × Answer
@@ -85,7 +85,7 @@ module _ (ps tb pb out : List ℕ) (ts : List Thread) (thread way given set : �
 
   -- the row after the call is the row before it, with the mask that the thread then has
   Row : Lent × Answer → Type 0
-  Row o = remasked thread (maskIn (o .0 .threads) thread) ts ≡ recordsOf (length ts) (o .0 .threads)
+  Row o = withMaskAt thread (maskIn (o .0 .threads) thread) ts ≡ recordsOf (length ts) (o .0 .threads)
 
   row-served : Row after
   unfolding Row
@@ -98,12 +98,12 @@ module _ (ps tb pb out : List ℕ) (ts : List Thread) (thread way given set : �
       (er : r ≡ errnoOf (on ps tb pb out ts callSigmask thread way given 0 0 0 set 0 0 n ws w .1)) (et : lent ps′ ws′ tb′ pb′ ≡ on ps tb pb out ts callSigmask thread way given 0 0 0 set 0 0 n ws w .0)
       (eo : out′ ≡ written (on ps tb pb out ts callSigmask thread way given 0 0 0 set 0 0 n ws w .1) out) where
     pub mask-worked : (m : SigSet) → m ≡ maskIn ws′ thread
-        → (r ≡ errnoAt ps tb pb out ts callSigmask thread way given 0 0 0 set 0 0) × (remasked thread m ts ≡ threadsAt ps tb pb out ts callSigmask thread way given 0 0 0 set 0 0) × (ps′ ≡ processesAt ps tb pb out ts callSigmask thread way given 0 0 0 set 0 0) × (tb′ ≡ threadBufferAt ps tb pb out ts callSigmask thread way given 0 0 0 set 0 0) × (pb′ ≡ processBufferAt ps tb pb out ts callSigmask thread way given 0 0 0 set 0 0) × (out′ ≡ answerAt ps tb pb out ts callSigmask thread way given 0 0 0 set 0 0)
+        → (r ≡ errnoAt ps tb pb out ts callSigmask thread way given 0 0 0 set 0 0) × (withMaskAt thread m ts ≡ threadsAt ps tb pb out ts callSigmask thread way given 0 0 0 set 0 0) × (ps′ ≡ processesAt ps tb pb out ts callSigmask thread way given 0 0 0 set 0 0) × (tb′ ≡ threadBufferAt ps tb pb out ts callSigmask thread way given 0 0 0 set 0 0) × (pb′ ≡ processBufferAt ps tb pb out ts callSigmask thread way given 0 0 0 set 0 0) × (out′ ≡ answerAt ps tb pb out ts callSigmask thread way given 0 0 0 set 0 0)
     unfolding threadsAt Row
     mask-worked m h =
         let words : ws′ ≡ after .0 .threads = words-is ps tb pb out ts callSigmask thread way given 0 0 0 set 0 0 n ws w r ps′ ws′ tb′ pb′ out′ er et eo in (
           errno-is ps tb pb out ts callSigmask thread way given 0 0 0 set 0 0 n ws w r ps′ ws′ tb′ pb′ out′ er et eo,
-          ap (λ (k : SigSet). remasked thread k ts) (h ∙ ap (λ (l : List ℕ). maskIn l thread) words) ∙ row-served,
+          ap (λ (k : SigSet). withMaskAt thread k ts) (h ∙ ap (λ (l : List ℕ). maskIn l thread) words) ∙ row-served,
           processes-is ps tb pb out ts callSigmask thread way given 0 0 0 set 0 0 n ws w r ps′ ws′ tb′ pb′ out′ er et eo,
           thread-buffer-is ps tb pb out ts callSigmask thread way given 0 0 0 set 0 0 n ws w r ps′ ws′ tb′ pb′ out′ er et eo,
           process-buffer-is ps tb pb out ts callSigmask thread way given 0 0 0 set 0 0 n ws w r ps′ ws′ tb′ pb′ out′ er et eo,

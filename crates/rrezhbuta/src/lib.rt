@@ -2,7 +2,7 @@
 ghost use mathlib.Core.Path.{_≡_};
 ghost use lib.ListN.{length};
 ghost use Rattle.limits.specs.Limits.{threadTable, callSigmask};
-ghost use Rattle.threads.specs.Records.{remasked};
+ghost use Rattle.threads.specs.Records.{withMaskAt};
 ghost use Rattle.rrezhbuta.specs.Kernel.{errnoAt, processesAt, threadBufferAt, processBufferAt, answerAt, threadsAt, outAt, maskIn, lookAt, slotAt};
 use limits::CALL_SIGMASK;
 use limits::CALL_SIGRETURN;
@@ -20,7 +20,7 @@ pub struct Out {
 }
 
 // The same of a call that changes one mask at most: the thread, and its mask after the call.
-pub struct Remask {
+pub struct MaskChange {
     pub thread: u64,
     pub mask: SigSet,
     pub errno: u64,
@@ -83,9 +83,9 @@ fn mask_work(
     way: u32,
     given: u32,
     set: u64,
-) -> Remask
+) -> MaskChange
     ensures { λ r. ⌜ (r .errno ≡ errnoAt (now (ps .entry)) (now (tb .entry)) (now (pb .entry)) (now (out .entry)) ts callSigmask thread way given 0 0 0 set 0 0)
-        × (remasked (r .thread) (r .mask) ts ≡ threadsAt (now (ps .entry)) (now (tb .entry)) (now (pb .entry)) (now (out .entry)) ts callSigmask thread way given 0 0 0 set 0 0)
+        × (withMaskAt (r .thread) (r .mask) ts ≡ threadsAt (now (ps .entry)) (now (tb .entry)) (now (pb .entry)) (now (out .entry)) ts callSigmask thread way given 0 0 0 set 0 0)
         × (now (ps .exit) ≡ processesAt (now (ps .entry)) (now (tb .entry)) (now (pb .entry)) (now (out .entry)) ts callSigmask thread way given 0 0 0 set 0 0)
         × (now (tb .exit) ≡ threadBufferAt (now (ps .entry)) (now (tb .entry)) (now (pb .entry)) (now (out .entry)) ts callSigmask thread way given 0 0 0 set 0 0)
         × (now (pb .exit) ≡ processBufferAt (now (ps .entry)) (now (tb .entry)) (now (pb .entry)) (now (out .entry)) ts callSigmask thread way given 0 0 0 set 0 0)
@@ -109,7 +109,7 @@ fn mask_work(
         0,
         0,
     );
-    Remask {
+    MaskChange {
         thread: thread as u64,
         mask: mask_of(&ws, thread as u64),
         errno,
@@ -237,11 +237,11 @@ fn part_of<'a>(
     ensures { λ r. ⌜ now r ≡ lookAt (now (ps .entry)) (now (tb .entry)) (now (pb .entry)) ts thread ⌝ }
 {
     let ws = threads::words_of(ts);
-    looking::look(ps, &ws, tb, pb, thread)
+    looking::look_part(ps, &ws, tb, pb, thread)
 }
 
 // The 32 bytes of the record that a thread takes next, in the buffer that holds it; an empty part for a mark, for nothing, and where the look is refused.
-pub fn look<'a>(ps: &[u64], tb: &'a [u8], pb: &'a [u8], ts: &[Thread], thread: u32) -> &'a [u8]
+pub fn look_part<'a>(ps: &[u64], tb: &'a [u8], pb: &'a [u8], ts: &[Thread], thread: u32) -> &'a [u8]
     ensures { λ r. ⌜ now r ≡ lookAt (now (ps .entry)) (now (tb .entry)) (now (pb .entry)) (now (ts .entry)) thread ⌝ }
 {
     if ts.len() != THREAD_PLACES {
@@ -261,7 +261,7 @@ fn slot_of(ps: &[u64], tb: &[u8], pb: &[u8], ts: [Thread; THREAD_PLACES], thread
 
 // The same for a host that links it, which cannot be handed a part: 0 for the empty one, then the slots of the thread buffer from 1 on, then those of the process buffer.
 #[no_mangle]
-pub extern "C" fn rrezhbuta_look(
+pub extern "C" fn rrezhbuta_look_slot(
     ps: &[u64],
     tb: &[u8],
     pb: &[u8],

@@ -14,7 +14,7 @@ use Rattle.lists.proofs.Lists.{Pass, all-All}
 use Rattle.rules.specs.Types.{Thread, Call, clear, addProcess, addThread, endProcess, endThread, kill, queue, action, mask, pending, look, who, take, return, Next, noNext, nextMark, nextRecord, Answer, done, tested, acted, dropped, absorbed, marked, kept, oldAction, oldMask, pendingSet, looked, canTake, noneCan, nothing, handler, end, stop, noAction}
 use Rattle.rules.specs.Signals.{Outcome, ignores, stops, continues, ends, outcome}
 use Rattle.rules.specs.View.{View, actionOf, theProcess, theThread}
-use Rattle.rules.specs.Sending.{Fate, testing, killing, stopping, dropping, absorbing, marking, keeping, sendAnswer}
+use Rattle.rules.specs.Sending.{Generation, testing, killing, stopping, dropping, absorbing, marking, keeping, sendAnswer}
 use Rattle.rules.specs.Actions.{blockedPending}
 use Rattle.rules.specs.Taking.{whoAnswer, taker, outcomeAnswer, delivered, takeAnswer}
 use Rattle.rules.specs.Refusals.{isClear}
@@ -44,7 +44,7 @@ module _ (f : Answer → Bool) (w : PassesWords f) where
   plain-all : All (Pass f) words
   plain-all = all-All f words (w .plain)
 
-  send-passes : (x : Fate) → f (sendAnswer x) ≡ true
+  send-passes : (x : Generation) → f (sendAnswer x) ≡ true
   unfolding sendAnswer
   send-passes testing = plain-all .1 .0
   send-passes killing = plain-all .1 .1 .0

@@ -3,7 +3,7 @@ use mathlib.Core.Path.{_≡_}
 use mathlib.Core.Bool.{true}
 use Rattle.lists.proofs.Bools.{and-fst, and-snd, and-both}
 use Rattle.rules.specs.Store.{Store}
-use Rattle.rules.specs.Sound.{lengthsRight, freeZero, idsInRange, idsDistinct, fieldsInRange, threadsOwned, processesPeopled, nothingUnmaskable, unmaskableDefault, allFlagsKnown, recordsLaidOut, limitKept, pendingOnce, nothingIgnored, sound}
+use Rattle.rules.specs.Sound.{lengthsRight, freeZero, idsInRange, idsDistinct, fieldsInRange, threadsOwned, processesHaveThreads, nothingUnmaskable, unmaskableDefault, allFlagsKnown, recordsLaidOut, limitKept, pendingOnce, nothingIgnored, sound}
 
 pub record Clauses (st : Store) : Type 0 where
   pub lengths : lengthsRight st ≡ true
@@ -12,14 +12,14 @@ pub record Clauses (st : Store) : Type 0 where
   pub idsApart : idsDistinct st ≡ true
   pub fields : fieldsInRange st ≡ true
   pub owned : threadsOwned st ≡ true
-  pub peopled : processesPeopled st ≡ true
+  pub have-threads : processesHaveThreads st ≡ true
   pub unmaskedSets : nothingUnmaskable st ≡ true
   pub unmaskableActions : unmaskableDefault st ≡ true
   pub flags : allFlagsKnown st ≡ true
   pub laidOut : recordsLaidOut st ≡ true
   pub limit : limitKept st ≡ true
   pub once : pendingOnce st ≡ true
-  pub heard : nothingIgnored st ≡ true
+  pub not-ignored : nothingIgnored st ≡ true
 
 pub clauses : (st : Store) → sound st ≡ true → Clauses st
 unfolding sound
@@ -30,7 +30,7 @@ clauses st e =
     let e4 = and-snd (idsDistinct st) _ e3 in
     let e5 = and-snd (fieldsInRange st) _ e4 in
     let e6 = and-snd (threadsOwned st) _ e5 in
-    let e7 = and-snd (processesPeopled st) _ e6 in
+    let e7 = and-snd (processesHaveThreads st) _ e6 in
     let e8 = and-snd (nothingUnmaskable st) _ e7 in
     let e9 = and-snd (unmaskableDefault st) _ e8 in
     let e10 = and-snd (allFlagsKnown st) _ e9 in
@@ -44,14 +44,14 @@ clauses st e =
       idsApart = and-fst (idsDistinct st) _ e3;
       fields = and-fst (fieldsInRange st) _ e4;
       owned = and-fst (threadsOwned st) _ e5;
-      peopled = and-fst (processesPeopled st) _ e6;
+      have-threads = and-fst (processesHaveThreads st) _ e6;
       unmaskedSets = and-fst (nothingUnmaskable st) _ e7;
       unmaskableActions = and-fst (unmaskableDefault st) _ e8;
       flags = and-fst (allFlagsKnown st) _ e9;
       laidOut = and-fst (recordsLaidOut st) _ e10;
       limit = and-fst (limitKept st) _ e11;
       once = and-fst (pendingOnce st) _ e12;
-      heard = e13;
+      not-ignored = e13;
     }
 
 pub sound-by : (st : Store) → Clauses st → sound st ≡ true
@@ -63,11 +63,11 @@ sound-by st c =
     (and-both (c .idsApart)
     (and-both (c .fields)
     (and-both (c .owned)
-    (and-both (c .peopled)
+    (and-both (c .have-threads)
     (and-both (c .unmaskedSets)
     (and-both (c .unmaskableActions)
     (and-both (c .flags)
     (and-both (c .laidOut)
     (and-both (c .limit)
     (and-both (c .once)
-    (c .heard)))))))))))))
+    (c .not-ignored)))))))))))))

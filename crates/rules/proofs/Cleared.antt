@@ -15,7 +15,7 @@ use Rattle.rules.specs.Store.{Place, held, freeProcess, freeThread, clea
 use Rattle.rules.specs.Sound.{sound}
 use Rattle.rules.specs.Refusals.{refusal, badId, overLast, badAction, badWay, noProcessLive, noThreadLive, badTarget, noProcessPlace, noThreadPlace, rows, table, refusalOf}
 use Rattle.rules.specs.Computing.{computing}
-use Rattle.rules.proofs.Table.{no-fault}
+use Rattle.rules.proofs.RefusalTable.{no-fault}
 
 -- ---- what is there
 

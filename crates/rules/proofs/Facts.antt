@@ -17,13 +17,13 @@ use Rattle.rules.specs.Types.{Process, Queue}
 use Rattle.rules.specs.Signals.{isSignal, standard, ignored}
 use Rattle.rules.specs.View.{isProcess, isThread, belongsTo, sameQueue, processQueue, threadQueue, targetQueue, queueOf, actionOf, liveProcess, liveThread, theProcess, theThread, threadAction}
 use Rattle.rules.specs.Store.{Store, used, markIn, processMark, threadMark, queuedIn, view}
-use Rattle.rules.specs.Sound.{processId, threadId, goodId, goodProcessId, goodThreadId, actionsLong, goodUser, fieldsFit, belongs, hasThread, unmasked, actionUnmasked, processUnmasked, threadUnmasked, isDefault, killStopDefault, flagsKnown, processFlagsKnown, restZero, aimedAtThread, aimedAtProcess, withinLimit, isStandard, notMarkedToo, recordHeard, processHeard, threadHeard, sound}
+use Rattle.rules.specs.Sound.{processId, threadId, goodId, goodProcessId, goodThreadId, actionsLong, goodUser, fieldsFit, belongs, hasThread, unmasked, actionUnmasked, processUnmasked, threadUnmasked, isDefault, killStopDefault, flagsKnown, processFlagsKnown, restZero, aimedAtThread, aimedAtProcess, withinLimit, isStandard, notMarkedToo, recordNotIgnored, processNotIgnored, threadNotIgnored, sound}
 use Rattle.rules.proofs.Aimed.{thread-process-live, process-live}
 use Rattle.rules.proofs.Ids.{one-held}
 use Rattle.rules.proofs.Marks.{processWith, threadWith, the-process, the-thread, process-is, thread-is, process-marks, thread-marks}
-use Rattle.rules.proofs.Found.{default-is, heard-at, not-marked, every-process, every-thread, live-process-has, live-thread-has, none-queued}
-use Rattle.rules.proofs.Members.{own-free-process, own-free-thread}
-use Rattle.rules.proofs.Parts.{parts}
+use Rattle.rules.proofs.Found.{default-is, not-ignored-at, not-marked, every-process, every-thread, live-process-has, live-thread-has, none-queued}
+use Rattle.rules.proofs.ClausesByPlace.{own-free-process, own-free-thread}
+use Rattle.rules.proofs.ClausesByTable.{parts}
 use Rattle.rules.proofs.Unmaskable.{unmasked-empty, unmasked-has}
 
 pub record UsersFit (p : Process) : Type 0 where
@@ -78,7 +78,7 @@ module _ (st : Store) (e : sound st ≡ true) where
   pub has-thread : (p : ℕ) → liveProcess (view st) p ≡ true → any (belongsTo p) (view st .threads) ≡ true
   unfolding hasThread
   has-thread p l =
-      ap (λ (n : ℕ). any (belongsTo n) (view st .threads)) (sym (process-is st p l)) ∙ live-process-has st (hasThread (view st)) (parts st e .peopled) p l
+      ap (λ (n : ℕ). any (belongsTo n) (view st .threads)) (sym (process-is st p l)) ∙ live-process-has st (hasThread (view st)) (parts st e .have-threads) p l
 
   -- the fields of a process
 
@@ -184,11 +184,11 @@ module _ (st : Store) (e : sound st ≡ true) where
   pub process-aimed : All (Pass (aimedAtProcess (view st))) (used (st .processBuffer))
   process-aimed = all-All (aimedAtProcess (view st)) (used (st .processBuffer)) (parts st e .processAimed)
 
-  pub thread-records-heard : All (Pass (recordHeard (view st))) (used (st .threadBuffer))
-  thread-records-heard = all-All (recordHeard (view st)) (used (st .threadBuffer)) (parts st e .threadRecordsHeard)
+  pub thread-records-not-ignored : All (Pass (recordNotIgnored (view st))) (used (st .threadBuffer))
+  thread-records-not-ignored = all-All (recordNotIgnored (view st)) (used (st .threadBuffer)) (parts st e .threadRecordsNotIgnored)
 
-  pub process-records-heard : All (Pass (recordHeard (view st))) (used (st .processBuffer))
-  process-records-heard = all-All (recordHeard (view st)) (used (st .processBuffer)) (parts st e .processRecordsHeard)
+  pub process-records-not-ignored : All (Pass (recordNotIgnored (view st))) (used (st .processBuffer))
+  process-records-not-ignored = all-All (recordNotIgnored (view st)) (used (st .processBuffer)) (parts st e .processRecordsNotIgnored)
 
   pub none-of-dead : (p : ℕ) → liveProcess (view st) p ≡ false → queuedIn st p ≡ 0
   unfolding queuedIn
@@ -234,17 +234,17 @@ module _ (st : Store) (e : sound st ≡ true) where
       ap threadQueue (the-thread st t) ∙ ap (targetQueue (threadWith st t .holds .process)) (thread-is st t l) in
       ap (λ (a : Queue). markIn st a s) q ∙ thread-marks st (targetQueue (threadWith st t .holds .process) t) l s refl (one-thread t)
 
-  pub process-mark-heard : (p s : ℕ) → liveProcess (view st) p ≡ true → markIn st (processQueue p) s ≡ true → ignored (actionOf (theProcess (view st) p) s) s ≡ false
-  process-mark-heard p s l m =
+  pub process-mark-not-ignored : (p s : ℕ) → liveProcess (view st) p ≡ true → markIn st (processQueue p) s ≡ true → ignored (actionOf (theProcess (view st) p) s) s ≡ false
+  process-mark-not-ignored p s l m =
       let k = sym (marks-of-process p l s) ∙ m in
-      let h : processHeard (processWith st p) ≡ true = live-process-has st processHeard (parts st e .processMarksHeard) p l in
+      let h : processNotIgnored (processWith st p) ≡ true = live-process-has st processNotIgnored (parts st e .processMarksNotIgnored) p l in
       rw (the-process st p)
-      (heard-at (processWith st p .marks) (actionOf (processWith st p .holds)) h s (and-fst (isSignal s) _ k) (and-snd (isSignal s) _ k))
+      (not-ignored-at (processWith st p .marks) (actionOf (processWith st p .holds)) h s (and-fst (isSignal s) _ k) (and-snd (isSignal s) _ k))
 
-  pub thread-mark-heard : (t s : ℕ) → liveThread (view st) t ≡ true → markIn st (threadQueue (theThread (view st) t)) s ≡ true
+  pub thread-mark-not-ignored : (t s : ℕ) → liveThread (view st) t ≡ true → markIn st (threadQueue (theThread (view st) t)) s ≡ true
       → ignored (threadAction (view st) (theThread (view st) t) s) s ≡ false
-  thread-mark-heard t s l m =
+  thread-mark-not-ignored t s l m =
       let k = sym (marks-of-thread t l s) ∙ m in
-      let h : threadHeard (view st) (threadWith st t) ≡ true = live-thread-has st (threadHeard (view st)) (parts st e .threadMarksHeard) t l in
+      let h : threadNotIgnored (view st) (threadWith st t) ≡ true = live-thread-has st (threadNotIgnored (view st)) (parts st e .threadMarksNotIgnored) t l in
       rw (the-thread st t)
-      (heard-at (threadWith st t .marks) (threadAction (view st) (threadWith st t .holds)) h s (and-fst (isSignal s) _ k) (and-snd (isSignal s) _ k))
+      (not-ignored-at (threadWith st t .marks) (threadAction (view st) (threadWith st t .holds)) h s (and-fst (isSignal s) _ k) (and-snd (isSignal s) _ k))

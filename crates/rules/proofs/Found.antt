@@ -20,7 +20,7 @@ use Rattle.rules.specs.Types.{Process, Thread}
 use Rattle.rules.specs.Signals.{isSignal, ignored}
 use Rattle.rules.specs.View.{isProcess, isThread, queueOf, liveProcess, liveThread}
 use Rattle.rules.specs.Store.{Place, Store, held, freeProcess, freeThread, ofProcess, markIn, view}
-use Rattle.rules.specs.Sound.{ifLive, isLive, processId, threadId, isDefault, isStandard, notMarkedToo, markHeard, marksHeard}
+use Rattle.rules.specs.Sound.{ifLive, isLive, processId, threadId, isDefault, isStandard, notMarkedToo, markNotIgnored, marksNotIgnored}
 use Rattle.rules.proofs.Marks.{processWith, threadWith, process-below, thread-below, process-is, thread-is, process-named, thread-named}
 use Rattle.rules.proofs.Signals.{is-signal, signal-is}
 
@@ -38,21 +38,21 @@ default-is a e =
     let m : a .mask .0 ≡ 0 = eqb-true (a .mask .0) 0 (and-snd (eqb (a .flags) 0) _ e1) in
     ap₂ (λ (x y : ℕ). actionWith x y (a .mask .0)) h f ∙ ap (actionWith 0 0) m
 
--- a signal that is marked is heard
-pub heard-at : (m : SigSet) (f : ℕ → Action) → marksHeard m f ≡ true → (s : ℕ) → isSignal s ≡ true → has m s ≡ true → ignored (f s) s ≡ false
-unfolding marksHeard
-heard-at m f e s g h =
+-- a signal that is marked is not ignored
+pub not-ignored-at : (m : SigSet) (f : ℕ → Action) → marksNotIgnored m f ≡ true → (s : ℕ) → isSignal s ≡ true → has m s ≡ true → ignored (f s) s ≡ false
+unfolding marksNotIgnored
+not-ignored-at m f e s g h =
     let l : 1 ≤ s = is-signal s g .low in
     let u : s ≤ signals = is-signal s g .high in
     not-true (ignored (f s) s)
-    (imp-use (has m s) (not (ignored (f s) s)) (All-range-at (Pass (markHeard m f)) 1 signals s l (omega arith) (all-All (markHeard m f) (range 1 signals) e)) h)
+    (imp-use (has m s) (not (ignored (f s) s)) (All-range-at (Pass (markNotIgnored m f)) 1 signals s l (omega arith) (all-All (markNotIgnored m f) (range 1 signals) e)) h)
 
--- marks are heard if each of them is
-pub heard-by : (m : SigSet) (f : ℕ → Action) → ((s : ℕ) → isSignal s ≡ true → has m s ≡ true → ignored (f s) s ≡ false) → marksHeard m f ≡ true
-unfolding marksHeard
-heard-by m f h =
-    All-all (markHeard m f) (range 1 signals)
-    (All-range (Pass (markHeard m f)) 1 signals
+-- marks are not ignored if each of them is
+pub not-ignored-by : (m : SigSet) (f : ℕ → Action) → ((s : ℕ) → isSignal s ≡ true → has m s ≡ true → ignored (f s) s ≡ false) → marksNotIgnored m f ≡ true
+unfolding marksNotIgnored
+not-ignored-by m f h =
+    All-all (markNotIgnored m f) (range 1 signals)
+    (All-range (Pass (markNotIgnored m f)) 1 signals
     (λ s l u. imp-by (has m s) (λ k. ap not (h s (signal-is s (record { low = l; high = omega arith })) k))))
 
 -- a standard signal of a record is not marked in its queue

@@ -20,8 +20,8 @@ use Rattle.rules.specs.Taking.{next}
 use Rattle.rules.specs.Refusals.{refusal, rows, table, refusalOf}
 use Rattle.rules.specs.Calls.{changes, answer, stages, runStages, finish, step, run, Part, emptyPart, partOf, lookPart}
 use Rattle.rules.specs.Machine.{machine}
-use Rattle.rules.proofs.Lasting.{step-sound}
-use Rattle.rules.proofs.Table.{no-fault}
+use Rattle.rules.proofs.StaysSound.{step-sound}
+use Rattle.rules.proofs.RefusalTable.{no-fault}
 
 -- ---- the view
 

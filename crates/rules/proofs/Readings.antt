@@ -15,7 +15,7 @@ use Rattle.types.specs.declared.Action.{Action}
 use Rattle.rules.specs.Types.{Queue}
 use Rattle.rules.specs.Signals.{ignores, stops, continues, ends, ignoring, stopSignal, outcome, ignored}
 use Rattle.rules.specs.View.{View, actionOf, theProcess}
-use Rattle.rules.specs.Sending.{dropping, fate}
+use Rattle.rules.specs.Sending.{dropping, generation}
 use Rattle.rules.specs.Actions.{hasFlag, newMask}
 use Rattle.rules.specs.Taking.{handlerMask}
 
@@ -30,10 +30,10 @@ outcomes = refl
 
 module _ (v : View) (queued : Bool) (q : Queue) where
   abbrev Dropped : ℕ → Type 0
-  Dropped s = actionOf (theProcess v (q .process)) s .handler ≡ sigDfl → fate v queued q s ≡ dropping
+  Dropped s = actionOf (theProcess v (q .process)) s .handler ≡ sigDfl → generation v queued q s ≡ dropping
 
   dropped : (s : ℕ) → eqb s 0 ≡ false → eqb s SIGKILL ≡ false → eqb s SIGSTOP ≡ false → ignoring s ≡ true → Dropped s
-  unfolding fate ignored
+  unfolding generation ignored
   dropped s z k t i h = rw (z, k, t, h, i)
 
   -- "CHLD at default: dropped", blocked or not, by either send; URG and WINCH too

@@ -24,15 +24,15 @@ use Rattle.rules.specs.Signals.{Outcome, ignores, stops, continues, ends
 use Rattle.rules.specs.View.{View, Change, forget, newProcess, newThread, removeProcess, removeThread, setStopped, setAction, setMask, setMark, clearMark, append, dropOldest, discard, isProcess, isThread, sameQueue, processQueue, threadQueue, actionOf, theProcess, theThread, threadAction, pendingFor}
 use Rattle.rules.specs.Store.{Place, Store, held, freeProcess, freeThread, cleared, view, apply, applyAll, onMarks}
 use Rattle.rules.specs.Sound.{unmasked, actionUnmasked, processUnmasked, threadUnmasked, nothingUnmaskable}
-use Rattle.rules.specs.Sending.{Fate, testing, killing, stopping, dropping, absorbing, marking, keeping, fate, infoOf, jobControl, sendChanges}
+use Rattle.rules.specs.Sending.{Generation, testing, killing, stopping, dropping, absorbing, marking, keeping, generation, infoOf, jobControl, sendChanges}
 use Rattle.rules.specs.Actions.{stored, storeChanges, actionChanges, newMask, maskChanges, blockedPending}
 use Rattle.rules.specs.Taking.{handlerMask, resets, reset, resetChanges, outcomeChanges, deliver, takeChanges, next}
-use Rattle.rules.specs.Adding.{newborn, addProcessChanges, addThreadChanges, otherThread, endThreadChanges}
+use Rattle.rules.specs.Adding.{addedProcess, addProcessChanges, addThreadChanges, otherThread, endThreadChanges}
 use Rattle.rules.specs.Refusals.{refusalOf, isClear}
 use Rattle.rules.specs.Calls.{send, changes, stages, runStages, finish, step, isRefused}
 use Rattle.rules.specs.Computing.{computing}
 use Rattle.rules.proofs.Clauses.{clauses}
-use Rattle.rules.proofs.Table.{accepted-sound, is-clear}
+use Rattle.rules.proofs.RefusalTable.{accepted-sound, is-clear}
 use Rattle.rules.proofs.Steps.{step-keeps}
 use Rattle.rules.proofs.Answers.{PassesWords, PassesSets, answer-passes}
 
@@ -127,9 +127,9 @@ module _ (st : Store) (h : Clean st) where
   vacated-threads t = all-change-keeps threadUnmasked t (λ _. freeThread) (λ x _ _. free-thread) (st .threads) (clean-threads st h)
 
   -- marks that stay without 9 and 19
-  remarked : (g : Queue → SigSet → SigSet) → ((q : Queue) (m : SigSet) → unmasked m ≡ true → unmasked (g q m) ≡ true) → Clean (onMarks g st)
+  withMarking : (g : Queue → SigSet → SigSet) → ((q : Queue) (m : SigSet) → unmasked m ≡ true → unmasked (g q m) ≡ true) → Clean (onMarks g st)
   unfolding nothingUnmaskable processUnmasked threadUnmasked
-  remarked g k =
+  withMarking g k =
       and-both
       (all-mapped (λ (x : Place Process). record { holds = x .holds; marks = g (processQueue (x .holds .id)) (x .marks) }) processUnmasked processUnmasked
       (λ x e. and-both (k _ (x .marks) (and-fst (unmasked (x .marks)) _ e)) (and-snd (unmasked (x .marks)) _ e)) (st .processes) (clean-processes st h))
@@ -162,14 +162,14 @@ change-clean (setMask n m) st ok h =
     on-threads st h _
     (all-change-keeps threadUnmasked _ _ (λ x _ e. and-both ok (and-snd (unmasked (x .holds .mask)) _ e)) (st .threads) (clean-threads st h))
 change-clean (setMark q s) st ok h =
-    remarked st h _
+    withMarking st h _
     (λ q′ m e. unmasked-cond (sameQueue q′ q) (union m (ofSignal s)) m (unmasked-union m (ofSignal s) e (unmasked-of s (not-true (isUnmaskable s) ok))) e)
 change-clean (clearMark q s) st ok h =
-    remarked st h _ (λ q′ m e. unmasked-cond (sameQueue q′ q) (without m (ofSignal s)) m (unmasked-without m (ofSignal s) e) e)
+    withMarking st h _ (λ q′ m e. unmasked-cond (sameQueue q′ q) (without m (ofSignal s)) m (unmasked-without m (ofSignal s) e) e)
 change-clean (append r) st ok h = h
 change-clean (dropOldest q s) st ok h = h
 change-clean (discard p set) st ok h =
-    remarked st h _ (λ q m e. unmasked-cond (eqb (q .process) p) (without m set) m (unmasked-without m set e) e)
+    withMarking st h _ (λ q m e. unmasked-cond (eqb (q .process) p) (without m set) m (unmasked-without m set e) e)
 
 -- ---- what is in view
 
@@ -221,7 +221,7 @@ unfolding jobControl all
 job-clean p s =
     split (eqb s SIGCONT) (λ k. rw k) (λ k. rw k (split (eqb s SIGSTOP) (λ j. rw j) (λ j. rw j (split (stopSignal s) (λ i. rw i) (λ i. rw i)))))
 
-isMarking : Fate → Bool
+isMarking : Generation → Bool
 isMarking testing = false
 isMarking killing = false
 isMarking stopping = false
@@ -231,21 +231,21 @@ isMarking marking = true
 isMarking keeping = false
 
 -- 9 and 19 are acted on, and never marked
-acted-on : (v : View) (queued : Bool) (q : Queue) (s : ℕ) → isUnmaskable s ≡ true → isMarking (fate v queued q s) ≡ false
-unfolding fate isMarking
-acted-on v queued q = each-unmaskable (λ (s : ℕ). isMarking (fate v queued q s) ≡ false) refl refl
+acted-on : (v : View) (queued : Bool) (q : Queue) (s : ℕ) → isUnmaskable s ≡ true → isMarking (generation v queued q s) ≡ false
+unfolding generation isMarking
+acted-on v queued q = each-unmaskable (λ (s : ℕ). isMarking (generation v queued q s) ≡ false) refl refl
 
-fate-clean : (f : Fate) (r : Siginfo) → (isUnmaskable (r .signal) ≡ true → isMarking f ≡ false) → all cleanChange (sendChanges f r) ≡ true
+generation-clean : (f : Generation) (r : Siginfo) → (isUnmaskable (r .signal) ≡ true → isMarking f ≡ false) → all cleanChange (sendChanges f r) ≡ true
 unfolding sendChanges all isMarking
-fate-clean testing r h = refl
-fate-clean killing r h = refl
-fate-clean stopping r h = job-clean (r .process) (r .signal)
-fate-clean dropping r h = job-clean (r .process) (r .signal)
-fate-clean absorbing r h = job-clean (r .process) (r .signal)
-fate-clean marking r h =
+generation-clean testing r h = refl
+generation-clean killing r h = refl
+generation-clean stopping r h = job-clean (r .process) (r .signal)
+generation-clean dropping r h = job-clean (r .process) (r .signal)
+generation-clean absorbing r h = job-clean (r .process) (r .signal)
+generation-clean marking r h =
     all-append cleanChange (jobControl (r .process) (r .signal)) _
     ∙ and-both (job-clean (r .process) (r .signal)) (and-both (split (isUnmaskable (r .signal)) (λ k. clash refl (h k)) (λ k. ap not k)) refl)
-fate-clean keeping r h = all-append cleanChange (jobControl (r .process) (r .signal)) _ ∙ and-both (job-clean (r .process) (r .signal)) refl
+generation-clean keeping r h = all-append cleanChange (jobControl (r .process) (r .signal)) _ ∙ and-both (job-clean (r .process) (r .signal)) refl
 
 outcome-clean : (o : Outcome) (p : ℕ) → all cleanChange (outcomeChanges o p) ≡ true
 unfolding outcomeChanges all
@@ -288,15 +288,15 @@ module _ (v : View) (h : CleanView v) where
   take-clean t (nextRecord q s r) = deliver-clean t (threadAction v t s) s (clean-action v h (t .process) s)
 
   pub changes-clean : (c : Call) → all cleanChange (changes v c) ≡ true
-  unfolding changes send infoOf addProcessChanges newborn addThreadChanges endThreadChanges all
+  unfolding changes send infoOf addProcessChanges addedProcess addThreadChanges endThreadChanges all
   changes-clean clear = refl
   changes-clean (addProcess id real effective saved session thread m) =
       and-both (all-replicate actionUnmasked defaultAction default-clean signals) (and-both (unmasked-maskable m) refl)
   changes-clean (addThread creator id) = and-both (clean-mask v h creator) refl
   changes-clean (endProcess id) = refl
   changes-clean (endThread id) = one-clean (any (otherThread v (theThread v id)) (v .threads)) (removeThread (theThread v id .id)) (removeProcess (theThread v id .process)) refl refl
-  changes-clean (kill by to t s) = fate-clean (fate v false _ s) _ (acted-on v false _ s)
-  changes-clean (queue by to t s value) = fate-clean (fate v true _ s) _ (acted-on v true _ s)
+  changes-clean (kill by to t s) = generation-clean (generation v false _ s) _ (acted-on v false _ s)
+  changes-clean (queue by to t s value) = generation-clean (generation v true _ s) _ (acted-on v true _ s)
   changes-clean (action p s new) = action-clean p s new
   changes-clean (mask t way set) = set-mask-clean v t way set
   changes-clean (pending t) = refl

@@ -13,9 +13,9 @@ use Rattle.sigset.proofs.Laws.{has-empty}
 use Rattle.rules.specs.Types.{Process, Thread, Queue, noProcess, noThread}
 use Rattle.rules.specs.View.{isProcess, isThread, sameQueue, processQueue, threadQueue, liveProcess, liveThread, theProcess, theThread}
 use Rattle.rules.specs.Store.{Place, Store, held, freeProcess, freeThread, processMark, threadMark, view, vacate}
-use Rattle.rules.proofs.Amended.{two-ids}
+use Rattle.rules.proofs.FieldsInView.{two-ids}
 use Rattle.rules.proofs.Cleared.{no-id}
-use Rattle.rules.proofs.Members.{GoodProcess, GoodThread, own-free-process, own-free-thread}
+use Rattle.rules.proofs.ClausesByPlace.{GoodProcess, GoodThread, own-free-process, own-free-thread}
 
 -- ---- a free place
 
@@ -23,7 +23,7 @@ pub good-free-process : (st : Store) → GoodProcess st freeProcess
 good-free-process st = record { own = own-free-process; limit = refl }
 
 pub good-free-thread : (st : Store) → GoodThread st freeThread
-good-free-thread st = record { own = own-free-thread; owned = refl; heard = refl }
+good-free-thread st = record { own = own-free-thread; owned = refl; not-ignored = refl }
 
 -- nothing is marked there
 pub unmarked-vacated : {A : Type 0} (free : Place A) (p : A → Bool) (f : Place A → Bool) → f free ≡ false → (xs : List (Place A)) → any f xs ≡ false

@@ -13,14 +13,14 @@ use Rattle.rules.specs.Types.{Process, Thread}
 use Rattle.rules.specs.View.{View, Change, newProcess, newThread, removeProcess, removeThread, belongsTo, theThread}
 
 -- "A process is added running"; "A freshly added process has the type's named default action (all zero) for every signal."
-unfoldable pub newborn : (id real effective saved session : ℕ) → Process
-newborn id real effective saved session =
+unfoldable pub addedProcess : (id real effective saved session : ℕ) → Process
+addedProcess id real effective saved session =
     record { id = id; real = real; effective = effective; saved = saved; session = session; stopped = 0; actions = replicate signals defaultAction }
 
 -- "with its first thread and a given mask less 9 and 19"
 unfoldable pub addProcessChanges : (id real effective saved session thread : ℕ) → SigSet → List Change
 addProcessChanges id real effective saved session thread mask =
-    newProcess (newborn id real effective saved session) ∷ newThread (record { id = thread; process = id; mask = maskable mask }) ∷ []
+    newProcess (addedProcess id real effective saved session) ∷ newThread (record { id = thread; process = id; mask = maskable mask }) ∷ []
 
 module _ (v : View) where
   -- "A new thread has its creator's mask and nothing pending."

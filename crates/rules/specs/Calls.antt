@@ -9,7 +9,7 @@ use Rattle.lists.specs.Lists.{find}
 use Rattle.rules.specs.Types.{Queue, Call, clear, addProcess, addThread, endProcess, endThread, kill, queue, action, mask, pending, look, who, take, return, Next, noNext, nextMark, nextRecord, Answer, refused, done, tested, acted, dropped, absorbed, marked, kept, oldAction, oldMask, pendingSet, looked, canTake, noneCan, nothing, handler, end, stop, noAction}
 use Rattle.rules.specs.View.{View, targetQueue, Change, Stage, forget, removeProcess, inQueue, actionOf, theProcess, theThread}
 use Rattle.rules.specs.Store.{Store, view, recordsFor, applyAll}
-use Rattle.rules.specs.Sending.{fate, infoOf, sendChanges, sendAnswer}
+use Rattle.rules.specs.Sending.{generation, infoOf, sendChanges, sendAnswer}
 use Rattle.rules.specs.Actions.{actionChanges, maskChanges, blockedPending}
 use Rattle.rules.specs.Taking.{next, taker, takeChanges, takeAnswer}
 use Rattle.rules.specs.Adding.{addProcessChanges, addThreadChanges, endThreadChanges}
@@ -18,7 +18,7 @@ use Rattle.rules.specs.Refusals.{refusalOf}
 module _ (v : View) where
   -- one send, plain or queued
   unfoldable pub send : (queued : Bool) (by to thread signal value : ℕ) → List Change
-  send queued by to t s value = sendChanges (fate v queued (targetQueue to t) s) (infoOf v by to t s value)
+  send queued by to t s value = sendChanges (generation v queued (targetQueue to t) s) (infoOf v by to t s value)
 
   unfoldable pub changes : Call → List Change
   changes clear = forget ∷ []
@@ -43,8 +43,8 @@ module _ (v : View) where
   answer (addThread creator id) = done
   answer (endProcess id) = done
   answer (endThread id) = done
-  answer (kill by to t s) = sendAnswer (fate v false (targetQueue to t) s)
-  answer (queue by to t s value) = sendAnswer (fate v true (targetQueue to t) s)
+  answer (kill by to t s) = sendAnswer (generation v false (targetQueue to t) s)
+  answer (queue by to t s value) = sendAnswer (generation v true (targetQueue to t) s)
   -- "Storing an action answers the old one"
   answer (action p s new) = oldAction (actionOf (theProcess v p) s)
   -- "the old mask is answered"

@@ -13,7 +13,7 @@ use Rattle.rules.specs.Types.{Call, clear, addProcess, addThread, endPro
 use Rattle.rules.specs.View.{View, targetQueue, liveProcess, liveThread, theProcess, theThread}
 use Rattle.rules.specs.Store.{Store, view, isFreeProcess, isFreeThread}
 use Rattle.rules.specs.Sound.{goodId, lengthsRight, sound}
-use Rattle.rules.specs.Sending.{maySignal, fate, needsRecord}
+use Rattle.rules.specs.Sending.{maySignal, generation, needsRecord}
 
 -- the errnos in the table's order
 abbrev pub tableOrder : List ℕ
@@ -92,7 +92,7 @@ module _ (v : View) where
 
   -- "a queued send needs a record and the target process had 32 before the call"
   unfoldable pub noRoom : (to thread signal : ℕ) → Bool
-  noRoom to t s = needsRecord (fate v true (targetQueue to t) s) && leb recordLimit (v .queued to)
+  noRoom to t s = needsRecord (generation v true (targetQueue to t) s) && leb recordLimit (v .queued to)
 
   -- ---- the rows below 14, in table order
 

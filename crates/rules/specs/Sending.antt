@@ -19,9 +19,9 @@ maySignal a b s =
     || ((eqb (a .effective) (b .real) || eqb (a .effective) (b .saved))
     || (eqb s SIGCONT && eqb (a .session) (b .session))))
 
--- how a send ends
-pub data Fate : Type 0 where
-  testing killing stopping dropping absorbing marking keeping : Fate
+-- what the generation of a signal comes to, for the queue that it is sent to
+pub data Generation : Type 0 where
+  testing killing stopping dropping absorbing marking keeping : Generation
 
 module _ (v : View) where
   -- step 4: "A standard signal already pending in that queue, or a plain send whose mark is set, is "absorbed""
@@ -29,8 +29,8 @@ module _ (v : View) where
   absorbs queued q s = (standard s && pendingIn v q s) || (not queued && v .marks q s)
 
   -- Signal 0, then steps 1, 3, 4, 5. All are judged before anything changes: what step 2 discards is never the signal sent.
-  unfoldable pub fate : (queued : Bool) → Queue → ℕ → Fate
-  fate queued q s =
+  unfoldable pub generation : (queued : Bool) → Queue → ℕ → Generation
+  generation queued q s =
       cond (eqb s 0) testing
       (cond (eqb s SIGKILL) killing
       (cond (eqb s SIGSTOP) stopping
@@ -52,7 +52,7 @@ jobControl p s =
     (cond (stopSignal s) (discard p (ofSignal SIGCONT) ∷ []) []))
 
 -- step 5: "A plain send sets the mark, "marked". A queued send adds a record at the end, "kept"."
-unfoldable pub sendChanges : Fate → Siginfo → List Change
+unfoldable pub sendChanges : Generation → Siginfo → List Change
 sendChanges testing r = []
 sendChanges killing r = removeProcess (r .process) ∷ []
 sendChanges stopping r = jobControl (r .process) (r .signal)
@@ -61,7 +61,7 @@ sendChanges absorbing r = jobControl (r .process) (r .signal)
 sendChanges marking r = jobControl (r .process) (r .signal) ++ (setMark (queueOf r) (r .signal) ∷ [])
 sendChanges keeping r = jobControl (r .process) (r .signal) ++ (append r ∷ [])
 
-unfoldable pub sendAnswer : Fate → Answer
+unfoldable pub sendAnswer : Generation → Answer
 sendAnswer testing = tested
 sendAnswer killing = acted
 sendAnswer stopping = acted
@@ -71,7 +71,7 @@ sendAnswer marking = marked
 sendAnswer keeping = kept
 
 -- "a queued send needs a record"
-unfoldable pub needsRecord : Fate → Bool
+unfoldable pub needsRecord : Generation → Bool
 needsRecord testing = false
 needsRecord killing = false
 needsRecord stopping = false

@@ -116,8 +116,8 @@ hasThread v x = any (belongsTo (x .holds .id)) (v .threads)
 unfoldable pub threadsOwned : Store → Bool
 threadsOwned st = all (ifLive threadId (belongs (view st))) (st .threads)
 
-unfoldable pub processesPeopled : Store → Bool
-processesPeopled st = all (ifLive processId (hasThread (view st))) (st .processes)
+unfoldable pub processesHaveThreads : Store → Bool
+processesHaveThreads st = all (ifLive processId (hasThread (view st))) (st .processes)
 
 -- ---- "no mask, mark or action mask holds 9 or 19, whose actions are the named default"
 
@@ -210,26 +210,26 @@ pendingOnce st =
 
 -- ---- "nothing pending has an ignored action, by choice or by default"
 
-unfoldable pub recordHeard : View → Siginfo → Bool
-recordHeard v r = not (ignored (actionOf (theProcess v (r .process)) (r .signal)) (r .signal))
+unfoldable pub recordNotIgnored : View → Siginfo → Bool
+recordNotIgnored v r = not (ignored (actionOf (theProcess v (r .process)) (r .signal)) (r .signal))
 
-abbrev pub markHeard : SigSet → (ℕ → Action) → ℕ → Bool
-markHeard marks actions s = implies (has marks s) (not (ignored (actions s) s))
+abbrev pub markNotIgnored : SigSet → (ℕ → Action) → ℕ → Bool
+markNotIgnored marks actions s = implies (has marks s) (not (ignored (actions s) s))
 
-unfoldable pub marksHeard : SigSet → (ℕ → Action) → Bool
-marksHeard marks actions = all (markHeard marks actions) (range 1 signals)
+unfoldable pub marksNotIgnored : SigSet → (ℕ → Action) → Bool
+marksNotIgnored marks actions = all (markNotIgnored marks actions) (range 1 signals)
 
-abbrev pub processHeard : Place Process → Bool
-processHeard x = marksHeard (x .marks) (actionOf (x .holds))
+abbrev pub processNotIgnored : Place Process → Bool
+processNotIgnored x = marksNotIgnored (x .marks) (actionOf (x .holds))
 
-abbrev pub threadHeard : View → Place Thread → Bool
-threadHeard v x = marksHeard (x .marks) (threadAction v (x .holds))
+abbrev pub threadNotIgnored : View → Place Thread → Bool
+threadNotIgnored v x = marksNotIgnored (x .marks) (threadAction v (x .holds))
 
 unfoldable pub nothingIgnored : Store → Bool
 nothingIgnored st =
-    all (ifLive processId processHeard) (st .processes)
-    && (all (ifLive threadId (threadHeard (view st))) (st .threads)
-    && (all (recordHeard (view st)) (used (st .threadBuffer)) && all (recordHeard (view st)) (used (st .processBuffer))))
+    all (ifLive processId processNotIgnored) (st .processes)
+    && (all (ifLive threadId (threadNotIgnored (view st))) (st .threads)
+    && (all (recordNotIgnored (view st)) (used (st .threadBuffer)) && all (recordNotIgnored (view st)) (used (st .processBuffer))))
 
 -- ---- the test
 
@@ -241,7 +241,7 @@ sound st =
     && (idsDistinct st
     && (fieldsInRange st
     && (threadsOwned st
-    && (processesPeopled st
+    && (processesHaveThreads st
     && (nothingUnmaskable st
     && (unmaskableDefault st
     && (allFlagsKnown st

@@ -111,8 +111,8 @@ module _ {A : Type 0} where
   fill isFree a = replaceFirst (λ (x : Place A). isFree (x .holds)) (record { holds = a; marks = empty })
 
   -- the marks change, by what the place holds
-  abbrev pub remark : (A → SigSet → SigSet) → List (Place A) → List (Place A)
-  remark g = map (λ (x : Place A). record { holds = x .holds; marks = g (x .holds) (x .marks) })
+  abbrev pub mapMarks : (A → SigSet → SigSet) → List (Place A) → List (Place A)
+  mapMarks g = map (λ (x : Place A). record { holds = x .holds; marks = g (x .holds) (x .marks) })
 
 abbrev pub isFreeProcess : Process → Bool
 isFreeProcess p = eqb (p .id) 0
@@ -129,8 +129,8 @@ onThreads g st = record { processes = st .processes; threads = g (st .threads); 
 abbrev pub onMarks : (Queue → SigSet → SigSet) → Store → Store
 onMarks g st =
     record {
-      processes = remark (λ (p : Process). g (processQueue (p .id))) (st .processes);
-      threads = remark (λ (t : Thread). g (threadQueue t)) (st .threads);
+      processes = mapMarks (λ (p : Process). g (processQueue (p .id))) (st .processes);
+      threads = mapMarks (λ (t : Thread). g (threadQueue t)) (st .threads);
       threadBuffer = st .threadBuffer;
       processBuffer = st .processBuffer;
     }
@@ -153,8 +153,8 @@ onBuffer q g st =
     }
 
 -- the records that a discard leaves
-abbrev pub spared : ℕ → SigSet → Siginfo → Bool
-spared p signals r = not (eqb (r .process) p && has signals (r .signal))
+abbrev pub leftBy : ℕ → SigSet → Siginfo → Bool
+leftBy p signals r = not (eqb (r .process) p && has signals (r .signal))
 
 unfoldable pub apply : Change → Store → Store
 apply forget st = cleared
@@ -170,7 +170,7 @@ apply (setMark q s) st = onMarks (λ q′ m. cond (sameQueue q′ q) (union m (o
 apply (clearMark q s) st = onMarks (λ q′ m. cond (sameQueue q′ q) (without m (ofSignal s)) m) st
 apply (append r) st = onBuffer (queueOf r) (λ rs. rs ++ (r ∷ [])) st
 apply (dropOldest q s) st = onBuffer q (dropFirst (inQueue q s)) st
-apply (discard p signals) st = onBuffers (keep (spared p signals)) (onMarks (λ q m. cond (eqb (q .process) p) (without m signals) m) st)
+apply (discard p signals) st = onBuffers (keep (leftBy p signals)) (onMarks (λ q m. cond (eqb (q .process) p) (without m signals) m) st)
 
 unfoldable pub applyAll : List Change → Store → Store
 applyAll [] st = st

@@ -15,19 +15,19 @@ use Rattle.types.specs.declared.Siginfo.{Siginfo}
 use Rattle.rules.specs.Signals.{stopSignal}
 use Rattle.rules.specs.View.{View, Change, removeProcess, setStopped, setMark, append, discard, targetQueue, queueOf}
 use Rattle.rules.specs.Store.{Store, view}
-use Rattle.rules.specs.Sending.{Fate, fate, infoOf, jobControl, sendChanges, sendAnswer}
+use Rattle.rules.specs.Sending.{Generation, generation, infoOf, jobControl, sendChanges, sendAnswer}
 use Rattle.rules.specs.Calls.{send, changes, answer}
 use Rattle.rules.specs.Fitting.{fitsAll}
 use Rattle.answers.specs.Step.{Lent, decoded, refusalOn}
 use Rattle.effects.proofs.Chain.{first-part-fits}
-use Rattle.sending.specs.Fates.{fateOf}
-use Rattle.sending.specs.JobControl.{controls, rivalsOf}
+use Rattle.sending.specs.Generations.{generationOf}
+use Rattle.sending.specs.JobControl.{controls, discardedBy}
 use Rattle.sending.specs.Decisions.{sendCall, Decided}
-use Rattle.sending.specs.declared.Fate as declared
-use Rattle.sending.specs.declared.Fate.the-variants as cases
+use Rattle.sending.specs.declared.Generation as declared
+use Rattle.sending.specs.declared.Generation.the-variants as cases
 use Rattle.sending.specs.declared.Decision as decided
 use Rattle.sending.specs.declared.Decision.the-variants as decisions
-use Rattle.sending.proofs.Fate.{the-type}
+use Rattle.sending.proofs.Generation.{the-type}
 
 -- ---- job control, by the signal
 
@@ -43,9 +43,9 @@ module _ (p s : ℕ) where
   settling = cond (eqb s SIGCONT || eqb s SIGSTOP) (setStopped p (boolByte (eqb s SIGSTOP)) ∷ []) []
 
   -- `x` is what code has of the signals to discard
-  module _ (k : controls s ≡ true) (x : SigSet) (h : x ≡ rivalsOf s) where
+  module _ (k : controls s ≡ true) (x : SigSet) (h : x ≡ discardedBy s) where
     pub discards-first : jobControl p s ≡ discard p x ∷ settling
-    unfolding jobControl controls rivalsOf
+    unfolding jobControl controls discardedBy
     discards-first =
         split (eqb s SIGCONT)
         (λ a. rw (h, a, ap (λ (n : ℕ). eqb n SIGSTOP) (eqb-true s SIGCONT a)))
@@ -56,35 +56,35 @@ module _ (p s : ℕ) where
         let g : stopSignal s ≡ true = rw (a, b) at k in
         rw (h, a, b, g)))
 
-    pub settles : (eqb s SIGCONT || eqb s SIGSTOP) ≡ true → jobControl p s ≡ discard p x ∷ setStopped p (boolByte (eqb s SIGSTOP)) ∷ []
-    settles t = discards-first ∙ ap (λ (cs : List Change). discard p x ∷ cs) (cond-true _ _ t)
+    pub commits : (eqb s SIGCONT || eqb s SIGSTOP) ≡ true → jobControl p s ≡ discard p x ∷ setStopped p (boolByte (eqb s SIGSTOP)) ∷ []
+    commits t = discards-first ∙ ap (λ (cs : List Change). discard p x ∷ cs) (cond-true _ _ t)
 
     pub discards-only : (eqb s SIGCONT || eqb s SIGSTOP) ≡ false → jobControl p s ≡ discard p x ∷ []
     discards-only n = discards-first ∙ ap (λ (cs : List Change). discard p x ∷ cs) (cond-false _ _ n)
 
--- ---- the changes, by the fate
+-- ---- the changes, by the generation
 
-module _ (f : declared.Fate) (r : Siginfo) where
-  pub of-testing : f ≡ cases.Testing → sendChanges (fateOf f) r ≡ []
-  unfolding sendChanges fateOf
-  of-testing e = ap (λ g. sendChanges (fateOf g) r) e
+module _ (f : declared.Generation) (r : Siginfo) where
+  pub of-testing : f ≡ cases.Testing → sendChanges (generationOf f) r ≡ []
+  unfolding sendChanges generationOf
+  of-testing e = ap (λ g. sendChanges (generationOf g) r) e
 
-  pub of-killing : f ≡ cases.Killing → sendChanges (fateOf f) r ≡ removeProcess (r .process) ∷ []
-  unfolding sendChanges fateOf
-  of-killing e = ap (λ g. sendChanges (fateOf g) r) e
+  pub of-killing : f ≡ cases.Killing → sendChanges (generationOf f) r ≡ removeProcess (r .process) ∷ []
+  unfolding sendChanges generationOf
+  of-killing e = ap (λ g. sendChanges (generationOf g) r) e
 
-  pub of-marking : f ≡ cases.Marking → sendChanges (fateOf f) r ≡ jobControl (r .process) (r .signal) ++ (setMark (queueOf r) (r .signal) ∷ [])
-  unfolding sendChanges fateOf
-  of-marking e = ap (λ g. sendChanges (fateOf g) r) e
+  pub of-marking : f ≡ cases.Marking → sendChanges (generationOf f) r ≡ jobControl (r .process) (r .signal) ++ (setMark (queueOf r) (r .signal) ∷ [])
+  unfolding sendChanges generationOf
+  of-marking e = ap (λ g. sendChanges (generationOf g) r) e
 
-  pub of-keeping : f ≡ cases.Keeping → sendChanges (fateOf f) r ≡ jobControl (r .process) (r .signal) ++ (append r ∷ [])
-  unfolding sendChanges fateOf
-  of-keeping e = ap (λ g. sendChanges (fateOf g) r) e
+  pub of-keeping : f ≡ cases.Keeping → sendChanges (generationOf f) r ≡ jobControl (r .process) (r .signal) ++ (append r ∷ [])
+  unfolding sendChanges generationOf
+  of-keeping e = ap (λ g. sendChanges (generationOf g) r) e
 
--- every fate but testing and killing begins with job control
-pub control-fits : (f : declared.Fate) (r : Siginfo) (st : Store) → OneOf (2 ∷ 3 ∷ 4 ∷ 5 ∷ 6 ∷ []) (tagOf the-type f)
-    → fitsAll (sendChanges (fateOf f) r) st ≡ true → fitsAll (jobControl (r .process) (r .signal)) st ≡ true
-unfolding sendChanges fateOf
+-- every generation but testing and killing begins with job control
+pub control-fits : (f : declared.Generation) (r : Siginfo) (st : Store) → OneOf (2 ∷ 3 ∷ 4 ∷ 5 ∷ 6 ∷ []) (tagOf the-type f)
+    → fitsAll (sendChanges (generationOf f) r) st ≡ true → fitsAll (jobControl (r .process) (r .signal)) st ≡ true
+unfolding sendChanges generationOf
 control-fits cases.Testing r st k h = absurd (miss (2 ∷ 3 ∷ 4 ∷ 5 ∷ 6 ∷ []) 0 tt k)
 control-fits cases.Killing r st k h = absurd (miss (2 ∷ 3 ∷ 4 ∷ 5 ∷ 6 ∷ []) 1 tt k)
 control-fits cases.Stopping r st k h = h
@@ -94,9 +94,9 @@ control-fits cases.Marking r st k h = first-part-fits (jobControl (r .process) (
 control-fits cases.Keeping r st k h = first-part-fits (jobControl (r .process) (r .signal)) (append r ∷ []) st h
 
 -- stopping, dropping and absorbing: those that neither of the two tests of code names
-pub of-control : (f : declared.Fate) (r : Siginfo) → OneOf (2 ∷ 3 ∷ 4 ∷ 5 ∷ 6 ∷ []) (tagOf the-type f) → OneOf (0 ∷ 1 ∷ 2 ∷ 3 ∷ 4 ∷ []) (tagOf the-type f)
-    → sendChanges (fateOf f) r ≡ jobControl (r .process) (r .signal)
-unfolding sendChanges fateOf
+pub of-control : (f : declared.Generation) (r : Siginfo) → OneOf (2 ∷ 3 ∷ 4 ∷ 5 ∷ 6 ∷ []) (tagOf the-type f) → OneOf (0 ∷ 1 ∷ 2 ∷ 3 ∷ 4 ∷ []) (tagOf the-type f)
+    → sendChanges (generationOf f) r ≡ jobControl (r .process) (r .signal)
+unfolding sendChanges generationOf
 of-control cases.Testing r k m = absurd (miss (2 ∷ 3 ∷ 4 ∷ 5 ∷ 6 ∷ []) 0 tt k)
 of-control cases.Killing r k m = absurd (miss (2 ∷ 3 ∷ 4 ∷ 5 ∷ 6 ∷ []) 1 tt k)
 of-control cases.Stopping r k m = refl
@@ -109,13 +109,13 @@ of-control cases.Keeping r k m = absurd (miss (0 ∷ 1 ∷ 2 ∷ 3 ∷ 4 ∷ [])
 
 module _ (v : View) (by to t s value : ℕ) where
   -- a plain send has no value
-  pub send-makes : (queued : Bool) → (queued ≡ false → value ≡ 0) → (f : Fate) (r : Siginfo) → f ≡ fate v queued (targetQueue to t) s → r ≡ infoOf v by to t s value
+  pub send-makes : (queued : Bool) → (queued ≡ false → value ≡ 0) → (f : Generation) (r : Siginfo) → f ≡ generation v queued (targetQueue to t) s → r ≡ infoOf v by to t s value
       → changes v (sendCall queued by to t s value) ≡ sendChanges f r
   unfolding changes send
   send-makes true z f r e h = sym (ap₂ sendChanges e h)
   send-makes false z f r e h = sym (ap₂ sendChanges e (h ∙ ap (infoOf v by to t s) (z refl)))
 
-  pub send-answers : (queued : Bool) (f : Fate) → f ≡ fate v queued (targetQueue to t) s → sendAnswer f ≡ answer v (sendCall queued by to t s value)
+  pub send-answers : (queued : Bool) (f : Generation) → f ≡ generation v queued (targetQueue to t) s → sendAnswer f ≡ answer v (sendCall queued by to t s value)
   unfolding answer
   send-answers true f e = ap sendAnswer e
   send-answers false f e = ap sendAnswer e
@@ -125,8 +125,8 @@ module _ (l : Lent) (queued : Bool) (by to t s value : ℕ) (d : decided.Decisio
   unfolding Decided
   when-refused n e = subst (Decided l queued by to t s value) e h
 
-  pub when-allowed : (f : declared.Fate) (r : Siginfo) → d ≡ decisions.Allowed f r
+  pub when-allowed : (f : declared.Generation) (r : Siginfo) → d ≡ decisions.Allowed f r
       → (refusalOn (sendCall queued by to t s value) l ≡ 0)
-      × ((fateOf f ≡ fate (view (decoded l)) queued (targetQueue to t) s) × (r ≡ infoOf (view (decoded l)) by to t s value))
+      × ((generationOf f ≡ generation (view (decoded l)) queued (targetQueue to t) s) × (r ≡ infoOf (view (decoded l)) by to t s value))
   unfolding Decided
   when-allowed f r e = subst (Decided l queued by to t s value) e h

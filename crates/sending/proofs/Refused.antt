@@ -12,12 +12,12 @@ use Rattle.types.specs.declared.Siginfo.{Siginfo}
 use Rattle.rules.specs.Types.{kill, queue}
 use Rattle.rules.specs.View.{View, isProcess, targetQueue, liveProcess, theProcess}
 use Rattle.rules.specs.Store.{view}
-use Rattle.rules.specs.Sending.{maySignal, Fate, fate, infoOf, sendChanges, needsRecord}
+use Rattle.rules.specs.Sending.{maySignal, Generation, generation, infoOf, sendChanges, needsRecord}
 use Rattle.rules.specs.Refusals.{overLast, einval, esrch, eperm, eagain, noProcessLive, badTarget, mayNot, noRoom, rows, isClear}
 use Rattle.rules.specs.Calls.{send}
 use Rattle.rules.specs.Fitting.{fitsAll}
-use Rattle.rules.proofs.Table.{Off}
-use Rattle.rules.proofs.Fitted.{send-fits}
+use Rattle.rules.proofs.RefusalTable.{Off}
+use Rattle.rules.proofs.SendFits.{send-fits}
 use Rattle.tables.specs.Tables.{heldProcesses}
 use Rattle.sound.specs.Lent.{storeOf, soundTables}
 use Rattle.sound.proofs.Facts.{store-sound}
@@ -147,17 +147,17 @@ module _ (l : Lent) (by to t s value : ℕ) where
   send-refused true n e z = queue-refused l by to t s value n e z
   send-refused false n e z = e
 
-  abbrev isFull : Fate → Bool
+  abbrev isFull : Generation → Bool
   isFull f = needsRecord f && leb recordLimit (view (decoded l) .queued to)
 
-  -- by the fate and the test that code has
-  module _ (e : refusalOn (kill by to t s) l ≡ 0) (f : Fate) (b : Bool) (i : b ≡ isFull f) where
-    pub send-full : (queued : Bool) → f ≡ fate (view (decoded l)) queued (targetQueue to t) s → b ≡ true → EAGAIN ≡ refusalOn (sendCall queued by to t s value) l
+  -- by the generation and the test that code has
+  module _ (e : refusalOn (kill by to t s) l ≡ 0) (f : Generation) (b : Bool) (i : b ≡ isFull f) where
+    pub send-full : (queued : Bool) → f ≡ generation (view (decoded l)) queued (targetQueue to t) s → b ≡ true → EAGAIN ≡ refusalOn (sendCall queued by to t s value) l
     unfolding noRoom
     send-full true h k = queue-full l by to t s value e (ap isFull (sym h) ∙ sym i ∙ k)
     send-full false h k = clash (ap isFull (sym h) ∙ sym i ∙ k) (and-left _ (plain-no-record (view (decoded l)) (targetQueue to t) s))
 
-    pub send-passes : (queued : Bool) → f ≡ fate (view (decoded l)) queued (targetQueue to t) s → b ≡ false → refusalOn (sendCall queued by to t s value) l ≡ 0
+    pub send-passes : (queued : Bool) → f ≡ generation (view (decoded l)) queued (targetQueue to t) s → b ≡ false → refusalOn (sendCall queued by to t s value) l ≡ 0
     unfolding noRoom
     send-passes true h k = sym (queue-passes l by to t s value e (ap isFull (sym h) ∙ sym i ∙ k))
     send-passes false h k = e
@@ -170,16 +170,16 @@ module _ (l : Lent) (by to t s value : ℕ) where
   send-room true e k = queue-room l by to t s value e
   send-room false e k = clash k refl
 
-  -- what `carry_out` asks for, of the fate and the record that code has
-  pub allowed-fits : (queued : Bool) → refusalOn (sendCall queued by to t s value) l ≡ 0 → (f : Fate) (r : Siginfo)
-      → f ≡ fate (view (decoded l)) queued (targetQueue to t) s → r ≡ infoOf (view (decoded l)) by to t s value
+  -- what `generate` asks for, of the generation and the record that code has
+  pub allowed-fits : (queued : Bool) → refusalOn (sendCall queued by to t s value) l ≡ 0 → (f : Generation) (r : Siginfo)
+      → f ≡ generation (view (decoded l)) queued (targetQueue to t) s → r ≡ infoOf (view (decoded l)) by to t s value
       → (isSound l ≡ true) × (fitsAll (sendChanges f r) (decoded l) ≡ true)
   unfolding overLast send
   allowed-fits queued e f r h k =
       let a = send-allowed queued e in
       let st = decoded l in (
         a .sound,
-        ap₂ (λ (g : Fate) (i : Siginfo). fitsAll (sendChanges g i) st) h k
+        ap₂ (λ (g : Generation) (i : Siginfo). fitsAll (sendChanges g i) st) h k
             ∙ send-fits st (store-sound (l .processes) (l .threads) (l .threadBuffer) (l .processBuffer) (a .sound)) queued by to t s value
             (le-ltb signals s (a .signal)) (a .target) (send-room queued e),
       )

@@ -5,9 +5,9 @@ use mathlib.Core.Bool.{Bool, cond}
 use Rattle.rules.specs.Types.{Call, kill, queue}
 use Rattle.rules.specs.View.{targetQueue}
 use Rattle.rules.specs.Store.{view}
-use Rattle.rules.specs.Sending.{fate, infoOf}
+use Rattle.rules.specs.Sending.{generation, infoOf}
 use Rattle.answers.specs.Step.{Lent, decoded, refusalOn}
-use Rattle.sending.specs.Fates.{fateOf}
+use Rattle.sending.specs.Generations.{generationOf}
 use Rattle.sending.specs.declared.Decision as declared
 use Rattle.sending.specs.declared.Decision.the-variants as cases
 
@@ -16,9 +16,9 @@ abbrev pub sendCall : (queued : Bool) (by to thread signal value : ℕ) → Call
 sendCall queued by to t s value = cond queued (queue by to t s value) (kill by to t s)
 
 module _ (l : Lent) (queued : Bool) (by to t s value : ℕ) where
-  -- the number of the refusal, or the fate and the record where there is none
+  -- the number of the refusal, or the generation and the record where there is none
   unfoldable pub Decided : declared.Decision → Type 0
   Decided (cases.Refused n) = (n ≡ refusalOn (sendCall queued by to t s value) l) × (n ≡ 0 → ⊥)
   Decided (cases.Allowed f r) =
       (refusalOn (sendCall queued by to t s value) l ≡ 0)
-      × ((fateOf f ≡ fate (view (decoded l)) queued (targetQueue to t) s) × (r ≡ infoOf (view (decoded l)) by to t s value))
+      × ((generationOf f ≡ generation (view (decoded l)) queued (targetQueue to t) s) × (r ≡ infoOf (view (decoded l)) by to t s value))

@@ -10,5 +10,5 @@ use Rattle.rules.specs.Signals.{stopSignal}
 unfoldable pub controls : ℕ → Bool
 controls s = eqb s SIGCONT || (eqb s SIGSTOP || stopSignal s)
 
-unfoldable pub rivalsOf : ℕ → SigSet
-rivalsOf s = cond (eqb s SIGCONT) (setOf stopSignal) (ofSignal SIGCONT)
+unfoldable pub discardedBy : ℕ → SigSet
+discardedBy s = cond (eqb s SIGCONT) (setOf stopSignal) (ofSignal SIGCONT)

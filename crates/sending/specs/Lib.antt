@@ -1,3 +1,3 @@
-pub mod Fates
+pub mod Generations
 pub mod JobControl
 pub mod Decisions

@@ -9,14 +9,14 @@ ghost use Rattle.rules.specs.Signals.{stopSignal};
 ghost use Rattle.rules.specs.Types as call;
 ghost use Rattle.rules.specs.View.{targetQueue, liveProcess};
 ghost use Rattle.rules.specs.Store.{view, applyAll};
-ghost use Rattle.rules.specs.Sending.{absorbs, fate, infoOf, jobControl, sendChanges, sendAnswer, needsRecord};
+ghost use Rattle.rules.specs.Sending.{absorbs, generation, infoOf, jobControl, sendChanges, sendAnswer, needsRecord};
 ghost use Rattle.rules.specs.Refusals.{badTarget};
 ghost use Rattle.rules.specs.Fitting.{liveQueue, fitsAll};
 ghost use Rattle.sound.specs.Lent.{storeOf, soundTables};
 ghost use Rattle.answers.specs.Answers.{answerOf};
 ghost use Rattle.answers.specs.Step.{lent, refusalOn, stepOn};
-ghost use Rattle.sending.specs.Fates.{fateOf};
-ghost use Rattle.sending.specs.JobControl.{controls, rivalsOf};
+ghost use Rattle.sending.specs.Generations.{generationOf};
+ghost use Rattle.sending.specs.JobControl.{controls, discardedBy};
 ghost use Rattle.sending.specs.Decisions.{sendCall, Decided};
 use answers::Answer;
 use limits::EAGAIN;
@@ -36,8 +36,8 @@ use limits::SIGTTOU;
 use sigset::SigSet;
 use types::Siginfo;
 
-// How a send ends.
-enum Fate {
+// What the generation of a signal comes to.
+enum Generation {
     Testing,
     Killing,
     Stopping,
@@ -47,10 +47,10 @@ enum Fate {
     Keeping,
 }
 
-// A send is refused with an error number, or allowed, with its fate and its record.
+// A send is refused with an error number, or allowed, with what its generation comes to and its record.
 enum Decision {
     Refused(u32),
-    Allowed(Fate, Siginfo),
+    Allowed(Generation, Siginfo),
 }
 
 // ---- what is decided before anything changes
@@ -77,7 +77,7 @@ fn is_absorbed(
     again | (!queued & SigSet::has(marks, signal))
 }
 
-fn fate_of(
+fn generation_of(
     ps: &[u64],
     ts: &[u64],
     tb: &[u8],
@@ -86,31 +86,31 @@ fn fate_of(
     process: u32,
     thread: u32,
     signal: u32,
-) -> Fate
+) -> Generation
     requires { ⌜ soundTables (now ps) (now ts) (now tb) (now pb) ≡ true ⌝ }
     requires { ⌜ liveQueue (view (storeOf (now ps) (now ts) (now tb) (now pb))) (targetQueue process thread) ≡ true ⌝ }
     requires { ⌜ signal ≤ signals ⌝ }
-    ensures { λ r. ⌜ fateOf r ≡ fate (view (storeOf (now (ps .entry)) (now (ts .entry)) (now (tb .entry)) (now (pb .entry)))) queued (targetQueue process thread) signal ⌝ }
+    ensures { λ r. ⌜ generationOf r ≡ generation (view (storeOf (now (ps .entry)) (now (ts .entry)) (now (tb .entry)) (now (pb .entry)))) queued (targetQueue process thread) signal ⌝ }
 {
     if signal == 0 {
-        return Fate::Testing;
+        return Generation::Testing;
     }
     if signal == SIGKILL {
-        return Fate::Killing;
+        return Generation::Killing;
     }
     if signal == SIGSTOP {
-        return Fate::Stopping;
+        return Generation::Stopping;
     }
     if decide::is_ignored(view::action_of(ps, process, signal), signal) {
-        return Fate::Dropping;
+        return Generation::Dropping;
     }
     if is_absorbed(ps, ts, tb, pb, queued, process, thread, signal) {
-        return Fate::Absorbing;
+        return Generation::Absorbing;
     }
     if queued {
-        return Fate::Keeping;
+        return Generation::Keeping;
     }
-    Fate::Marking
+    Generation::Marking
 }
 
 // The record of a queued send.
@@ -158,8 +158,8 @@ fn is_job_control(s: u32) -> bool
 }
 
 // What a signal of job control discards: CONT the stop signals, the others CONT.
-fn rivals(s: u32) -> SigSet
-    ensures { λ r. ⌜ r ≡ rivalsOf s ⌝ }
+fn discarded_by(s: u32) -> SigSet
+    ensures { λ r. ⌜ r ≡ discardedBy s ⌝ }
 {
     if s == SIGCONT {
         return stop_signals();
@@ -184,22 +184,22 @@ fn job_control(
     if !is_job_control(signal) {
         return;
     }
-    effects::discard(ps, ts, tb, pb, process, rivals(signal));
+    effects::discard(ps, ts, tb, pb, process, discarded_by(signal));
     if (signal == SIGCONT) | (signal == SIGSTOP) {
         effects::set_stopped(ps, ts, tb, pb, process, (signal == SIGSTOP) as u64);
     }
 }
 
-// Job control comes first, whatever becomes pending.
-fn carry_out(ps: &mut [u64], ts: &mut [u64], tb: &mut [u8], pb: &mut [u8], f: Fate, r: Siginfo)
+// Generates the signal. Job control comes first, whatever becomes pending.
+fn generate(ps: &mut [u64], ts: &mut [u64], tb: &mut [u8], pb: &mut [u8], f: Generation, r: Siginfo)
     requires { ⌜ soundTables (now ps) (now ts) (now tb) (now pb) ≡ true ⌝ }
-    requires { ⌜ fitsAll (sendChanges (fateOf f) r) (storeOf (now ps) (now ts) (now tb) (now pb)) ≡ true ⌝ }
-    ensures store { λ _. ⌜ storeOf (now (ps .exit)) (now (ts .exit)) (now (tb .exit)) (now (pb .exit)) ≡ applyAll (sendChanges (fateOf f) r) (storeOf (now (ps .entry)) (now (ts .entry)) (now (tb .entry)) (now (pb .entry))) ⌝ }
+    requires { ⌜ fitsAll (sendChanges (generationOf f) r) (storeOf (now ps) (now ts) (now tb) (now pb)) ≡ true ⌝ }
+    ensures store { λ _. ⌜ storeOf (now (ps .exit)) (now (ts .exit)) (now (tb .exit)) (now (pb .exit)) ≡ applyAll (sendChanges (generationOf f) r) (storeOf (now (ps .entry)) (now (ts .entry)) (now (tb .entry)) (now (pb .entry))) ⌝ }
     ensures sound { λ _. ⌜ soundTables (now (ps .exit)) (now (ts .exit)) (now (tb .exit)) (now (pb .exit)) ≡ true ⌝ }
 {
     match f {
-        Fate::Testing => return,
-        Fate::Killing => {
+        Generation::Testing => return,
+        Generation::Killing => {
             effects::remove_process(ps, ts, tb, pb, r.process);
             return;
         }
@@ -207,23 +207,23 @@ fn carry_out(ps: &mut [u64], ts: &mut [u64], tb: &mut [u8], pb: &mut [u8], f: Fa
     }
     job_control(ps, ts, tb, pb, r.process, r.signal);
     match f {
-        Fate::Marking => effects::set_mark(ps, ts, tb, pb, r.process, r.thread, r.signal),
-        Fate::Keeping => effects::append(ps, ts, tb, pb, r),
+        Generation::Marking => effects::set_mark(ps, ts, tb, pb, r.process, r.thread, r.signal),
+        Generation::Keeping => effects::append(ps, ts, tb, pb, r),
         _ => {}
     }
 }
 
-fn sent(f: Fate) -> Answer
-    ensures { λ r. ⌜ answerOf r ≡ sendAnswer (fateOf f) ⌝ }
+fn sent(f: Generation) -> Answer
+    ensures { λ r. ⌜ answerOf r ≡ sendAnswer (generationOf f) ⌝ }
 {
     match f {
-        Fate::Testing => Answer::Tested,
-        Fate::Killing => Answer::Acted,
-        Fate::Stopping => Answer::Acted,
-        Fate::Dropping => Answer::Dropped,
-        Fate::Absorbing => Answer::Absorbed,
-        Fate::Marking => Answer::Marked,
-        Fate::Keeping => Answer::Kept,
+        Generation::Testing => Answer::Tested,
+        Generation::Killing => Answer::Acted,
+        Generation::Stopping => Answer::Acted,
+        Generation::Dropping => Answer::Dropped,
+        Generation::Absorbing => Answer::Absorbed,
+        Generation::Marking => Answer::Marked,
+        Generation::Keeping => Answer::Kept,
     }
 }
 
@@ -275,12 +275,12 @@ fn kill_refusal(
 }
 
 // Is the send kept, and has the process all the records that it may have? The buffers are counted only for a send that is kept.
-fn has_no_room(ps: &[u64], ts: &[u64], tb: &[u8], pb: &[u8], f: Fate, to: u32) -> bool
+fn has_no_room(ps: &[u64], ts: &[u64], tb: &[u8], pb: &[u8], f: Generation, to: u32) -> bool
     requires { ⌜ soundTables (now ps) (now ts) (now tb) (now pb) ≡ true ⌝ }
-    ensures { λ r. ⌜ r ≡ (needsRecord (fateOf f) && leb recordLimit (view (storeOf (now (ps .entry)) (now (ts .entry)) (now (tb .entry)) (now (pb .entry))) .queued to)) ⌝ }
+    ensures { λ r. ⌜ r ≡ (needsRecord (generationOf f) && leb recordLimit (view (storeOf (now (ps .entry)) (now (ts .entry)) (now (tb .entry)) (now (pb .entry))) .queued to)) ⌝ }
 {
     match f {
-        Fate::Keeping => RECORD_LIMIT <= queue::count_of(tb, to) + queue::count_of(pb, to),
+        Generation::Keeping => RECORD_LIMIT <= queue::count_of(tb, to) + queue::count_of(pb, to),
         _ => false,
     }
 }
@@ -304,7 +304,7 @@ fn judge(
     if n != 0 {
         return Decision::Refused(n);
     }
-    let f = fate_of(ps, ts, tb, pb, queued, to, thread, signal);
+    let f = generation_of(ps, ts, tb, pb, queued, to, thread, signal);
     if has_no_room(ps, ts, tb, pb, f, to) {
         return Decision::Refused(EAGAIN);
     }
@@ -334,7 +334,7 @@ fn send(
     match decision {
         Decision::Refused(n) => Answer::Refused(n),
         Decision::Allowed(f, r) => {
-            carry_out(ps, ts, tb, pb, f, r);
+            generate(ps, ts, tb, pb, f, r);
             sent(f)
         }
     }

@@ -19,11 +19,11 @@ use Rattle.types.specs.Values.{defaultAction}
 use Rattle.rules.specs.Types.{Process, Thread, noProcess}
 use Rattle.rules.specs.View.{View, isProcess, isThread, belongsTo, actionOf, liveProcess, theProcess, threadAction}
 use Rattle.rules.specs.Store.{Place, Store}
-use Rattle.rules.specs.Sound.{ifLive, ifFree, isLive, processId, threadId, zeroProcess, zeroThread, goodId, goodProcessId, goodThreadId, goodUser, fieldsFit, belongs, hasThread, unmasked, actionUnmasked, processUnmasked, threadUnmasked, isDefault, killStopDefault, flagsKnown, processFlagsKnown, marksHeard, processHeard, threadHeard}
+use Rattle.rules.specs.Sound.{ifLive, ifFree, isLive, processId, threadId, zeroProcess, zeroThread, goodId, goodProcessId, goodThreadId, goodUser, fieldsFit, belongs, hasThread, unmasked, actionUnmasked, processUnmasked, threadUnmasked, isDefault, killStopDefault, flagsKnown, processFlagsKnown, marksNotIgnored, processNotIgnored, threadNotIgnored}
 use Rattle.rules.proofs.Found.{default-is}
 use Rattle.rules.proofs.Unmaskable.{unmasked-empty}
 use Rattle.tables.specs.Tables.{actionTo, headTo, processTo, threadTo}
-use Rattle.places.specs.Check.{isNought, headOk, actionOk, liveProcessOk, processOk, ownerOf, liveThreadOk, threadOk}
+use Rattle.places.specs.Check.{isZeroWord, headOk, actionOk, liveProcessOk, processOk, ownerOf, liveThreadOk, threadOk}
 
 -- the store of the view that a record is held against
 abbrev pub placesStore : List (Place Process) → List (Place Thread) → Store
@@ -31,23 +31,23 @@ placesStore xs ys = record { processes = xs; threads = ys; threadBuffer = []; pr
 
 -- ---- words that are all zero
 
-nought-actions : (l : List Action) → all isNought (flat actionTo l) ≡ all isDefault l
-unfolding flat all actionTo isNought isDefault
-nought-actions [] = refl
-nought-actions (a ∷ l) =
-    let h : all isNought (actionTo a) ≡ isDefault a = simp and-true in
-    all-append isNought (actionTo a) (flat actionTo l) ∙ ap₂ (λ (b c : Bool). b && c) h (nought-actions l)
+zero-actions : (l : List Action) → all isZeroWord (flat actionTo l) ≡ all isDefault l
+unfolding flat all actionTo isZeroWord isDefault
+zero-actions [] = refl
+zero-actions (a ∷ l) =
+    let h : all isZeroWord (actionTo a) ≡ isDefault a = simp and-true in
+    all-append isZeroWord (actionTo a) (flat actionTo l) ∙ ap₂ (λ (b c : Bool). b && c) h (zero-actions l)
 
-nought-process : (x : Place Process) → all isNought (processTo x) ≡ (eqb (x .holds .id) 0 && zeroProcess x)
-unfolding processTo headTo all isNought zeroProcess
-nought-process x =
-    all-append isNought (headTo x) (flat actionTo (x .holds .actions))
-    ∙ ap (λ (b : Bool). all isNought (headTo x) && b) (nought-actions (x .holds .actions))
+zero-process : (x : Place Process) → all isZeroWord (processTo x) ≡ (eqb (x .holds .id) 0 && zeroProcess x)
+unfolding processTo headTo all isZeroWord zeroProcess
+zero-process x =
+    all-append isZeroWord (headTo x) (flat actionTo (x .holds .actions))
+    ∙ ap (λ (b : Bool). all isZeroWord (headTo x) && b) (zero-actions (x .holds .actions))
     ∙ simp (and-assoc, and-true)
 
-nought-thread : (x : Place Thread) → all isNought (threadTo x) ≡ (eqb (x .holds .id) 0 && zeroThread x)
-unfolding threadTo all isNought zeroThread
-nought-thread x = simp and-true
+zero-thread : (x : Place Thread) → all isZeroWord (threadTo x) ≡ (eqb (x .holds .id) 0 && zeroThread x)
+unfolding threadTo all isZeroWord zeroThread
+zero-thread x = simp and-true
 
 -- ---- a free place passes every clause
 
@@ -72,11 +72,11 @@ pub record ProcessRight (v : View) (x : Place Process) : Type 0 where
   pub free : ifFree processId zeroProcess x ≡ true
   pub ids : ifLive processId goodProcessId x ≡ true
   pub fields : fieldsFit x ≡ true
-  pub peopled : ifLive processId (hasThread v) x ≡ true
+  pub have-threads : ifLive processId (hasThread v) x ≡ true
   pub sets : processUnmasked x ≡ true
   pub defaults : killStopDefault x ≡ true
   pub flags : processFlagsKnown x ≡ true
-  pub heard : ifLive processId processHeard x ≡ true
+  pub not-ignored : ifLive processId processNotIgnored x ≡ true
 
 module _ (v : View) (x : Place Process) where
   free-process-right : eqb (x .holds .id) 0 ≡ true → zeroProcess x ≡ true → ProcessRight v x
@@ -98,12 +98,12 @@ module _ (v : View) (x : Place Process) where
             (and-both (zero-fits (x .holds .saved) _ (and-fst (eqb (x .holds .saved) 0) _ z2))
             (and-both (zero-fits (x .holds .session) _ (and-fst (eqb (x .holds .session) 0) _ z3))
             (zero-fits (x .holds .stopped) 1 (and-fst (eqb (x .holds .stopped) 0) _ z4)))));
-        peopled = rw e;
+        have-threads = rw e;
         sets =
             and-both (zero-unmasked (x .marks) (and-fst (eqb (x .marks .0) 0) _ z5)) (all-imp isDefault actionUnmasked default-unmasked l a);
         defaults = and-both (all-getD isDefault l (SIGKILL - 1) defaultAction refl a) (all-getD isDefault l (SIGSTOP - 1) defaultAction refl a);
         flags = all-imp isDefault flagsKnown default-known l a;
-        heard = rw e;
+        not-ignored = rw e;
       }
 
   module _ (i : ℕ) where
@@ -121,18 +121,18 @@ module _ (v : View) (x : Place Process) where
           free = rw e;
           ids = imp-by (isLive processId x) (λ _. and-fst (goodId (x .holds .id)) _ h);
           fields = and-fst (fieldsFit x) _ h1;
-          peopled = imp-by (isLive processId x) (λ _. and-fst (any (belongsTo (x .holds .id)) (v .threads)) _ l2);
+          have-threads = imp-by (isLive processId x) (λ _. and-fst (any (belongsTo (x .holds .id)) (v .threads)) _ l2);
           sets = and-both (and-snd (fieldsFit x) _ h1) (and-fst (all actionUnmasked (x .holds .actions)) _ a);
           defaults = and-fst (killStopDefault x) _ l3;
           flags = and-snd (all actionUnmasked (x .holds .actions)) _ a;
-          heard = imp-by (isLive processId x) (λ _. and-snd (all actionOk (x .holds .actions)) _ l4);
+          not-ignored = imp-by (isLive processId x) (λ _. and-snd (all actionOk (x .holds .actions)) _ l4);
         }
 
     pub process-right : processOk (v .processes) (v .threads) i x ≡ true → ProcessRight v x
     unfolding processOk
     process-right k =
         split (eqb (x .holds .id) 0)
-        (λ e. free-process-right e (and-snd (eqb (x .holds .id) 0) (zeroProcess x) (sym (nought-process x) ∙ (rw e at k))))
+        (λ e. free-process-right e (and-snd (eqb (x .holds .id) 0) (zeroProcess x) (sym (zero-process x) ∙ (rw e at k))))
         (λ e. live-process-right e (rw e at k))
 
     pub process-first : processOk (v .processes) (v .threads) i x ≡ true → isLive processId x ≡ true → find (isProcess (x .holds .id)) (v .processes) ≡ i
@@ -146,18 +146,18 @@ module _ (v : View) (x : Place Process) where
     unfolding processOk liveProcessOk headOk actionOk processUnmasked processFlagsKnown hasThread
     process-ok c f =
         split (eqb (x .holds .id) 0)
-        (λ e. rw e (nought-process x ∙ and-both e (imp-use (not (isLive processId x)) (zeroProcess x) (c .free) (rw e))))
+        (λ e. rw e (zero-process x ∙ and-both e (imp-use (not (isLive processId x)) (zeroProcess x) (c .free) (rw e))))
         (λ e.
         let l : isLive processId x ≡ true = ap not e in
         rw e
         (and-both
         (and-both (imp-use (isLive processId x) _ (c .ids) l) (and-both (c .fields) (and-fst (unmasked (x .marks)) _ (c .sets))))
         (and-both (eq-eqb _ i (f l))
-        (and-both (imp-use (isLive processId x) _ (c .peopled) l)
+        (and-both (imp-use (isLive processId x) _ (c .have-threads) l)
         (and-both (c .defaults)
         (and-both
         (all-and actionUnmasked flagsKnown (x .holds .actions) ∙ and-both (and-snd (unmasked (x .marks)) _ (c .sets)) (c .flags))
-        (imp-use (isLive processId x) _ (c .heard) l)))))))
+        (imp-use (isLive processId x) _ (c .not-ignored) l)))))))
 
 -- ---- a thread place
 
@@ -166,7 +166,7 @@ pub record ThreadRight (v : View) (x : Place Thread) : Type 0 where
   pub ids : ifLive threadId goodThreadId x ≡ true
   pub owned : ifLive threadId (belongs v) x ≡ true
   pub sets : threadUnmasked x ≡ true
-  pub heard : ifLive threadId (threadHeard v) x ≡ true
+  pub not-ignored : ifLive threadId (threadNotIgnored v) x ≡ true
 
 module _ (v : View) (x : Place Thread) where
   free-thread-right : eqb (x .holds .id) 0 ≡ true → zeroThread x ≡ true → ThreadRight v x
@@ -178,13 +178,13 @@ module _ (v : View) (x : Place Thread) where
         ids = rw e;
         owned = rw e;
         sets = and-both (zero-unmasked (x .holds .mask) (and-fst (eqb (x .holds .mask .0) 0) _ z1)) (zero-unmasked (x .marks) (and-snd (eqb (x .holds .mask .0) 0) _ z1));
-        heard = rw e;
+        not-ignored = rw e;
       }
 
   -- the process of a thread is found by its place
-  owner-heard : threadHeard v x ≡ marksHeard (x .marks) (actionOf (ownerOf (v .processes) (v .threads) x))
+  owner-not-ignored : threadNotIgnored v x ≡ marksNotIgnored (x .marks) (actionOf (ownerOf (v .processes) (v .threads) x))
   unfolding threadAction theProcess ownerOf
-  owner-heard = ap (λ (p : Process). marksHeard (x .marks) (actionOf p)) (getD-find (isProcess (x .holds .process)) noProcess (v .processes))
+  owner-not-ignored = ap (λ (p : Process). marksNotIgnored (x .marks) (actionOf p)) (getD-find (isProcess (x .holds .process)) noProcess (v .processes))
 
   module _ (i : ℕ) where
     live-thread-right : eqb (x .holds .id) 0 ≡ false → liveThreadOk (v .processes) (v .threads) i x ≡ true → ThreadRight v x
@@ -199,14 +199,14 @@ module _ (v : View) (x : Place Thread) where
           ids = imp-by (isLive threadId x) (λ _. and-fst (goodId (x .holds .id)) _ l1);
           owned = imp-by (isLive threadId x) (λ _. and-fst (any (isProcess (x .holds .process)) (v .processes)) _ l);
           sets = and-both (and-fst (unmasked (x .holds .mask)) _ l2) (and-fst (unmasked (x .marks)) _ l3);
-          heard = imp-by (isLive threadId x) (λ _. owner-heard ∙ and-snd (eqb (find (isThread (x .holds .id)) (v .threads)) i) _ l4);
+          not-ignored = imp-by (isLive threadId x) (λ _. owner-not-ignored ∙ and-snd (eqb (find (isThread (x .holds .id)) (v .threads)) i) _ l4);
         }
 
     pub thread-right : threadOk (v .processes) (v .threads) i x ≡ true → ThreadRight v x
     unfolding threadOk
     thread-right k =
         split (eqb (x .holds .id) 0)
-        (λ e. free-thread-right e (and-snd (eqb (x .holds .id) 0) (zeroThread x) (sym (nought-thread x) ∙ (rw e at k))))
+        (λ e. free-thread-right e (and-snd (eqb (x .holds .id) 0) (zeroThread x) (sym (zero-thread x) ∙ (rw e at k))))
         (λ e. live-thread-right e (rw e at k))
 
     pub thread-first : threadOk (v .processes) (v .threads) i x ≡ true → isLive threadId x ≡ true → find (isThread (x .holds .id)) (v .threads) ≡ i
@@ -223,7 +223,7 @@ module _ (v : View) (x : Place Thread) where
     unfolding threadOk liveThreadOk threadUnmasked belongs liveProcess
     thread-ok c f =
         split (eqb (x .holds .id) 0)
-        (λ e. rw e (nought-thread x ∙ and-both e (imp-use (not (isLive threadId x)) (zeroThread x) (c .free) (rw e))))
+        (λ e. rw e (zero-thread x ∙ and-both e (imp-use (not (isLive threadId x)) (zeroThread x) (c .free) (rw e))))
         (λ e.
         let l : isLive threadId x ≡ true = ap not e in
         rw e
@@ -232,4 +232,4 @@ module _ (v : View) (x : Place Thread) where
         (and-both (and-fst (unmasked (x .holds .mask)) _ (c .sets))
         (and-both (and-snd (unmasked (x .holds .mask)) _ (c .sets))
         (and-both (eq-eqb _ i (f l))
-        (sym owner-heard ∙ imp-use (isLive threadId x) _ (c .heard) l)))))))
+        (sym owner-not-ignored ∙ imp-use (isLive threadId x) _ (c .not-ignored) l)))))))

@@ -16,7 +16,7 @@ use Rattle.rules.specs.Types.{Thread, noProcess, noThread}
 use Rattle.rules.specs.Signals.{ignored}
 use Rattle.rules.specs.View.{isProcess, isThread, actionOf, liveProcess, liveThread, theProcess, theThread}
 use Rattle.rules.specs.Store.{view, freeProcess, freeThread}
-use Rattle.rules.specs.Sound.{nameable, namesLive, aimedAtThread, aimedAtProcess, recordHeard}
+use Rattle.rules.specs.Sound.{nameable, namesLive, aimedAtThread, aimedAtProcess, recordNotIgnored}
 use Rattle.rules.proofs.Marks.{first-held}
 use Rattle.rules.proofs.Aimed.{thread-live, thread-process-live, process-live}
 use Rattle.tables.specs.Tables.{processesOf, threadsOf, heldProcesses, heldThreads, processAt, threadAt, threadTo}
@@ -24,7 +24,7 @@ use Rattle.tables.proofs.Words.{length-heldProcesses, length-heldThreads}
 use Rattle.sound.proofs.Places.{placesStore}
 use Rattle.places.specs.Check.{isDelivered, isFresh, bumped, noted, placesView, processPlace, threadPlace, threadRecordOk, processRecordOk}
 
--- ---- the shape of the two tests: code, signal, live process, where it is aimed, heard
+-- ---- the shape of the two tests: code, signal, live process, where it is aimed, not ignored
 
 no-process : (c n a h : Bool) → false ≡ (((c && (n && false)) && a) && h)
 no-process true true a h = refl
@@ -65,17 +65,17 @@ module _ (ws : List ℕ) (r : Siginfo) (place : ℕ) (ep : place ≡ processPlac
     unfolding processRecordOk aimedAtProcess namesLive liveProcess view
     misaimed e =
         or-cases (eqb place processPlaces) t e
-        (λ k. rw (no-such-process (eqb-true place processPlaces k)) (no-process (eqb (r .code) siQueue) (nameable (r .signal)) (eqb (r .thread) 0) (recordHeard (placesView (processesOf ws) []) r)))
-        (λ k. rw (not-true (eqb (r .thread) 0) (sym z ∙ k)) (no-aim (namesLive (placesView (processesOf ws) []) r) (recordHeard (placesView (processesOf ws) []) r)))
+        (λ k. rw (no-such-process (eqb-true place processPlaces k)) (no-process (eqb (r .code) siQueue) (nameable (r .signal)) (eqb (r .thread) 0) (recordNotIgnored (placesView (processesOf ws) []) r)))
+        (λ k. rw (not-true (eqb (r .thread) 0) (sym z ∙ k)) (no-aim (namesLive (placesView (processesOf ws) []) r) (recordNotIgnored (placesView (processesOf ws) []) r)))
 
     pub aimed-inside : (eqb place processPlaces || t) ≡ false → place < processPlaces
     aimed-inside e =
         found-inside (isProcess (r .process)) noProcess (heldProcesses ws) processPlaces place (length-heldProcesses ws) at-process
         (eqb-false place processPlaces (or-fst-false (eqb place processPlaces) t e))
 
-    pub process-heard : (eqb place processPlaces || t) ≡ false → isDelivered (processAt ws place .holds) r ≡ processRecordOk (processesOf ws) r
-    unfolding isDelivered processRecordOk aimedAtProcess namesLive recordHeard liveProcess theProcess view
-    process-heard e =
+    pub process-not-ignored : (eqb place processPlaces || t) ≡ false → isDelivered (processAt ws place .holds) r ≡ processRecordOk (processesOf ws) r
+    unfolding isDelivered processRecordOk aimedAtProcess namesLive recordNotIgnored liveProcess theProcess view
+    process-not-ignored e =
         let n = eqb-false place processPlaces (or-fst-false (eqb place processPlaces) t e) in
         let live = found-any (isProcess (r .process)) noProcess (heldProcesses ws) processPlaces place (length-heldProcesses ws) at-process n in
         let aimed = not-false (eqb (r .thread) 0) (sym z ∙ or-snd-false (eqb place processPlaces) t e) in
@@ -97,9 +97,9 @@ module _ (ws vs : List ℕ) (r : Siginfo) (place queue : ℕ) (ep : place ≡ pr
   lost e =
       or-cases (eqb place processPlaces) (eqb queue threadPlaces) e
       (λ k. rw (no-such-process ws r place ep (eqb-true place processPlaces k))
-      (no-process (eqb (r .code) siQueue) (nameable (r .signal)) (liveThread (placesView (processesOf ws) (threadsOf vs)) (r .thread) && eqb (theThread (placesView (processesOf ws) (threadsOf vs)) (r .thread) .process) (r .process)) (recordHeard (placesView (processesOf ws) (threadsOf vs)) r)))
+      (no-process (eqb (r .code) siQueue) (nameable (r .signal)) (liveThread (placesView (processesOf ws) (threadsOf vs)) (r .thread) && eqb (theThread (placesView (processesOf ws) (threadsOf vs)) (r .thread) .process) (r .process)) (recordNotIgnored (placesView (processesOf ws) (threadsOf vs)) r)))
       (λ k. rw (absent-any (isThread (r .thread)) noThread (heldThreads vs) threadPlaces queue (length-heldThreads vs) at-thread (eqb-true queue threadPlaces k))
-      (no-aim (namesLive (placesView (processesOf ws) (threadsOf vs)) r) (recordHeard (placesView (processesOf ws) (threadsOf vs)) r)))
+      (no-aim (namesLive (placesView (processesOf ws) (threadsOf vs)) r) (recordNotIgnored (placesView (processesOf ws) (threadsOf vs)) r)))
 
   pub process-inside : (eqb place processPlaces || eqb queue threadPlaces) ≡ false → place < processPlaces
   process-inside e =
@@ -118,12 +118,12 @@ module _ (ws vs : List ℕ) (r : Siginfo) (place queue : ℕ) (ep : place ≡ pr
 
     pub of-another : (w ≡ r .process → ⊥) → false ≡ threadRecordOk (processesOf ws) (threadsOf vs) r
     unfolding threadRecordOk aimedAtThread
-    of-another z = rw (its-owner, ne-eqb w (r .process) z) (no-aim-there (namesLive (placesView (processesOf ws) (threadsOf vs)) r) (liveThread (placesView (processesOf ws) (threadsOf vs)) (r .thread)) (recordHeard (placesView (processesOf ws) (threadsOf vs)) r))
+    of-another z = rw (its-owner, ne-eqb w (r .process) z) (no-aim-there (namesLive (placesView (processesOf ws) (threadsOf vs)) r) (liveThread (placesView (processesOf ws) (threadsOf vs)) (r .thread)) (recordNotIgnored (placesView (processesOf ws) (threadsOf vs)) r))
 
-    pub thread-heard : (eqb place processPlaces || eqb queue threadPlaces) ≡ false → w ≡ r .process
+    pub thread-not-ignored : (eqb place processPlaces || eqb queue threadPlaces) ≡ false → w ≡ r .process
         → isDelivered (processAt ws place .holds) r ≡ threadRecordOk (processesOf ws) (threadsOf vs) r
-    unfolding isDelivered threadRecordOk aimedAtThread namesLive recordHeard liveProcess liveThread theProcess view
-    thread-heard e z =
+    unfolding isDelivered threadRecordOk aimedAtThread namesLive recordNotIgnored liveProcess liveThread theProcess view
+    thread-not-ignored e z =
         let p = eqb-false place processPlaces (or-fst-false (eqb place processPlaces) (eqb queue threadPlaces) e) in
         let t = eqb-false queue threadPlaces (or-snd-false (eqb place processPlaces) (eqb queue threadPlaces) e) in
         let lp = found-any (isProcess (r .process)) noProcess (heldProcesses ws) processPlaces place (length-heldProcesses ws) (at-process ws r place ep) p in

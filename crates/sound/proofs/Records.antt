@@ -19,7 +19,7 @@ use Rattle.rules.specs.Types.{Process, Queue}
 use Rattle.rules.specs.Signals.{isSignal, standard}
 use Rattle.rules.specs.View.{isProcess, isThread, sameQueue, queueOf, threadQueue, liveProcess, liveThread, theProcess, theThread}
 use Rattle.rules.specs.Store.{Place, Store, held, freeProcess, freeThread, inUse, used, markIn, ofProcess, queuedIn, view}
-use Rattle.rules.specs.Sound.{ifLive, ifFree, processId, threadId, zeroThread, namesLive, aimedAtThread, aimedAtProcess, recordHeard, isStandard, notTwice, notMarkedToo, withinLimit, limitKept}
+use Rattle.rules.specs.Sound.{ifLive, ifFree, processId, threadId, zeroThread, namesLive, aimedAtThread, aimedAtProcess, recordNotIgnored, isStandard, notTwice, notMarkedToo, withinLimit, limitKept}
 use Rattle.rules.proofs.Aimed.{thread-live, thread-owner, process-live, process-own}
 use Rattle.rules.proofs.Signals.{standard-is}
 use Rattle.rules.proofs.Marks.{processWith, threadWith, process-below, thread-below, process-marks, thread-marks}
@@ -74,36 +74,36 @@ module _ (st : Store) (r : Siginfo) where
 
 -- what the clauses say of the records of a buffer, by the test of where they are aimed
 abbrev pub clausesOf : Store → (Siginfo → Bool) → List Siginfo → Bool
-clausesOf st aimed rs = ((all aimed rs && all (recordHeard (view st)) rs) && all (notMarkedToo st) rs) && pairsWhere isStandard notTwice rs
+clausesOf st aimed rs = ((all aimed rs && all (recordNotIgnored (view st)) rs) && all (notMarkedToo st) rs) && pairsWhere isStandard notTwice rs
 
 module _ (st : Store) where
-  regroup : (aimed good : Siginfo → Bool) (rs : List Siginfo) → ((r : Siginfo) → good r ≡ ((aimed r && recordHeard (view st) r) && notMarkedToo st r))
+  regroup : (aimed good : Siginfo → Bool) (rs : List Siginfo) → ((r : Siginfo) → good r ≡ ((aimed r && recordNotIgnored (view st) r) && notMarkedToo st r))
       → (all good rs && pairs once rs) ≡ clausesOf st aimed rs
   regroup aimed good rs h =
       ap₂ (λ (a b : Bool). a && b)
-      (all-same good (λ r. (aimed r && recordHeard (view st) r) && notMarkedToo st r) rs h
-      ∙ all-and (λ r. aimed r && recordHeard (view st) r) (notMarkedToo st) rs
-      ∙ ap (λ (b : Bool). b && all (notMarkedToo st) rs) (all-and aimed (recordHeard (view st)) rs))
+      (all-same good (λ r. (aimed r && recordNotIgnored (view st) r) && notMarkedToo st r) rs h
+      ∙ all-and (λ r. aimed r && recordNotIgnored (view st) r) (notMarkedToo st) rs
+      ∙ ap (λ (b : Bool). b && all (notMarkedToo st) rs) (all-and aimed (recordNotIgnored (view st)) rs))
       (pairs-once rs)
 
   pub thread-records : (rs : List Siginfo) → ((n : ℕ) → count (isThread n) (map held (st .threads)) ≤ 1)
       → threadRecordsOk (st .processes) (st .threads) rs ≡ clausesOf st (aimedAtThread (view st)) rs
-  unfolding threadRecordsOk threadRecordGood threadRecordOk aimedAtThread namesLive recordHeard liveProcess liveThread theProcess theThread view
+  unfolding threadRecordsOk threadRecordGood threadRecordOk aimedAtThread namesLive recordNotIgnored liveProcess liveThread theProcess theThread view
   thread-records rs one =
       regroup (aimedAtThread (view st)) (threadRecordGood (st .processes) (st .threads)) rs
       (λ r.
-      and-imp (aimedAtThread (view st) r && recordHeard (view st) r)
-      (λ e. thread-unmarked st r (and-fst (aimedAtThread (view st) r) (recordHeard (view st) r) e) (one (r .thread))))
+      and-imp (aimedAtThread (view st) r && recordNotIgnored (view st) r)
+      (λ e. thread-unmarked st r (and-fst (aimedAtThread (view st) r) (recordNotIgnored (view st) r) e) (one (r .thread))))
 
   pub process-records : (rs : List Siginfo) → ((n : ℕ) → count (isProcess n) (map held (st .processes)) ≤ 1)
       → all (ifFree threadId zeroThread) (st .threads) ≡ true
       → processRecordsOk (st .processes) rs ≡ clausesOf st (aimedAtProcess (view st)) rs
-  unfolding processRecordsOk processRecordGood processRecordOk aimedAtProcess namesLive recordHeard liveProcess theProcess view
+  unfolding processRecordsOk processRecordGood processRecordOk aimedAtProcess namesLive recordNotIgnored liveProcess theProcess view
   process-records rs one z =
       regroup (aimedAtProcess (view st)) (processRecordGood (st .processes)) rs
       (λ r.
-      and-imp (aimedAtProcess (view st) r && recordHeard (view st) r)
-      (λ e. process-unmarked st r (and-fst (aimedAtProcess (view st) r) (recordHeard (view st) r) e) (one (r .process)) z))
+      and-imp (aimedAtProcess (view st) r && recordNotIgnored (view st) r)
+      (λ e. process-unmarked st r (and-fst (aimedAtProcess (view st) r) (recordNotIgnored (view st) r) e) (one (r .process)) z))
 
 -- ---- the counts
 

@@ -14,9 +14,9 @@ use Rattle.types.specs.declared.Siginfo.{Siginfo}
 use Rattle.rules.specs.Types.{Process, Thread}
 use Rattle.rules.specs.View.{isProcess, isThread}
 use Rattle.rules.specs.Store.{Place, Store, held, freeProcess, freeThread, used, view}
-use Rattle.rules.specs.Sound.{isLive, apart, ifLive, ifFree, processId, threadId, lengthsRight, zeroProcess, zeroThread, goodProcessId, goodThreadId, fieldsFit, belongs, hasThread, processUnmasked, threadUnmasked, killStopDefault, processFlagsKnown, restZero, aimedAtThread, aimedAtProcess, limitKept, isStandard, notTwice, notMarkedToo, recordHeard, processHeard, threadHeard, sound}
+use Rattle.rules.specs.Sound.{isLive, apart, ifLive, ifFree, processId, threadId, lengthsRight, zeroProcess, zeroThread, goodProcessId, goodThreadId, fieldsFit, belongs, hasThread, processUnmasked, threadUnmasked, killStopDefault, processFlagsKnown, restZero, aimedAtThread, aimedAtProcess, limitKept, isStandard, notTwice, notMarkedToo, recordNotIgnored, processNotIgnored, threadNotIgnored, sound}
 use Rattle.rules.proofs.Ids.{one-held, distinct-held, held-distinct}
-use Rattle.rules.proofs.Parts.{Lengths, lengths-of, Parts, parts, sound-of}
+use Rattle.rules.proofs.ClausesByTable.{Lengths, lengths-of, Parts, parts, sound-of}
 use Rattle.places.specs.Check.{processOk, threadOk, processOkAt, threadOkAt, placesOk, recordsOk, checked}
 use Rattle.sound.proofs.Places.{placesStore, ProcessRight, ThreadRight, process-right, process-first, process-ok, thread-right, thread-first, thread-ok}
 use Rattle.sound.proofs.Records.{clausesOf, thread-records, process-records, within-limit}
@@ -86,19 +86,19 @@ module _ (xs : List (Place Process)) (ys : List (Place Thread)) (k : placesOk xs
 module _ (st : Store) (aimed : Siginfo → Bool) (rs : List Siginfo) where
   record BufferRight : Type 0 where
     aim : all aimed rs ≡ true
-    heard : all (recordHeard (view st)) rs ≡ true
+    not-ignored : all (recordNotIgnored (view st)) rs ≡ true
     unmarked : all (notMarkedToo st) rs ≡ true
     once : pairsWhere isStandard notTwice rs ≡ true
 
   buffer-right : clausesOf st aimed rs ≡ true → BufferRight
   buffer-right e =
-      let a = and-fst ((all aimed rs && all (recordHeard (view st)) rs) && all (notMarkedToo st) rs) _ e in
-      let b = and-fst (all aimed rs && all (recordHeard (view st)) rs) _ a in
+      let a = and-fst ((all aimed rs && all (recordNotIgnored (view st)) rs) && all (notMarkedToo st) rs) _ e in
+      let b = and-fst (all aimed rs && all (recordNotIgnored (view st)) rs) _ a in
       record {
         aim = and-fst (all aimed rs) _ b;
-        heard = and-snd (all aimed rs) _ b;
-        unmarked = and-snd (all aimed rs && all (recordHeard (view st)) rs) _ a;
-        once = and-snd ((all aimed rs && all (recordHeard (view st)) rs) && all (notMarkedToo st) rs) _ e;
+        not-ignored = and-snd (all aimed rs) _ b;
+        unmarked = and-snd (all aimed rs && all (recordNotIgnored (view st)) rs) _ a;
+        once = and-snd ((all aimed rs && all (recordNotIgnored (view st)) rs) && all (notMarkedToo st) rs) _ e;
       }
 
 -- ---- the whole test
@@ -137,28 +137,28 @@ module _ (st : Store) (l : Lengths st) where
         processIds = all-each (ifLive processId goodProcessId) freeProcess (st .processes) (λ i h. p i h .ids);
         processApart = pa;
         fields = all-each fieldsFit freeProcess (st .processes) (λ i h. p i h .fields);
-        peopled = all-each (ifLive processId (hasThread (view st))) freeProcess (st .processes) (λ i h. p i h .peopled);
+        have-threads = all-each (ifLive processId (hasThread (view st))) freeProcess (st .processes) (λ i h. p i h .have-threads);
         processSets = all-each processUnmasked freeProcess (st .processes) (λ i h. p i h .sets);
         defaults = all-each killStopDefault freeProcess (st .processes) (λ i h. p i h .defaults);
         flags = all-each processFlagsKnown freeProcess (st .processes) (λ i h. p i h .flags);
         limit = and-snd (clausesOf st (aimedAtProcess (view st)) (used (st .processBuffer))) _ r1;
-        processMarksHeard = all-each (ifLive processId processHeard) freeProcess (st .processes) (λ i h. p i h .heard);
+        processMarksNotIgnored = all-each (ifLive processId processNotIgnored) freeProcess (st .processes) (λ i h. p i h .not-ignored);
         threadFree = z;
         threadIds = all-each (ifLive threadId goodThreadId) freeThread (st .threads) (λ i h. t i h .ids);
         threadApart = ta;
         owned = all-each (ifLive threadId (belongs (view st))) freeThread (st .threads) (λ i h. t i h .owned);
         threadSets = all-each threadUnmasked freeThread (st .threads) (λ i h. t i h .sets);
-        threadMarksHeard = all-each (ifLive threadId (threadHeard (view st))) freeThread (st .threads) (λ i h. t i h .heard);
+        threadMarksNotIgnored = all-each (ifLive threadId (threadNotIgnored (view st))) freeThread (st .threads) (λ i h. t i h .not-ignored);
         threadRest = and-fst (restZero (st .threadBuffer)) _ e1;
         threadAimed = a .aim;
         threadOnce = a .once;
         threadUnmarked = a .unmarked;
-        threadRecordsHeard = a .heard;
+        threadRecordsNotIgnored = a .not-ignored;
         processRest = and-fst (restZero (st .processBuffer)) _ e2;
         processAimed = b .aim;
         processOnce = b .once;
         processUnmarked = b .unmarked;
-        processRecordsHeard = b .heard;
+        processRecordsNotIgnored = b .not-ignored;
       }
 
   parts-checked : Parts st → checked st ≡ true
@@ -171,11 +171,11 @@ module _ (st : Store) (l : Lengths st) where
         free = all-at (ifFree processId zeroProcess) freeProcess (st .processes) i h (c .processFree);
         ids = all-at (ifLive processId goodProcessId) freeProcess (st .processes) i h (c .processIds);
         fields = all-at fieldsFit freeProcess (st .processes) i h (c .fields);
-        peopled = all-at (ifLive processId (hasThread (view st))) freeProcess (st .processes) i h (c .peopled);
+        have-threads = all-at (ifLive processId (hasThread (view st))) freeProcess (st .processes) i h (c .have-threads);
         sets = all-at processUnmasked freeProcess (st .processes) i h (c .processSets);
         defaults = all-at killStopDefault freeProcess (st .processes) i h (c .defaults);
         flags = all-at processFlagsKnown freeProcess (st .processes) i h (c .flags);
-        heard = all-at (ifLive processId processHeard) freeProcess (st .processes) i h (c .processMarksHeard);
+        not-ignored = all-at (ifLive processId processNotIgnored) freeProcess (st .processes) i h (c .processMarksNotIgnored);
       })
       (λ i h.
       record {
@@ -183,14 +183,14 @@ module _ (st : Store) (l : Lengths st) where
         ids = all-at (ifLive threadId goodThreadId) freeThread (st .threads) i h (c .threadIds);
         owned = all-at (ifLive threadId (belongs (view st))) freeThread (st .threads) i h (c .owned);
         sets = all-at threadUnmasked freeThread (st .threads) i h (c .threadSets);
-        heard = all-at (ifLive threadId (threadHeard (view st))) freeThread (st .threads) i h (c .threadMarksHeard);
+        not-ignored = all-at (ifLive threadId (threadNotIgnored (view st))) freeThread (st .threads) i h (c .threadMarksNotIgnored);
       })
       (c .processApart) (c .threadApart))
       (and-both (c .threadRest)
       (and-both (c .processRest)
       (records-clauses (c .processApart) (c .threadApart) (c .threadFree)
-      ∙ and-both (and-both (and-both (and-both (c .threadAimed) (c .threadRecordsHeard)) (c .threadUnmarked)) (c .threadOnce))
-      (and-both (and-both (and-both (and-both (c .processAimed) (c .processRecordsHeard)) (c .processUnmarked)) (c .processOnce)) (c .limit)))))
+      ∙ and-both (and-both (and-both (and-both (c .threadAimed) (c .threadRecordsNotIgnored)) (c .threadUnmarked)) (c .threadOnce))
+      (and-both (and-both (and-both (and-both (c .processAimed) (c .processRecordsNotIgnored)) (c .processUnmarked)) (c .processOnce)) (c .limit)))))
 
 pub regrouped : (st : Store) → lengthsRight st ≡ true → checked st ≡ sound st
 regrouped st n =

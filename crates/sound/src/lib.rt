@@ -25,7 +25,7 @@ use types::Siginfo;
 
 // ---- one record, after those before it: `counts` has how many each process has, `seen` which signals are pending in each queue
 
-fn record_heard(ps: &[u64], place: usize, r: Siginfo) -> bool
+fn record_not_ignored(ps: &[u64], place: usize, r: Siginfo) -> bool
     requires { ⌜ (length (now ps) ≡ processTable) × (place < processPlaces) ⌝ }
     ensures { λ h. ⌜ h ≡ isDelivered (processAt (now (ps .entry)) place .holds) r ⌝ }
 {
@@ -55,7 +55,7 @@ fn admit(s: u32, counts: &mut [usize], place: usize, seen: &mut [u64], queue: us
     true
 }
 
-// Is a record of the thread buffer well aimed and heard? Its process and its thread were looked up before.
+// Is a record of the thread buffer well aimed and not_ignored? Its process and its thread were looked up before.
 fn thread_record_ok(ps: &[u64], ts: &[u64], r: Siginfo, place: usize, queue: usize) -> bool
     requires { ⌜ (length (now ps) ≡ processTable) × (length (now ts) ≡ threadTable) ⌝ }
     requires { ⌜ (place ≡ processPlace (processesOf (now ps)) r) × (queue ≡ threadPlace (threadsOf (now ts)) r) ⌝ }
@@ -67,7 +67,7 @@ fn thread_record_ok(ps: &[u64], ts: &[u64], r: Siginfo, place: usize, queue: usi
     if tables::thread_field_at(ts, queue, THREAD_PROCESS) != r.process as u64 {
         return false;
     }
-    record_heard(ps, place, r)
+    record_not_ignored(ps, place, r)
 }
 
 fn thread_record(ps: &[u64], ts: &[u64], r: Siginfo, counts: &mut [usize], seen: &mut [u64]) -> bool
@@ -93,7 +93,7 @@ fn process_record_ok(ps: &[u64], r: Siginfo, place: usize) -> bool
     if (place == PROCESS_PLACES) | (r.thread != 0) {
         return false;
     }
-    record_heard(ps, place, r)
+    record_not_ignored(ps, place, r)
 }
 
 fn process_record(ps: &[u64], r: Siginfo, counts: &mut [usize], seen: &mut [u64]) -> bool

@@ -19,7 +19,7 @@ use Rattle.types.specs.declared.Action.{Action}
 use Rattle.types.specs.Values.{defaultAction}
 use Rattle.rules.specs.Types.{Process, Thread, noProcess, noThread}
 use Rattle.rules.specs.View.{isProcess, isThread, actionOf}
-use Rattle.rules.specs.Adding.{newborn}
+use Rattle.rules.specs.Adding.{addedProcess}
 use Rattle.rules.specs.Store.{Place, held, freeProcess, freeThread}
 use Rattle.tables.specs.Tables.{actionFrom, actionTo, headTo, headed, processFrom, processTo, threadFrom, threadTo, processesOf, processWordsOf, threadsOf, threadWordsOf, processAt, threadAt, heldProcesses, heldThreads, withField, withThreadField, hasProcessId, hasThreadId, acted, placed, threadPlaced}
 use Rattle.tables.proofs.Words.{ActionsLong, free-process-words, free-thread-words, words-forth, thread-words-forth, process-from, thread-from, head-from, length-process-row, length-thread-row, thread-row, zero-process, zero-thread, thread-back, action-forth, length-actionTo}
@@ -170,9 +170,9 @@ abbrev withFields : (id real effective saved session : ℕ) → Place Process
 withFields id real effective saved session =
     withField processSession session (withField processSaved saved (withField processEffective effective (withField processReal real (withField processId id freeProcess))))
 
-newborn-fields : (id real effective saved session : ℕ) → withFields id real effective saved session ≡ placed (newborn id real effective saved session)
-unfolding withField headed headTo newborn
-newborn-fields id real effective saved session = refl
+added-fields : (id real effective saved session : ℕ) → withFields id real effective saved session ≡ placed (addedProcess id real effective saved session)
+unfolding withField headed headTo addedProcess
+added-fields id real effective saved session = refl
 
 abbrev withThreadFields : (id process mask : ℕ) → Place Thread
 withThreadFields id process mask = withThreadField threadMask mask (withThreadField threadProcess process (withThreadField threadId id freeThread))
@@ -191,14 +191,14 @@ putThreadField xs place field v = set xs place (withThreadField field v (getD xs
 pub process-filled : (xs x₀ x₁ x₂ x₃ x₄ x₅ : List (Place Process)) (place : ℕ) (id real effective saved session : ℕ) → place < length xs
     → x₀ ≡ set xs place freeProcess → x₁ ≡ putField x₀ place processId id → x₂ ≡ putField x₁ place processReal real
     → x₃ ≡ putField x₂ place processEffective effective → x₄ ≡ putField x₃ place processSaved saved → x₅ ≡ putField x₄ place processSession session
-    → x₅ ≡ set xs place (placed (newborn id real effective saved session))
+    → x₅ ≡ set xs place (placed (addedProcess id real effective saved session))
 process-filled xs x₀ x₁ x₂ x₃ x₄ x₅ place id real effective saved session h e₀ e₁ e₂ e₃ e₄ e₅ =
     set-again freeProcess (withField processSession session) xs x₄ x₅ place _ h
     (set-again freeProcess (withField processSaved saved) xs x₃ x₄ place _ h
     (set-again freeProcess (withField processEffective effective) xs x₂ x₃ place _ h
     (set-again freeProcess (withField processReal real) xs x₁ x₂ place _ h
     (set-again freeProcess (withField processId id) xs x₀ x₁ place _ h e₀ e₁) e₂) e₃) e₄) e₅
-    ∙ ap (set xs place) (newborn-fields id real effective saved session)
+    ∙ ap (set xs place) (added-fields id real effective saved session)
 
 pub thread-filled : (xs x₀ x₁ x₂ x₃ : List (Place Thread)) (place : ℕ) (id process : ℕ) (mask : SigSet) → place < length xs
     → x₀ ≡ set xs place freeThread → x₁ ≡ putThreadField x₀ place threadId id → x₂ ≡ putThreadField x₁ place threadProcess process

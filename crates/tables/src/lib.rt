@@ -7,7 +7,7 @@ ghost use Rattle.limits.specs.Limits.{processPlaces, processTable, threadPlaces
 ghost use Rattle.lists.specs.Lists.{find};
 ghost use Rattle.rules.specs.View.{isProcess, isThread, actionOf};
 ghost use Rattle.rules.specs.Store.{freeProcess, freeThread, isFreeProcess, isFreeThread};
-ghost use Rattle.rules.specs.Adding.{newborn};
+ghost use Rattle.rules.specs.Adding.{addedProcess};
 ghost use Rattle.tables.specs.Tables.{processesOf, threadsOf, heldProcesses, heldThreads, processAt, threadAt, headTo, threadTo, withField, withThreadField, hasProcessId, hasThreadId, placed, acted, threadPlaced};
 use limits::ACTION_FLAGS;
 use limits::ACTION_HANDLER;
@@ -215,7 +215,7 @@ pub fn fill_process(
     session: u32,
 )
     requires { ⌜ (length (now ps) ≡ processTable) × (place < processPlaces) ⌝ }
-    ensures { λ _. ⌜ processesOf (now (ps .exit)) ≡ set (processesOf (now (ps .entry))) place (placed (newborn id real effective saved session)) ⌝ }
+    ensures { λ _. ⌜ processesOf (now (ps .exit)) ≡ set (processesOf (now (ps .entry))) place (placed (addedProcess id real effective saved session)) ⌝ }
 {
     clear_process(ps, place);
     put_field(ps, place, PROCESS_ID, id as u64);

@@ -18,7 +18,7 @@ use Rattle.rules.specs.Store.{Store, view, applyAll}
 use Rattle.rules.specs.Taking.{nextSignal, nextQueue, nextIn, next, markInfo, deliver, delivered, takeChanges, takeAnswer}
 use Rattle.rules.specs.Fitting.{fitsAll}
 use Rattle.rules.proofs.Marks.{the-thread-id}
-use Rattle.rules.proofs.Taken.{take-fits}
+use Rattle.rules.proofs.TakeFits.{take-fits}
 use Rattle.sound.specs.Lent.{storeOf, soundTables}
 use Rattle.sound.proofs.Facts.{store-sound}
 use Rattle.answers.specs.Answers.{nextOf}
@@ -29,7 +29,7 @@ use Rattle.effects.proofs.Chain.{first-part-fits, second-part-fits, then-part}
 use Rattle.view.specs.Named.{processNamed, threadNamed}
 use Rattle.view.proofs.Live.{owner-is}
 use Rattle.next.proofs.Nexts.{next-is-signal}
-use Rattle.taking.specs.Takes.{isNothing, infoIn, leaving}
+use Rattle.taking.specs.Takes.{isNothing, infoIn, dequeueChanges}
 use Rattle.effects.proofs.Chain.{all-fit, made}
 
 -- ---- what is taken is a signal
@@ -64,8 +64,8 @@ next-signal v t n =
 
 module _ (v : View) (t : Thread) where
   takes : (x : declared.Next) → isNothing (nextOf x) ≡ false
-      → takeChanges v t (nextOf x) ≡ leaving (nextOf x) ++ deliver t (threadAction v t (infoIn (nextOf x) .signal)) (infoIn (nextOf x) .signal)
-  unfolding nextOf isNothing takeChanges leaving infoIn markInfo
+      → takeChanges v t (nextOf x) ≡ dequeueChanges (nextOf x) ++ deliver t (threadAction v t (infoIn (nextOf x) .signal)) (infoIn (nextOf x) .signal)
+  unfolding nextOf isNothing takeChanges dequeueChanges infoIn markInfo
   takes cases.Nothing n = clash refl n
   takes (cases.Mark process thread s) n = refl
   takes (cases.Record r) n = refl
@@ -80,24 +80,24 @@ module _ (v : View) (t : Thread) where
 -- all that the code has of a take before it changes anything: whom it takes for, what is next, its record, its action
 pub record Ready (st : Store) (t u : Thread) (x : declared.Next) (r : Siginfo) (a : Action) : Type 0 where
   pub fitting : fitsAll (takeChanges (view st) t (nextOf x)) st ≡ true
-  pub parts : takeChanges (view st) t (nextOf x) ≡ leaving (nextOf x) ++ deliver u a (r .signal)
+  pub parts : takeChanges (view st) t (nextOf x) ≡ dequeueChanges (nextOf x) ++ deliver u a (r .signal)
   pub answering : takeAnswer (view st) t (nextOf x) ≡ delivered u a r
 
 module _ {st : Store} {t u : Thread} {x : declared.Next} {r : Siginfo} {a : Action} (d : Ready st t u x r a) where
-  both-fit : fitsAll (leaving (nextOf x) ++ deliver u a (r .signal)) st ≡ true
-  both-fit = all-fit (takeChanges (view st) t (nextOf x)) st (d .fitting) (leaving (nextOf x) ++ deliver u a (r .signal)) (d .parts)
+  both-fit : fitsAll (dequeueChanges (nextOf x) ++ deliver u a (r .signal)) st ≡ true
+  both-fit = all-fit (takeChanges (view st) t (nextOf x)) st (d .fitting) (dequeueChanges (nextOf x) ++ deliver u a (r .signal)) (d .parts)
 
-  pub leaving-fits : fitsAll (leaving (nextOf x)) st ≡ true
-  leaving-fits = first-part-fits (leaving (nextOf x)) (deliver u a (r .signal)) st both-fit
+  pub dequeue-fits : fitsAll (dequeueChanges (nextOf x)) st ≡ true
+  dequeue-fits = first-part-fits (dequeueChanges (nextOf x)) (deliver u a (r .signal)) st both-fit
 
-  module _ (st′ : Store) (e : st′ ≡ applyAll (leaving (nextOf x)) st) where
+  module _ (st′ : Store) (e : st′ ≡ applyAll (dequeueChanges (nextOf x)) st) where
     pub delivering-fits : fitsAll (deliver u a (r .signal)) st′ ≡ true
-    delivering-fits = second-part-fits (leaving (nextOf x)) (deliver u a (r .signal)) st st′ e both-fit
+    delivering-fits = second-part-fits (dequeueChanges (nextOf x)) (deliver u a (r .signal)) st st′ e both-fit
 
     pub taken : (st″ : Store) → st″ ≡ applyAll (deliver u a (r .signal)) st′ → st″ ≡ applyAll (takeChanges (view st) t (nextOf x)) st
     taken st″ h =
-        made (takeChanges (view st) t (nextOf x)) st (leaving (nextOf x) ++ deliver u a (r .signal)) (d .parts) st″
-        (then-part (leaving (nextOf x)) (deliver u a (r .signal)) st st′ e st″ h)
+        made (takeChanges (view st) t (nextOf x)) st (dequeueChanges (nextOf x) ++ deliver u a (r .signal)) (d .parts) st″
+        (then-part (dequeueChanges (nextOf x)) (deliver u a (r .signal)) st st′ e st″ h)
 
   -- of the thread, the answer reads the mask alone
   pub answered : (z : Answer) → z ≡ delivered (threadOf 0 0 (u .mask)) a r → z ≡ takeAnswer (view st) t (nextOf x)
@@ -139,8 +139,8 @@ module _ (ps ts tb pb : List ℕ) (e : soundTables ps ts tb pb ≡ true) (thread
           fitting = ap (λ (z : Next). fitsAll (takeChanges v t z) st) n ∙ take-fits st (store-sound ps ts tb pb e) thread l;
           parts =
               takes v t x y
-              ∙ ap (λ (z : Siginfo). leaving (nextOf x) ++ deliver t (threadAction v t (z .signal)) (z .signal)) (sym h)
-              ∙ ap₂ (λ (w : Thread) (c : Action). leaving (nextOf x) ++ deliver w c (r .signal)) q b;
+              ∙ ap (λ (z : Siginfo). dequeueChanges (nextOf x) ++ deliver t (threadAction v t (z .signal)) (z .signal)) (sym h)
+              ∙ ap₂ (λ (w : Thread) (c : Action). dequeueChanges (nextOf x) ++ deliver w c (r .signal)) q b;
           answering =
               answers v t x y
               ∙ ap (λ (z : Siginfo). delivered t (threadAction v t (z .signal)) z) (sym h)

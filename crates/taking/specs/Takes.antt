@@ -30,10 +30,10 @@ infoIn (nextMark q s) = markInfo q s
 infoIn (nextRecord q s r) = r
 
 -- the first change of a take
-unfoldable pub leaving : Next → List Change
-leaving noNext = []
-leaving (nextMark q s) = clearMark q s ∷ []
-leaving (nextRecord q s r) = dropOldest q s ∷ []
+unfoldable pub dequeueChanges : Next → List Change
+dequeueChanges noNext = []
+dequeueChanges (nextMark q s) = clearMark q s ∷ []
+dequeueChanges (nextRecord q s r) = dropOldest q s ∷ []
 
 -- what a handler's start changes
 unfoldable pub handlerChanges : Thread → Action → (signal : ℕ) → List Change

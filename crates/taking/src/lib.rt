@@ -12,7 +12,7 @@ ghost use Rattle.sound.specs.Lent.{storeOf, soundTables};
 ghost use Rattle.answers.specs.Answers.{nextOf, answerOf};
 ghost use Rattle.answers.specs.Step.{lent, stepOn};
 ghost use Rattle.effects.specs.Effects.{threadOf};
-ghost use Rattle.taking.specs.Takes.{outcomeOf, isNothing, infoIn, leaving, handlerChanges};
+ghost use Rattle.taking.specs.Takes.{outcomeOf, isNothing, infoIn, dequeueChanges, handlerChanges};
 use answers::Answer;
 use answers::Next;
 use limits::KNOWN_FLAGS;
@@ -64,7 +64,7 @@ fn reset_of(a: Action) -> Action
 }
 
 // The handler's mask, and the reset of the action.
-fn handle(
+fn start_handler(
     ps: &mut [u64],
     ts: &mut [u64],
     tb: &mut [u8],
@@ -111,7 +111,14 @@ fn outcome_of(s: u32) -> Outcome
     Outcome::Ends
 }
 
-fn suffer(ps: &mut [u64], ts: &mut [u64], tb: &mut [u8], pb: &mut [u8], o: Outcome, process: u32)
+fn act_by_default(
+    ps: &mut [u64],
+    ts: &mut [u64],
+    tb: &mut [u8],
+    pb: &mut [u8],
+    o: Outcome,
+    process: u32,
+)
     requires { ⌜ soundTables (now ps) (now ts) (now tb) (now pb) ≡ true ⌝ }
     requires { ⌜ fitsAll (outcomeChanges (outcomeOf o) process) (storeOf (now ps) (now ts) (now tb) (now pb)) ≡ true ⌝ }
     ensures store { λ _. ⌜ storeOf (now (ps .exit)) (now (ts .exit)) (now (tb .exit)) (now (pb .exit)) ≡ applyAll (outcomeChanges (outcomeOf o) process) (storeOf (now (ps .entry)) (now (ts .entry)) (now (tb .entry)) (now (pb .entry))) ⌝ }
@@ -125,7 +132,7 @@ fn suffer(ps: &mut [u64], ts: &mut [u64], tb: &mut [u8], pb: &mut [u8], o: Outco
     }
 }
 
-fn suffered(o: Outcome, signal: u32) -> Answer
+fn default_answer(o: Outcome, signal: u32) -> Answer
     ensures { λ r. ⌜ answerOf r ≡ outcomeAnswer (outcomeOf o) signal ⌝ }
 {
     match o {
@@ -139,7 +146,7 @@ fn suffered(o: Outcome, signal: u32) -> Answer
 // ---- the take
 
 // What the taken signal sets off.
-fn deliver_to(
+fn deliver(
     ps: &mut [u64],
     ts: &mut [u64],
     tb: &mut [u8],
@@ -156,28 +163,28 @@ fn deliver_to(
     ensures sound { λ _. ⌜ soundTables (now (ps .exit)) (now (ts .exit)) (now (tb .exit)) (now (pb .exit)) ≡ true ⌝ }
 {
     if a.handler == SIG_DFL {
-        suffer(ps, ts, tb, pb, outcome_of(signal), process);
+        act_by_default(ps, ts, tb, pb, outcome_of(signal), process);
     } else {
-        handle(ps, ts, tb, pb, thread, process, mask, a, signal);
+        start_handler(ps, ts, tb, pb, thread, process, mask, a, signal);
     }
 }
 
 // What the take answers; of the thread it reads the mask alone.
-fn delivered_to(mask: SigSet, a: Action, r: Siginfo) -> Answer
+fn delivered(mask: SigSet, a: Action, r: Siginfo) -> Answer
     ensures { λ x. ⌜ answerOf x ≡ delivered (threadOf 0 0 mask) a r ⌝ }
 {
     let s = r.signal;
     if a.handler == SIG_DFL {
-        return suffered(outcome_of(s), s);
+        return default_answer(outcome_of(s), s);
     }
     Answer::Handler(a.handler, s, r, a.flags, mask)
 }
 
 // The record or the mark leaves its queue.
-fn leave(ps: &mut [u64], ts: &mut [u64], tb: &mut [u8], pb: &mut [u8], next: Next)
+fn dequeue(ps: &mut [u64], ts: &mut [u64], tb: &mut [u8], pb: &mut [u8], next: Next)
     requires { ⌜ soundTables (now ps) (now ts) (now tb) (now pb) ≡ true ⌝ }
-    requires { ⌜ fitsAll (leaving (nextOf next)) (storeOf (now ps) (now ts) (now tb) (now pb)) ≡ true ⌝ }
-    ensures store { λ _. ⌜ storeOf (now (ps .exit)) (now (ts .exit)) (now (tb .exit)) (now (pb .exit)) ≡ applyAll (leaving (nextOf next)) (storeOf (now (ps .entry)) (now (ts .entry)) (now (tb .entry)) (now (pb .entry))) ⌝ }
+    requires { ⌜ fitsAll (dequeueChanges (nextOf next)) (storeOf (now ps) (now ts) (now tb) (now pb)) ≡ true ⌝ }
+    ensures store { λ _. ⌜ storeOf (now (ps .exit)) (now (ts .exit)) (now (tb .exit)) (now (pb .exit)) ≡ applyAll (dequeueChanges (nextOf next)) (storeOf (now (ps .entry)) (now (ts .entry)) (now (tb .entry)) (now (pb .entry))) ⌝ }
     ensures sound { λ _. ⌜ soundTables (now (ps .exit)) (now (ts .exit)) (now (tb .exit)) (now (pb .exit)) ≡ true ⌝ }
 {
     match next {
@@ -236,9 +243,9 @@ fn take_next(
     let process = view::process_of(ts, thread);
     let mask = view::mask_of(ts, thread);
     let a = view::action_of(ps, process, r.signal);
-    leave(ps, ts, tb, pb, next);
-    deliver_to(ps, ts, tb, pb, thread, process, mask, a, r.signal);
-    delivered_to(mask, a, r)
+    dequeue(ps, ts, tb, pb, next);
+    deliver(ps, ts, tb, pb, thread, process, mask, a, r.signal);
+    delivered(mask, a, r)
 }
 
 // A thread takes its next signal.

@@ -11,7 +11,7 @@ use lib.Seq.{set-out}
 use Rattle.lists.specs.Lists.{find}
 use Rattle.lists.proofs.Loops.{find-none, find-more, find-here, find-done}
 use Rattle.sigset.specs.declared.SigSet.{SigSet}
-use Rattle.threads.specs.Records.{noThread, withMask, hasId, remasked}
+use Rattle.threads.specs.Records.{noThread, withMask, hasId, withMaskAt}
 use Rattle.threads.specs.declared.Thread.{Thread}
 
 -- the place of id in the whole row is i and its place from i on
@@ -33,9 +33,9 @@ pub at-end : (ys : List Thread) (id i : ℕ) → i ≡ length ys → Passed ys i
 at-end ys id i e p = sym (find-done (hasId id) noThread ys i (le-of-eq (sym e)) p)
 
 -- the place found, inside the row and past its end
-pub remasked-at : (ys zs : List Thread) (id i : ℕ) (m : SigSet) → i ≡ find (hasId id) ys → zs ≡ set ys i (withMask m (getD ys i noThread)) → zs ≡ remasked id m ys
-unfolding remasked
-remasked-at ys zs id i m e z = z ∙ ap (λ (k : ℕ). set ys k (withMask m (getD ys k noThread))) e
+pub mask-changed-at : (ys zs : List Thread) (id i : ℕ) (m : SigSet) → i ≡ find (hasId id) ys → zs ≡ set ys i (withMask m (getD ys i noThread)) → zs ≡ withMaskAt id m ys
+unfolding withMaskAt
+mask-changed-at ys zs id i m e z = z ∙ ap (λ (k : ℕ). set ys k (withMask m (getD ys k noThread))) e
 
-pub remasked-out : (ys : List Thread) (id i : ℕ) (m : SigSet) → i ≡ find (hasId id) ys → length ys ≤ i → ys ≡ remasked id m ys
-remasked-out ys id i m e l = remasked-at ys ys id i m e (sym (set-out ys i _ l))
+pub mask-changed-out : (ys : List Thread) (id i : ℕ) (m : SigSet) → i ≡ find (hasId id) ys → length ys ≤ i → ys ≡ withMaskAt id m ys
+mask-changed-out ys id i m e l = mask-changed-at ys ys id i m e (sym (set-out ys i _ l))

@@ -22,8 +22,8 @@ unfoldable pub hasId : ℕ → Thread → Bool
 hasId n t = eqb (t .id) n
 
 -- the first record with that id has another mask; where none has it, `set` past the end changes nothing
-unfoldable pub remasked : ℕ → SigSet → List Thread → List Thread
-remasked n m ts = set ts (find (hasId n) ts) (withMask m (getD ts (find (hasId n) ts) noThread))
+unfoldable pub withMaskAt : ℕ → SigSet → List Thread → List Thread
+withMaskAt n m ts = set ts (find (hasId n) ts) (withMask m (getD ts (find (hasId n) ts) noThread))
 
 -- a record is four words, "id, process id, mask, marks"
 unfoldable pub recordTo : Thread → List ℕ

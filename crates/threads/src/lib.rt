@@ -4,7 +4,7 @@ ghost use Prim.Native.Nat.{_<_};
 ghost use lib.ListN.{length, getD, set};
 ghost use Rattle.limits.specs.Limits.{threadPlaces};
 ghost use Rattle.lists.specs.Lists.{find};
-ghost use Rattle.threads.specs.Records.{noThread, withMask, hasId, remasked, wordsOf, recordsOf};
+ghost use Rattle.threads.specs.Records.{noThread, withMask, hasId, withMaskAt, wordsOf, recordsOf};
 use limits::THREAD_ID;
 use limits::THREAD_MARKS;
 use limits::THREAD_MASK;
@@ -58,7 +58,7 @@ pub fn set_mask(ts: &mut [Thread], i: usize, m: SigSet)
 
 // The mask of the first record with that id becomes m, in place.
 pub fn put_mask(ts: &mut [Thread], id: u64, m: SigSet)
-    ensures { λ _. ⌜ now (ts .exit) ≡ remasked id m (now (ts .entry)) ⌝ }
+    ensures { λ _. ⌜ now (ts .exit) ≡ withMaskAt id m (now (ts .entry)) ⌝ }
 {
     let i = find_thread(ts, id);
     if i < ts.len() {

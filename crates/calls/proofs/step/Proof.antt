@@ -94,7 +94,7 @@ unfolding callOf changes
 returns-11 c =
     let a = c .before .before .before .before .before .before .before .before .before .before .before .before in
     let l = lent (a .args .ps .now) (a .args .ts .now) (a .args .tb .now) (a .args .pb .now) in
-    by-case (a .args .c) _ (c .before .before .before .before .before .before .c10 .given .1) l l (c .looked .result) (c .looked .ensures)
+    by-case (a .args .c) _ (c .before .before .before .before .before .before .c10 .given .1) l l (c .look .result) (c .look .ensures)
     (asked _ l (bytes-each (a .args .tb .now) (λ i. omega (arith, c .before .before .before .before .before .before .before .before .before .slice-known3 .given i))) (bytes-each (a .args .pb .now) (λ i. omega (arith, c .before .before .before .before .before .before .before .before .slice-known4 .given i))) refl)
 
 returns-12 : tie.Need-returns-12

@@ -20,8 +20,8 @@ discard-requires-2 c κs =
     let a = c .before .before .before .before .before .before .before .before .before in
     process-buffer-laid (a .args .ps .now) (a .args .ts .now) (a .args .tb .now) (a .args .pb .now) (a .pre .0)
 
-remark-process-requires : tie.Need-remark-process-requires
-remark-process-requires c κs =
+change-process-marks-requires : tie.Need-change-process-marks-requires
+change-process-marks-requires c κs =
     let a = c .before .before .before .before .before .before .before .before .before .before .before .before .before in
     let ps = a .args .ps .now in
     let ts = a .args .ts .now in
@@ -30,8 +30,8 @@ remark-process-requires c κs =
     let live = discard-live (view (storeOf ps ts tb pb)) (a .args .process) (a .args .signals) (a .pre .1) in
     (processes-long ps ts tb pb (a .pre .0), process-listed ps ts tb pb (a .args .process) live)
 
-remark-threads-requires : tie.Need-remark-threads-requires
-remark-threads-requires c κs =
+change-threads-marks-requires : tie.Need-change-threads-marks-requires
+change-threads-marks-requires c κs =
     let a = c .before .before .before .before .before .before .before .before .before .before .before .before .before .before .before .before .before in
     threads-long (a .args .ps .now) (a .args .ts .now) (a .args .tb .now) (a .args .pb .now) (a .pre .0)
 
@@ -48,13 +48,13 @@ returns c =
     let pb = a .args .pb .now in
     let n = a .args .process in
     let signals = a .args .signals in
-    let ps′ = p .remark-process .last .0 in
-    let ts′ = t .remark-threads .last .0 in
+    let ps′ = p .change-process-marks .last .0 in
+    let ts′ = t .change-threads-marks .last .0 in
     let tb′ = b .discard .last .0 in
     let pb′ = q .discard2 .last .0 in
     after (discard n signals) ps ts tb pb ps′ ts′ tb′ pb′ (a .pre .0) (a .pre .1) (search needs) (search needs) (search needs) (search needs)
     (discard-store ps ts tb pb (a .pre .0) n signals (a .pre .1) ps′ ts′ tb′ pb′
-    (p .remark-process .ensures) (t .remark-threads .ensures) (b .discard .ensures) (q .discard2 .ensures))
+    (p .change-process-marks .ensures) (t .change-threads-marks .ensures) (b .discard .ensures) (q .discard2 .ensures))
 
 pub discard-spec : {M : Type 1} → statement M
 discard-spec =
@@ -62,8 +62,8 @@ discard-spec =
     (tie.spec
     discard-requires
     discard-requires-2
-    remark-process-requires
-    remark-threads-requires
+    change-process-marks-requires
+    change-threads-marks-requires
     (λ c. search needs)
     (λ c. search needs)
     (λ c. search needs)

@@ -13,8 +13,8 @@ use Rattle.effects.proofs.Queues.{set-process, set-thread}
 use Rattle.effects.proofs.set_mark.Statement.{statement}
 use Rattle.effects.proofs.set_mark.Tie as tie
 
-remark-process-requires : tie.Need-remark-process-requires
-remark-process-requires c κs =
+change-process-marks-requires : tie.Need-change-process-marks-requires
+change-process-marks-requires c κs =
     let a = c .before .before .before .before .before .before .before in
     let ps = a .args .ps .now in
     let ts = a .args .ts .now in
@@ -25,8 +25,8 @@ remark-process-requires c κs =
     let v = view (storeOf ps ts tb pb) in
     (processes-long ps ts tb pb (a .pre .0), process-listed ps ts tb pb n (target-process v n t (queue-target v n t (mark-queue v (targetQueue n t) (a .args .signal) (a .pre .1)))))
 
-remark-thread-requires : tie.Need-remark-thread-requires
-remark-thread-requires c κs =
+change-thread-marks-requires : tie.Need-change-thread-marks-requires
+change-thread-marks-requires c κs =
     let a = c .before .before .before .before .before .before .before in
     let ps = a .args .ps .now in
     let ts = a .args .ts .now in
@@ -52,9 +52,9 @@ returns c =
     let n = a .args .process in
     let t = a .args .thread in
     let s = a .args .signal in
-    let ps′ = w .remark-process .last .0 in
+    let ps′ = w .change-process-marks .last .0 in
     after (setMark (targetQueue n t) s) ps ts tb pb ps′ ts tb pb (a .pre .0) (a .pre .1) (search needs) refl refl refl
-    (set-process ps ts tb pb (a .pre .0) n t s (o .of-signal .result) (o .of-signal .ensures) (a .pre .1) (i .if1 .taken) ps′ (w .remark-process .ensures))
+    (set-process ps ts tb pb (a .pre .0) n t s (o .of-signal .result) (o .of-signal .ensures) (a .pre .1) (i .if1 .taken) ps′ (w .change-process-marks .ensures))
 
 returns-2 : tie.Need-returns-2
 returns-2 c =
@@ -69,17 +69,17 @@ returns-2 c =
     let n = a .args .process in
     let t = a .args .thread in
     let s = a .args .signal in
-    let ts′ = w .remark-thread .last .0 in
+    let ts′ = w .change-thread-marks .last .0 in
     after (setMark (targetQueue n t) s) ps ts tb pb ps ts′ tb pb (a .pre .0) (a .pre .1) refl (search needs) refl refl
-    (set-thread ps ts tb pb (a .pre .0) n t s (o .of-signal .result) (o .of-signal .ensures) (a .pre .1) (ne-eqb t 0 (i .if1 .left)) ts′ (w .remark-thread .ensures))
+    (set-thread ps ts tb pb (a .pre .0) n t s (o .of-signal .result) (o .of-signal .ensures) (a .pre .1) (ne-eqb t 0 (i .if1 .left)) ts′ (w .change-thread-marks .ensures))
 
 pub set-mark-spec : {M : Type 1} → statement M
 set-mark-spec =
     tie.close
     (tie.spec
     (λ c κs. search needs)
-    remark-process-requires
-    remark-thread-requires
+    change-process-marks-requires
+    change-thread-marks-requires
     (λ c. search needs)
     returns
     (λ c. search needs)

@@ -2,7 +2,7 @@
 use mathlib.Core.Path.{sym, _∙_}
 use borrow.Author.Needs.{needs}
 use Rattle.sound.specs.Lent.{storeOf}
-use Rattle.effects.proofs.Stores.{heard-fits, heard-made, discard-fits, action-then-fits, both-made}
+use Rattle.effects.proofs.Stores.{not-ignored-fits, not-ignored-made, discard-fits, action-then-fits, both-made}
 use Rattle.effects.proofs.store_action.Statement.{statement}
 use Rattle.effects.proofs.store_action.Tie as tie
 
@@ -47,7 +47,7 @@ set-action-requires-2 c κs =
     let p = a .args .process in
     let s = a .args .signal in
     let i = sym (c .before .before .before .before .before .is-ignored .ensures) ∙ c .before .before .before .before .if1 .left in
-    (a .pre .0, heard-fits p s (a .args .a) st (a .pre .1) i)
+    (a .pre .0, not-ignored-fits p s (a .args .a) st (a .pre .1) i)
 
 returns : tie.Need-returns
 returns c =
@@ -83,7 +83,7 @@ returns-2 c =
     let p = a .args .process in
     let s = a .args .signal in
     let i = sym (c .before .before .before .before .before .before .before .before .is-ignored .ensures) ∙ c .before .before .before .before .before .before .before .if1 .left in
-    (heard-made p s (a .args .a) st (a .pre .1) i (storeOf (w .set-action2 .last .0) ts tb pb) (w .set-action2 .ensures .0), w .set-action2 .ensures .1)
+    (not-ignored-made p s (a .args .a) st (a .pre .1) i (storeOf (w .set-action2 .last .0) ts tb pb) (w .set-action2 .ensures .0), w .set-action2 .ensures .1)
 
 pub store-action-spec : {M : Type 1} → statement M
 store-action-spec =

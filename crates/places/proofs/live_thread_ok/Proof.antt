@@ -6,7 +6,7 @@ use Rattle.lists.proofs.Finds.{found-inside}
 use Rattle.sigset.specs.Set.{bits}
 use Rattle.rules.specs.Types.{noProcess}
 use Rattle.rules.specs.View.{isProcess, isThread, actionOf}
-use Rattle.rules.specs.Sound.{goodId, unmasked, marksHeard}
+use Rattle.rules.specs.Sound.{goodId, unmasked, marksNotIgnored}
 use Rattle.tables.specs.Tables.{heldProcesses, heldThreads, processAt}
 use Rattle.tables.proofs.Words.{length-heldProcesses}
 use Rattle.places.proofs.PlaceEndings.{orphan, thread-end}
@@ -20,8 +20,8 @@ returns c =
     orphan (a .args .ps .now) (a .args .ts .now) (a .args .place) (c .before .find-process .result) (c .before .before .thread-field-at .result)
     (c .before .before .thread-field-at .ensures) (c .before .find-process .ensures) (c .if1 .taken)
 
-marks-heard-requires : tie.Need-marks-heard-requires
-marks-heard-requires c κs =
+marks-not-ignored-requires : tie.Need-marks-not-ignored-requires
+marks-not-ignored-requires c κs =
     let d = c .before .before .before .before .before .before in
     let a = d .before .before .before .before in (
       a .pre .0,
@@ -41,8 +41,8 @@ returns-2 c =
     (c .before .before .before .before .is-unmasked .ensures ∙ ap (λ n. unmasked (bits n)) (f .thread-field-at4 .ensures))
     (c .is-unmasked2 .ensures ∙ ap (λ n. unmasked (bits n)) (f .before .thread-field-at3 .ensures))
     (ap (λ k. eqb k (a .args .place)) (c .before .before .before .find-thread .ensures ∙ ap (λ n. find (isThread n) (heldThreads ts)) (f .before .before .thread-field-at2 .ensures)))
-    (c .before .before .marks-heard .ensures
-    ∙ ap (λ n. marksHeard (bits n) (actionOf (processAt (a .args .ps .now) (d .find-process .result) .holds))) (f .before .thread-field-at3 .ensures))
+    (c .before .before .marks-not-ignored .ensures
+    ∙ ap (λ n. marksNotIgnored (bits n) (actionOf (processAt (a .args .ps .now) (d .find-process .result) .holds))) (f .before .thread-field-at3 .ensures))
 
 pub live-thread-ok-spec : {M : Type 1} → statement M
 live-thread-ok-spec =
@@ -56,7 +56,7 @@ live-thread-ok-spec =
     (λ c κs. search needs)
     (λ c κs. search needs)
     (λ c κs. search needs)
-    marks-heard-requires
+    marks-not-ignored-requires
     (λ c κs. search needs)
     (λ c κs. search needs)
     returns-2)

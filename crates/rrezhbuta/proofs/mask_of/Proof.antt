@@ -1,7 +1,7 @@
 -- `mask_of` meets its contract. Assumes nothing.
 use native.Mathlib.Omega.{arith}
 use borrow.Author.Needs.{needs}
-use Rattle.rrezhbuta.proofs.Remasked.{mask-absent, mask-held, mask-inside}
+use Rattle.rrezhbuta.proofs.MaskChanges.{mask-absent, mask-held, mask-inside}
 use Rattle.rrezhbuta.proofs.mask_of.Statement.{statement}
 use Rattle.rrezhbuta.proofs.mask_of.Tie as tie
 

@@ -5,7 +5,7 @@ use borrow.Author.Needs.{needs}
 use Rattle.rules.specs.Store.{view}
 use Rattle.rules.proofs.Queues.{target-queue}
 use Rattle.answers.specs.Step.{lent, decoded}
-use Rattle.sending.specs.Fates.{fateOf}
+use Rattle.sending.specs.Generations.{generationOf}
 use Rattle.sending.specs.Decisions.{Decided}
 use Rattle.sending.proofs.Refused.{kill-allowed, send-refused, send-full, send-passes}
 use Rattle.sending.proofs.judge.Statement.{statement}
@@ -20,8 +20,8 @@ returns c =
     let x = a .args in
     (send-refused l (x .by) (x .to) (x .thread) (x .signal) (x .value) (x .queued) (k .result) (k .ensures) (c .if1 .taken), c .if1 .taken)
 
-fate-of-requires : tie.Need-fate-of-requires
-fate-of-requires c κs =
+generation-of-requires : tie.Need-generation-of-requires
+generation-of-requires c κs =
     let k = c .before .kill-refusal in
     let a = c .before .before .before .before .before .before in
     let l = lent (a .args .ps .now) (a .args .ts .now) (a .args .tb .now) (a .args .pb .now) in
@@ -42,14 +42,14 @@ returns-2 : tie.Need-returns-2
 unfolding Decided
 returns-2 c =
     let h = c .before .has-no-room in
-    let f = c .before .before .fate-of in
+    let f = c .before .before .generation-of in
     let g = c .before .before .before in
     let k = g .before .kill-refusal in
     let a = g .before .before .before .before .before .before in
     let l = lent (a .args .ps .now) (a .args .ts .now) (a .args .tb .now) (a .args .pb .now) in
     let x = a .args in
     let e = sym (k .ensures) ∙ g .if1 .left in
-    (send-full l (x .by) (x .to) (x .thread) (x .signal) (x .value) e (fateOf (f .result)) (h .result) (h .ensures) (x .queued) (f .ensures) (c .if2 .taken), λ z. omega arith)
+    (send-full l (x .by) (x .to) (x .thread) (x .signal) (x .value) e (generationOf (f .result)) (h .result) (h .ensures) (x .queued) (f .ensures) (c .if2 .taken), λ z. omega arith)
 
 info-requires : tie.Need-info-requires
 info-requires c κs =
@@ -65,14 +65,14 @@ returns-3 : tie.Need-returns-3
 unfolding Decided
 returns-3 c =
     let h = c .before .before .has-no-room in
-    let f = c .before .before .before .fate-of in
+    let f = c .before .before .before .generation-of in
     let g = c .before .before .before .before in
     let k = g .before .kill-refusal in
     let a = g .before .before .before .before .before .before in
     let l = lent (a .args .ps .now) (a .args .ts .now) (a .args .tb .now) (a .args .pb .now) in
     let x = a .args in
     let e = sym (k .ensures) ∙ g .if1 .left in (
-      send-passes l (x .by) (x .to) (x .thread) (x .signal) (x .value) e (fateOf (f .result)) (h .result) (h .ensures) (x .queued) (f .ensures) (c .before .if2 .left),
+      send-passes l (x .by) (x .to) (x .thread) (x .signal) (x .value) e (generationOf (f .result)) (h .result) (h .ensures) (x .queued) (f .ensures) (c .before .if2 .left),
       (f .ensures, c .info .ensures),
     )
 
@@ -82,7 +82,7 @@ judge-spec =
     (tie.spec
     (λ c κs. search needs)
     returns
-    fate-of-requires
+    generation-of-requires
     has-no-room-requires
     returns-2
     info-requires

@@ -10,15 +10,15 @@ use Rattle.answers.specs.Answers.{answerOf}
 use Rattle.answers.specs.Step.{lent, decoded}
 use Rattle.answers.proofs.Endings.{refused-ends, accepted-ends}
 use Rattle.effects.proofs.Chain.{made}
-use Rattle.sending.specs.Fates.{fateOf}
+use Rattle.sending.specs.Generations.{generationOf}
 use Rattle.sending.specs.Decisions.{sendCall}
 use Rattle.sending.proofs.Refused.{allowed-fits}
 use Rattle.sending.proofs.Carried.{send-makes, send-answers, when-refused, when-allowed}
 use Rattle.sending.proofs.send.Statement.{statement}
 use Rattle.sending.proofs.send.Tie as tie
 
-carry-out-requires : tie.Need-carry-out-requires
-carry-out-requires c κs =
+generate-requires : tie.Need-generate-requires
+generate-requires c κs =
     let d = c .before .before .before .before .before .decision2 .given in
     let j = c .before .before .before .before .before .before .before .judge in
     let a = c .before .before .before .before .before .before .before .before .before .before .before .before .before .before .before .before in
@@ -27,7 +27,7 @@ carry-out-requires c κs =
     let f = d .0 .0 in
     let r = d .0 .1 .0 in
     let y = when-allowed l (x .queued) (x .by) (x .to) (x .thread) (x .signal) (x .value) (j .result) (j .ensures) f r (d .1) in
-    allowed-fits l (x .by) (x .to) (x .thread) (x .signal) (x .value) (x .queued) (y .0) (fateOf f) r (y .1 .0) (y .1 .1)
+    allowed-fits l (x .by) (x .to) (x .thread) (x .signal) (x .value) (x .queued) (y .0) (generationOf f) r (y .1 .0) (y .1 .1)
 
 returns : tie.Need-returns
 returns c =
@@ -39,7 +39,7 @@ returns c =
     let y = when-refused l (x .queued) (x .by) (x .to) (x .thread) (x .signal) (x .value) (j .result) (j .ensures) (d .0 .0) (d .1) in
     refused-ends (sendCall (x .queued) (x .by) (x .to) (x .thread) (x .signal) (x .value)) l (d .0 .0) (y .0) (y .1)
 
-abbrev carried : tie.After-sent → tie.After-carry-out
+abbrev carried : tie.After-sent → tie.After-generate
 carried c = c .before .before .before .before .before .before .before .before .before
 
 returns-2 : tie.Need-returns-2
@@ -53,17 +53,17 @@ returns-2 c =
     let f = d .0 .0 in
     let r = d .0 .1 .0 in
     let y = when-allowed l (x .queued) (x .by) (x .to) (x .thread) (x .signal) (x .value) (j .result) (j .ensures) f r (d .1) in
-    let k = w .carry-out in
+    let k = w .generate in
     let m = lent (k .last .0) (k .last .1 .0) (k .last .1 .1 .0) (k .last .1 .1 .1 .0) in
     let call = sendCall (x .queued) (x .by) (x .to) (x .thread) (x .signal) (x .value) in
     let v = view (decoded l) in
     accepted-ends call l (y .0) (answerOf (c .sent .result))
-    (c .sent .ensures ∙ send-answers v (x .by) (x .to) (x .thread) (x .signal) (x .value) (x .queued) (fateOf f) (y .1 .0)) m
+    (c .sent .ensures ∙ send-answers v (x .by) (x .to) (x .thread) (x .signal) (x .value) (x .queued) (generationOf f) (y .1 .0)) m
     (record { processes = k .kept .0; threads = k .kept .1 .0; threadBuffer = k .kept .1 .1 .0; processBuffer = k .kept .1 .1 .1 .0 })
     (bytes-each (m .threadBuffer) (λ i. omega (arith, c .before .before .before .slice-known7 .given i)))
     (bytes-each (m .processBuffer) (λ i. omega (arith, c .before .slice-known8 .given i)))
-    (made (changes v call) (decoded l) (sendChanges (fateOf f) r)
-    (send-makes v (x .by) (x .to) (x .thread) (x .signal) (x .value) (x .queued) (a .pre) (fateOf f) r (y .1 .0) (y .1 .1)) (decoded m) (k .ensures .0))
+    (made (changes v call) (decoded l) (sendChanges (generationOf f) r)
+    (send-makes v (x .by) (x .to) (x .thread) (x .signal) (x .value) (x .queued) (a .pre) (generationOf f) r (y .1 .0) (y .1 .1)) (decoded m) (k .ensures .0))
 
 pub send-spec : {M : Type 1} → statement M
 send-spec =
@@ -72,15 +72,15 @@ send-spec =
     (λ c κs. search needs)
     (λ c. search needs)
     (λ c. search needs)
-    carry-out-requires
+    generate-requires
     (λ c κs. search needs)
     (λ c. refl)
     (λ c. refl)
     (λ c. refl)
     (λ c. refl)
     returns
-    (λ c. carried c .carry-out .kept .0)
-    (λ c. carried c .carry-out .kept .1 .0)
-    (λ c. carried c .carry-out .kept .1 .1 .0)
-    (λ c. carried c .carry-out .kept .1 .1 .1 .0)
+    (λ c. carried c .generate .kept .0)
+    (λ c. carried c .generate .kept .1 .0)
+    (λ c. carried c .generate .kept .1 .1 .0)
+    (λ c. carried c .generate .kept .1 .1 .1 .0)
     returns-2)

@@ -1,5 +1,5 @@
 use mathlib.Core.Path.{refl, _∙_}
-use Rattle.sound.proofs.RecordEndings.{misaimed, aimed-inside, process-heard}
+use Rattle.sound.proofs.RecordEndings.{misaimed, aimed-inside, process-not-ignored}
 use Rattle.sound.proofs.process_record_ok.Statement.{statement}
 use Rattle.sound.proofs.process_record_ok.Tie as tie
 
@@ -8,15 +8,15 @@ returns c =
     let a = c .before .before .before in
     misaimed (a .args .ps .now) (a .args .r) (a .args .place) (a .pre .1) refl (c .if1 .taken)
 
-record-heard-requires : tie.Need-record-heard-requires
-record-heard-requires c κs =
+record-not-ignored-requires : tie.Need-record-not-ignored-requires
+record-not-ignored-requires c κs =
     let a = c .before .before .before in
     (a .pre .0, aimed-inside (a .args .ps .now) (a .args .r) (a .args .place) (a .pre .1) refl (c .if1 .left))
 
 returns-2 : tie.Need-returns-2
 returns-2 c =
     let a = c .before .before .before .before in
-    c .record-heard .ensures ∙ process-heard (a .args .ps .now) (a .args .r) (a .args .place) (a .pre .1) refl (c .before .if1 .left)
+    c .record-not-ignored .ensures ∙ process-not-ignored (a .args .ps .now) (a .args .r) (a .args .place) (a .pre .1) refl (c .before .if1 .left)
 
 pub process-record-ok-spec : {M : Type 1} → statement M
-process-record-ok-spec = tie.close (tie.spec returns record-heard-requires returns-2)
+process-record-ok-spec = tie.close (tie.spec returns record-not-ignored-requires returns-2)

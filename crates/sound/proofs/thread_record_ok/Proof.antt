@@ -1,6 +1,6 @@
 use mathlib.Core.Path.{_∙_}
 use native.Mathlib.Omega.{arith}
-use Rattle.sound.proofs.RecordEndings.{lost, thread-inside, process-inside, of-another, thread-heard}
+use Rattle.sound.proofs.RecordEndings.{lost, thread-inside, process-inside, of-another, thread-not-ignored}
 use borrow.Author.Needs.{needs}
 use Rattle.sound.proofs.thread_record_ok.Statement.{statement}
 use Rattle.sound.proofs.thread_record_ok.Tie as tie
@@ -21,19 +21,19 @@ returns-2 c =
     let a = c .before .before .before .before .before .before in
     of-another (a .args .ps .now) (a .args .ts .now) (a .args .r) (a .args .place) (a .args .queue) (a .pre .1 .0) (a .pre .1 .1) (c .before .before .thread-field-at .result) (c .before .before .thread-field-at .ensures) (c .if2 .taken)
 
-record-heard-requires : tie.Need-record-heard-requires
-record-heard-requires c κs =
+record-not-ignored-requires : tie.Need-record-not-ignored-requires
+record-not-ignored-requires c κs =
     let a = c .before .before .before .before .before .before in
     (a .pre .0 .0, process-inside (a .args .ps .now) (a .args .ts .now) (a .args .r) (a .args .place) (a .args .queue) (a .pre .1 .0) (a .pre .1 .1) (c .before .before .before .if1 .left))
 
 returns-3 : tie.Need-returns-3
 returns-3 c =
     let a = c .before .before .before .before .before .before .before in
-    c .record-heard .ensures
-    ∙ thread-heard (a .args .ps .now) (a .args .ts .now) (a .args .r) (a .args .place) (a .args .queue) (a .pre .1 .0) (a .pre .1 .1) (c .before .before .before .thread-field-at .result) (c .before .before .before .thread-field-at .ensures)
+    c .record-not-ignored .ensures
+    ∙ thread-not-ignored (a .args .ps .now) (a .args .ts .now) (a .args .r) (a .args .place) (a .args .queue) (a .pre .1 .0) (a .pre .1 .1) (c .before .before .before .thread-field-at .result) (c .before .before .before .thread-field-at .ensures)
     (c .before .before .before .before .if1 .left) (c .before .if2 .left)
 
 pub thread-record-ok-spec : {M : Type 1} → statement M
 thread-record-ok-spec =
     tie.close
-    (tie.spec returns thread-field-at-requires (λ c. search needs) returns-2 record-heard-requires returns-3)
+    (tie.spec returns thread-field-at-requires (λ c. search needs) returns-2 record-not-ignored-requires returns-3)

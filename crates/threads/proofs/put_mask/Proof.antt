@@ -42,9 +42,9 @@ use denote.Triple.Walked.{says, Stays, gave-slice, stay-none, walkOf, goes-gave-
 use denote.Exit.{yes}
 use Rattle.lists.specs.Lists.{find}
 use Rattle.sigset.specs.declared.SigSet.{SigSet}
-use Rattle.threads.specs.Records.{noThread, withMask, hasId, remasked}
+use Rattle.threads.specs.Records.{noThread, withMask, hasId, withMaskAt}
 use Rattle.threads.specs.declared.Thread.{Thread}
-use Rattle.threads.proofs.Search.{remasked-at, remasked-out}
+use Rattle.threads.proofs.Search.{mask-changed-at, mask-changed-out}
 use Rattle.threads.proofs.Lent.{at-list, shares-slice, shared-back, gives-up}
 use Rattle.sigset.proofs.SigSet as S
 use Rattle.sigset.proofs.SigSet.Laws as S′
@@ -112,7 +112,7 @@ module _ {M : Type 1} (𝓤 : URA M) (H : Heap 𝓤) (A : Atoms 𝓤) (W : Given
   Own = MutSlice (named 0) κ T.the-row .own (at-list b o γ ys) (s ∷ [])
 
   -- from the row's last list
-  exits : (zs : List Thread) → zs ≡ remasked id m ys → length zs ≡ length ys → ent 𝓤 (⋆ 𝓤 H A (‵ (flft κ q) ∷ ‵ (finally T.the-row γ zs) ∷ [])) (Post vunit)
+  exits : (zs : List Thread) → zs ≡ withMaskAt id m ys → length zs ≡ length ys → ent 𝓤 (⋆ 𝓤 H A (‵ (flft κ q) ∷ ‵ (finally T.the-row γ zs) ∷ [])) (Post vunit)
   exits zs e l =
       qed W (‵ (flft κ q) ∷ ‵ (finally T.the-row γ zs) ∷ []) ∵
       suffices ! _ (ends-at 𝓤 H A f.ended stayed (f.clauses 𝓤 H A mem run) W (((κ, tt), (q, tt), tt, x, at), tt) vunit tt (zs, (tt, (tt, tt))) (l, (tt, (tt, tt)))) $ says ! e $
@@ -148,7 +148,7 @@ module _ {M : Type 1} (𝓤 : URA M) (H : Heap 𝓤) (A : Atoms 𝓤) (W : Given
           ∷ ‵ (fat fullShare (tyInt w64) l₂ 0 (vint w64 id)) ∷ ‵ (fdies (tyInt w64) l₂) ∷ ‵ (fat fullShare slice l₁ 0 s) ∷ ‵ (fdies slice l₁) ∷ ‵ (froom tyUnit l₀ 0) ∷ ‵ (fdies tyUnit l₀) ∷ []
 
       -- after the branch
-      leaves : (i : ℕ) (zs : List Thread) → zs ≡ remasked id m ys → length zs ≡ length ys → Sq W (‵ (flft κ q) ∷ ‵ (finally T.the-row γ zs) ∷ Locals i) (runs C Λ En mir.t-7 (atRet En Post))
+      leaves : (i : ℕ) (zs : List Thread) → zs ≡ withMaskAt id m ys → length zs ≡ length ys → Sq W (‵ (flft κ q) ∷ ‵ (finally T.the-row γ zs) ∷ Locals i) (runs C Λ En mir.t-7 (atRet En Post))
       leaves i zs e l =
           assigns ! (of-opd ! (unit-lit !)) (from ! (stop !)) (init ! 24 refl (tt, tt)) $
           returns ! (look ! 24 refl) $ forget ! 16 refl $ forget ! 18 refl $ forget ! 20 refl $ forget ! 22 refl $ forget ! 24 refl $
@@ -175,9 +175,9 @@ module _ {M : Type 1} (𝓤 : URA M) (H : Heap 𝓤) (A : Atoms 𝓤) (W : Given
           land-last ! (from ! (stop !)) (init ! 7 refl (subst (λ (w′ : Val). T (hasTy tyUnit w′) × WT w′) (sym (ap only unit)) (tt, tt))) $
           exec ! C Λ En mir.t-7 (atRet En Post) $ forget ! 3 refl $ forget ! 5 refl $ forget ! 7 refl $ forget ! 9 refl $ forget ! 11 refl $ split ! $
           keep ! (0 ∷ 2 ∷ 4 ∷ 5 ∷ 6 ∷ 7 ∷ 8 ∷ 9 ∷ 10 ∷ 11 ∷ 12 ∷ 13 ∷ 14 ∷ 15 ∷ 16 ∷ 17 ∷ 18 ∷ 19 ∷ 20 ∷ 21 ∷ 22 ∷ 23 ∷ 24 ∷ 25 ∷ 26 ∷ 27 ∷ []) $
-          leaves i (zs .0) (remasked-at ys (zs .0) id i m e e′) l)))))))
+          leaves i (zs .0) (mask-changed-at ys (zs .0) id i m e e′) l)))))))
           (λ n. skips ! $ exec ! C Λ En mir.t-7 (atRet En Post) $ forget ! 8 refl $ forget ! 10 refl $ move ! (1 ∷ []) $ gives-up ! T.the-row (named 0) κ γ b o ys $ move ! (1 ∷ 0 ∷ []) $
-          leaves i ys (remasked-out ys id i m e (nltb→le i (length ys) n)) refl)
+          leaves i ys (mask-changed-out ys id i m e (nltb→le i (length ys) n)) refl)
 
     walk : ent 𝓤 (onEntry 𝓤 H A f.signature (κ, tt) (q, tt) x at) (WpFn 𝓤 H C Λ code.function (s ∷ vint w64 id ∷ S′.lowered m ∷ []) Post)
     walk =

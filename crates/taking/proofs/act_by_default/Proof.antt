@@ -1,0 +1,120 @@
+use mathlib.Core.List.{[]}
+-- `act-by-default` meets its contract, a case for each outcome. Assumes nothing.
+use mathlib.Core.Path.{ap}
+use borrow.Author.Needs.{needs}
+use Rattle.rules.specs.Taking.{outcomeChanges}
+use Rattle.rules.specs.View.{removeProcess, setStopped}
+use Rattle.sound.specs.Lent.{storeOf}
+use Rattle.effects.proofs.Chain.{starts, made-none, made-one}
+use Rattle.taking.specs.Takes.{outcomeOf}
+use Rattle.taking.proofs.act_by_default.Statement.{statement}
+use Rattle.taking.proofs.act_by_default.Tie as tie
+
+set-stopped-requires : tie.Need-set-stopped-requires
+unfolding outcomeOf outcomeChanges
+set-stopped-requires c κs =
+    let a = c .before .before .before .before .before .before .before .before .before .before in
+    let ps = a .args .ps .now in
+    let ts = a .args .ts .now in
+    let tb = a .args .tb .now in
+    let pb = a .args .pb .now in
+    let st = storeOf ps ts tb pb in
+    let p = a .args .process in
+    let cs = outcomeChanges (outcomeOf (a .args .o)) p in
+    let e = ap (λ o. outcomeChanges (outcomeOf o) p) (c .before .before .before .before .enum-told2 .given .1) in
+    (a .pre .0, starts cs st (a .pre .1) (setStopped p 1) [] e)
+
+remove-process-requires : tie.Need-remove-process-requires
+unfolding outcomeOf outcomeChanges
+remove-process-requires c κs =
+    let a = c .before .before .before .before .before .before .before .before .before .before in
+    let ps = a .args .ps .now in
+    let ts = a .args .ts .now in
+    let tb = a .args .tb .now in
+    let pb = a .args .pb .now in
+    let st = storeOf ps ts tb pb in
+    let p = a .args .process in
+    let cs = outcomeChanges (outcomeOf (a .args .o)) p in
+    let e = ap (λ o. outcomeChanges (outcomeOf o) p) (c .before .before .before .before .enum-told4 .given .1) in
+    (a .pre .0, starts cs st (a .pre .1) (removeProcess p) [] e)
+
+returns : tie.Need-returns
+unfolding outcomeOf outcomeChanges
+returns c =
+    let a = c .before .before .before .before .before .before in
+    let ps = a .args .ps .now in
+    let ts = a .args .ts .now in
+    let tb = a .args .tb .now in
+    let pb = a .args .pb .now in
+    let st = storeOf ps ts tb pb in
+    let p = a .args .process in
+    let cs = outcomeChanges (outcomeOf (a .args .o)) p in
+    let e = ap (λ o. outcomeChanges (outcomeOf o) p) (c .enum-told .given .1) in
+    (made-none cs st e, a .pre .0)
+
+returns-2 : tie.Need-returns-2
+unfolding outcomeOf outcomeChanges
+returns-2 c =
+    let a = c .before .before .before .before .before .before .before .before .before .before .before .before .before in
+    let ps = a .args .ps .now in
+    let ts = a .args .ts .now in
+    let tb = a .args .tb .now in
+    let pb = a .args .pb .now in
+    let st = storeOf ps ts tb pb in
+    let p = a .args .process in
+    let cs = outcomeChanges (outcomeOf (a .args .o)) p in
+    let e = ap (λ o. outcomeChanges (outcomeOf o) p) (c .before .before .before .before .before .before .before .enum-told2 .given .1) in
+    let w = c .before .before .set-stopped in
+    (made-one cs st (setStopped p 1) e (storeOf (w .last .0) ts tb pb) (w .ensures .0), w .ensures .1)
+
+returns-3 : tie.Need-returns-3
+unfolding outcomeOf outcomeChanges
+returns-3 c =
+    let a = c .before .before .before .before .before .before in
+    let ps = a .args .ps .now in
+    let ts = a .args .ts .now in
+    let tb = a .args .tb .now in
+    let pb = a .args .pb .now in
+    let st = storeOf ps ts tb pb in
+    let p = a .args .process in
+    let cs = outcomeChanges (outcomeOf (a .args .o)) p in
+    let e = ap (λ o. outcomeChanges (outcomeOf o) p) (c .enum-told3 .given .1) in
+    (made-none cs st e, a .pre .0)
+
+returns-4 : tie.Need-returns-4
+unfolding outcomeOf outcomeChanges
+returns-4 c =
+    let a = c .before .before .before .before .before .before .before .before .before .before .before .before .before .before .before .before .before .before .before in
+    let ps = a .args .ps .now in
+    let ts = a .args .ts .now in
+    let tb = a .args .tb .now in
+    let pb = a .args .pb .now in
+    let st = storeOf ps ts tb pb in
+    let p = a .args .process in
+    let cs = outcomeChanges (outcomeOf (a .args .o)) p in
+    let e = ap (λ o. outcomeChanges (outcomeOf o) p) (c .before .before .before .before .before .before .before .before .before .before .before .before .before .enum-told4 .given .1) in
+    let w = c .before .before .before .before .before .before .before .before .remove-process in
+    (made-one cs st (removeProcess p) e (storeOf (w .last .0) (w .last .1 .0) (w .last .1 .1 .0) (w .last .1 .1 .1 .0)) (w .ensures .0), w .ensures .1)
+
+pub act-by-default-spec : {M : Type 1} → statement M
+act-by-default-spec =
+    tie.close
+    (tie.spec
+    (λ c. search needs)
+    (λ c. search needs)
+    set-stopped-requires
+    (λ c. search needs)
+    (λ c. search needs)
+    remove-process-requires
+    returns
+    (λ c. search needs)
+    (λ c. search needs)
+    (λ c. search needs)
+    (λ c. search needs)
+    returns-2
+    returns-3
+    (λ c. search needs)
+    (λ c. search needs)
+    (λ c. search needs)
+    (λ c. search needs)
+    returns-4)
