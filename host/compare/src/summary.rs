@@ -188,8 +188,14 @@ impl fmt::Display for Summary {
             f,
             "{damaged} on damaged tables, {unharmed} of these sound all the same"
         )?;
-        write!(f, "at once up to {processes} processes, {threads} threads, ")?;
-        writeln!(f, "{to_threads} records aimed at a thread, {to_processes} at a process")?;
+        write!(
+            f,
+            "at once up to {processes} processes, {threads} threads, "
+        )?;
+        writeln!(
+            f,
+            "{to_threads} records aimed at a thread, {to_processes} at a process"
+        )?;
         writeln!(f, "\n{:<16}{:>10}{:>10}", "call", "accepted", "refused")?;
         for (name, [accepted, refused]) in CALLS.iter().zip(self.calls) {
             writeln!(f, "{name:<16}{accepted:>10}{refused:>10}")?;
