@@ -3,7 +3,7 @@
 use crate::limits;
 use std::fmt;
 
-/// A 32-bit number of one kind. Any number can be made one: which it accepts is for the layer to say.
+/// A 32-bit number of one kind. Any number can be made one; the layer itself refuses those that are none.
 macro_rules! kind {
     ($(#[$doc:meta])* $name:ident) => {
         $(#[$doc])*
