@@ -1,11 +1,13 @@
 /*
  * Rrezhbuta: a POSIX signal layer over tables that the host lends.
  *
- * Link with target/staticlib/librrezhbuta.a, which `rt staticlib rrezhbuta` writes. What each call does, and when it is refused, is in docs/CALLS.md.
+ * Link with target/staticlib/librrezhbuta.a, which `rt staticlib rrezhbuta` writes. What each call does, and when it is
+ * refused, is in docs/CALLS.md; host/c/loop.c is the loop that a host runs.
  *
- * Every call checks the whole of the four tables, then does its work or refuses it. It returns 0, or an errno and has then written nothing, neither
- * to a table nor through a pointer that it was given for its result. The layer keeps no state and no pointer between calls. It takes no lock: a host with
- * several threads makes one call at a time on the same tables. No two of the lent tables may overlap.
+ * Every call checks the whole of the four tables, then does its work or refuses it. It returns 0, or an errno and has
+ * then written nothing, neither to a table nor through a pointer that it was given for its result. The layer keeps no
+ * state and no pointer between calls. It takes no lock: a host with several threads makes one call at a time on the
+ * same tables. No two of the lent tables may overlap.
  */
 #ifndef RREZHBUTA_H
 #define RREZHBUTA_H
@@ -24,8 +26,8 @@ extern "C" {
 #define RREZHBUTA_ASSERT(condition) _Static_assert(condition, #condition)
 #endif
 
-/* ---- The numbers of crates/limits. Those that count, and those that say where a field is, are plain; the others have the width of what they are
-   compared with. */
+/* ---- The numbers of crates/limits. Those that count, and those that say where a field is, are plain; the others have
+   the width of what they are compared with. */
 
 /* Places of the process table and of the thread table; records of each buffer. */
 #define RREZHBUTA_PROCESS_PLACES 16
@@ -61,7 +63,8 @@ extern "C" {
 #define RREZHBUTA_SA_RESTART UINT64_C(0x10000000)
 #define RREZHBUTA_SA_NODEFER UINT64_C(0x40000000)
 #define RREZHBUTA_SA_RESETHAND UINT64_C(0x80000000)
-#define RREZHBUTA_KNOWN_FLAGS (RREZHBUTA_SA_SIGINFO + RREZHBUTA_SA_RESTART + RREZHBUTA_SA_NODEFER + RREZHBUTA_SA_RESETHAND)
+#define RREZHBUTA_KNOWN_FLAGS                                                                                          \
+    (RREZHBUTA_SA_SIGINFO + RREZHBUTA_SA_RESTART + RREZHBUTA_SA_NODEFER + RREZHBUTA_SA_RESETHAND)
 
 /* The ways to change a mask: the set is added, its members are removed, it replaces the mask. */
 #define RREZHBUTA_SIG_BLOCK UINT32_C(0)
@@ -79,7 +82,8 @@ extern "C" {
 #define RREZHBUTA_EEXIST UINT32_C(17)
 #define RREZHBUTA_EINVAL UINT32_C(22)
 
-/* Words of a place of the process table, of an action and of a place of the thread table. The structs below have the same layout. */
+/* Words of a place of the process table, of an action and of a place of the thread table. The structs below have the
+   same layout. */
 #define RREZHBUTA_PROCESS_ID 0
 #define RREZHBUTA_PROCESS_REAL 1
 #define RREZHBUTA_PROCESS_EFFECTIVE 2
@@ -154,7 +158,7 @@ extern "C" {
 /* ---- The tables */
 
 /* What a process does on a signal. */
-struct rrezhbuta_sigaction {
+struct rrezhbuta_action {
     uint64_t handler; /* SIG_DFL, SIG_IGN, else a handler */
     uint64_t flags;
     uint64_t mask; /* what is blocked while the handler runs */
@@ -165,9 +169,9 @@ struct rrezhbuta_process {
     uint64_t id;
     uint64_t real, effective, saved; /* user ids */
     uint64_t session;
-    uint64_t stopped;                                      /* 0 or 1 */
-    uint64_t marks;                                        /* what is pending for it without a value */
-    struct rrezhbuta_sigaction actions[RREZHBUTA_SIGNALS]; /* that of signal s is at s-1 */
+    uint64_t stopped;                                   /* 0 or 1 */
+    uint64_t marks;                                     /* what is pending for it without a value */
+    struct rrezhbuta_action actions[RREZHBUTA_SIGNALS]; /* that of signal s is at s-1 */
 };
 
 /* A place of the thread table; all zero where it is free. */
@@ -178,7 +182,8 @@ struct rrezhbuta_thread {
     uint64_t marks; /* what is pending for it without a value */
 };
 
-/* A record: a pending signal with what its sender said of it. Used ones come first in a buffer, oldest first; the rest is zero. */
+/* A record: a pending signal with what its sender said of it. Used ones come first in a buffer, oldest first; the rest
+   is zero. */
 struct rrezhbuta_siginfo {
     uint32_t process; /* whom it is pending for */
     uint32_t thread;  /* 0 in the process buffer */
@@ -247,10 +252,10 @@ struct rrezhbuta_taken {
 #define RREZHBUTA_WORD(type, field, word) RREZHBUTA_ASSERT(offsetof(struct type, field) == sizeof(uint64_t) * (word))
 #define RREZHBUTA_BYTE(field, byte) RREZHBUTA_ASSERT(offsetof(struct rrezhbuta_siginfo, field) == (byte))
 
-RREZHBUTA_WORD(rrezhbuta_sigaction, handler, RREZHBUTA_ACTION_HANDLER);
-RREZHBUTA_WORD(rrezhbuta_sigaction, flags, RREZHBUTA_ACTION_FLAGS);
-RREZHBUTA_WORD(rrezhbuta_sigaction, mask, RREZHBUTA_ACTION_MASK);
-RREZHBUTA_ASSERT(sizeof(struct rrezhbuta_sigaction) == sizeof(uint64_t) * RREZHBUTA_ACTION_WORDS);
+RREZHBUTA_WORD(rrezhbuta_action, handler, RREZHBUTA_ACTION_HANDLER);
+RREZHBUTA_WORD(rrezhbuta_action, flags, RREZHBUTA_ACTION_FLAGS);
+RREZHBUTA_WORD(rrezhbuta_action, mask, RREZHBUTA_ACTION_MASK);
+RREZHBUTA_ASSERT(sizeof(struct rrezhbuta_action) == sizeof(uint64_t) * RREZHBUTA_ACTION_WORDS);
 
 RREZHBUTA_WORD(rrezhbuta_process, id, RREZHBUTA_PROCESS_ID);
 RREZHBUTA_WORD(rrezhbuta_process, real, RREZHBUTA_PROCESS_REAL);
@@ -288,23 +293,24 @@ RREZHBUTA_ASSERT(sizeof(struct rrezhbuta_answer) == sizeof(uint64_t) * RREZHBUTA
 /* ---- What the library has */
 
 /*
- * One call by its number. Its arguments are in the documented order, those of 32 bits from a on and those of 64 from x on; what it has no use for is not
- * read. Where an action or a set may be left out, c says whether it is given.
+ * One call by its number. Its arguments are in the documented order, those of 32 bits from a on and those of 64 from x
+ * on; what it has no use for is not read. Where an action or a set may be left out, c says whether it is given.
  *
- * Returns 0 and writes the answer's words, or returns an errno and writes nothing. EINVAL, after EFAULT, where there is no such call or fewer than
- * ANSWER_WORDS words for the answer.
+ * Returns 0 and writes the answer's words, or returns an errno and writes nothing. EINVAL, after EFAULT, where there is
+ * no such call or fewer than ANSWER_WORDS words for the answer.
  */
-uint64_t rrezhbuta_call(uint64_t *processes, size_t process_words, uint8_t *thread_buffer, size_t thread_bytes, uint8_t *process_buffer,
-                        size_t process_bytes, uint64_t *answer, size_t answer_words, struct rrezhbuta_thread *threads, size_t thread_places,
-                        uint32_t number, uint32_t a, uint32_t b, uint32_t c, uint32_t d, uint32_t e, uint32_t f, uint64_t x, uint64_t y, uint64_t z);
+uint64_t rrezhbuta_call(uint64_t *processes, size_t process_words, uint8_t *thread_buffer, size_t thread_bytes,
+                        uint8_t *process_buffer, size_t process_bytes, uint64_t *answer, size_t answer_words,
+                        struct rrezhbuta_thread *threads, size_t thread_places, uint32_t number, uint32_t a, uint32_t b,
+                        uint32_t c, uint32_t d, uint32_t e, uint32_t f, uint64_t x, uint64_t y, uint64_t z);
 
 /*
- * Where the record is that a thread takes next: 0 nowhere (a mark is next, or nothing, or the look is refused), n from 1 to BUFFER_RECORDS in slot n-1 of
- * the thread buffer, n beyond in slot n-1-BUFFER_RECORDS of the process buffer.
+ * Where the record is that a thread takes next: 0 nowhere (a mark is next, or nothing, or the look is refused), n from
+ * 1 to BUFFER_RECORDS in slot n-1 of the thread buffer, n beyond in slot n-1-BUFFER_RECORDS of the process buffer.
  */
-uint64_t rrezhbuta_look(const uint64_t *processes, size_t process_words, const uint8_t *thread_buffer, size_t thread_bytes,
-                        const uint8_t *process_buffer, size_t process_bytes, const struct rrezhbuta_thread *threads, size_t thread_places,
-                        uint32_t thread);
+uint64_t rrezhbuta_look_slot(const uint64_t *processes, size_t process_words, const uint8_t *thread_buffer,
+                             size_t thread_bytes, const uint8_t *process_buffer, size_t process_bytes,
+                             const struct rrezhbuta_thread *threads, size_t thread_places, uint32_t thread);
 
 /* ---- A function for each call. Each returns 0 or the errno. */
 
@@ -318,8 +324,8 @@ static inline struct rrezhbuta_tables rrezhbuta_lend(struct rrezhbuta_store *sto
 }
 
 /*
- * The length of a table in the words or bytes that the library counts, so many to each place or record. It is 0 where the product is more than a size_t
- * holds: no table has that length, and nothing can be read or written through it.
+ * The length of a table in the words or bytes that the library counts, so many to each place or record. It is 0 where
+ * the product is more than a size_t holds: no table has that length, and nothing can be read or written through it.
  */
 static inline size_t rrezhbuta_length(size_t count, size_t each)
 {
@@ -327,18 +333,20 @@ static inline size_t rrezhbuta_length(size_t count, size_t each)
 }
 
 /* One call on the lent tables: a to f are narrow, x to z are wide. */
-static inline int rrezhbuta_serve(const struct rrezhbuta_tables *tables, struct rrezhbuta_answer *answer, uint32_t number, const uint32_t narrow[6],
-                                  const uint64_t wide[3])
+static inline int rrezhbuta_serve(const struct rrezhbuta_tables *tables, struct rrezhbuta_answer *answer,
+                                  uint32_t number, const uint32_t narrow[6], const uint64_t wide[3])
 {
-    return (int)rrezhbuta_call((uint64_t *)tables->processes, rrezhbuta_length(tables->process_places, RREZHBUTA_PROCESS_WORDS),
-                               (uint8_t *)tables->thread_buffer, rrezhbuta_length(tables->thread_records, RREZHBUTA_RECORD_BYTES),
-                               (uint8_t *)tables->process_buffer, rrezhbuta_length(tables->process_records, RREZHBUTA_RECORD_BYTES),
-                               (uint64_t *)answer, RREZHBUTA_ANSWER_WORDS, tables->threads, tables->thread_places, number, narrow[0], narrow[1],
-                               narrow[2], narrow[3], narrow[4], narrow[5], wide[0], wide[1], wide[2]);
+    return (int)rrezhbuta_call(
+        (uint64_t *)tables->processes, rrezhbuta_length(tables->process_places, RREZHBUTA_PROCESS_WORDS),
+        (uint8_t *)tables->thread_buffer, rrezhbuta_length(tables->thread_records, RREZHBUTA_RECORD_BYTES),
+        (uint8_t *)tables->process_buffer, rrezhbuta_length(tables->process_records, RREZHBUTA_RECORD_BYTES),
+        (uint64_t *)answer, RREZHBUTA_ANSWER_WORDS, tables->threads, tables->thread_places, number, narrow[0],
+        narrow[1], narrow[2], narrow[3], narrow[4], narrow[5], wide[0], wide[1], wide[2]);
 }
 
 /* A call that has ids alone as its arguments, two at most. */
-static inline int rrezhbuta_serve_ids(const struct rrezhbuta_tables *tables, struct rrezhbuta_answer *answer, uint32_t number, uint32_t a, uint32_t b)
+static inline int rrezhbuta_serve_ids(const struct rrezhbuta_tables *tables, struct rrezhbuta_answer *answer,
+                                      uint32_t number, uint32_t a, uint32_t b)
 {
     const uint32_t narrow[6] = {a, b};
     const uint64_t wide[3] = {0};
@@ -349,7 +357,8 @@ static inline int rrezhbuta_serve_ids(const struct rrezhbuta_tables *tables, str
 static inline struct rrezhbuta_siginfo rrezhbuta_info_of(const uint64_t *values)
 {
     struct rrezhbuta_siginfo info = {
-        (uint32_t)values[0], (uint32_t)values[1], (uint32_t)values[2], (int32_t)(uint32_t)values[3], (uint32_t)values[4], (uint32_t)values[5], values[6],
+        (uint32_t)values[0], (uint32_t)values[1], (uint32_t)values[2], (int32_t)(uint32_t)values[3],
+        (uint32_t)values[4], (uint32_t)values[5], values[6],
     };
     return info;
 }
@@ -362,9 +371,11 @@ static inline int rrezhbuta_clear(const struct rrezhbuta_tables *tables)
 }
 
 /* Adds a process, running, with its first thread, each in the lowest free place. */
-static inline int rrezhbuta_add_process(const struct rrezhbuta_tables *tables, const struct rrezhbuta_new_process *process)
+static inline int rrezhbuta_add_process(const struct rrezhbuta_tables *tables,
+                                        const struct rrezhbuta_new_process *process)
 {
-    const uint32_t narrow[6] = {process->id, process->real, process->effective, process->saved, process->session, process->thread};
+    const uint32_t narrow[6] = {process->id,    process->real,    process->effective,
+                                process->saved, process->session, process->thread};
     const uint64_t wide[3] = {process->mask};
     struct rrezhbuta_answer answer;
     return rrezhbuta_serve(tables, &answer, RREZHBUTA_CALL_ADD_PROCESS, narrow, wide);
@@ -392,10 +403,11 @@ static inline int rrezhbuta_end_thread(const struct rrezhbuta_tables *tables, ui
 }
 
 /*
- * Process `by` sends a signal to process `to`, or to a thread of it where that is not 0. Signal 0 only tests. `sent`, which may be NULL, gets TESTED,
- * ACTED, DROPPED, ABSORBED or MARKED.
+ * Process `by` sends a signal to process `to`, or to a thread of it where that is not 0. Signal 0 only tests. `sent`,
+ * which may be NULL, gets TESTED, ACTED, DROPPED, ABSORBED or MARKED.
  */
-static inline int rrezhbuta_kill(const struct rrezhbuta_tables *tables, uint32_t by, uint32_t to, uint32_t thread, uint32_t signal, uint64_t *sent)
+static inline int rrezhbuta_kill(const struct rrezhbuta_tables *tables, uint32_t by, uint32_t to, uint32_t thread,
+                                 uint32_t signal, uint64_t *sent)
 {
     const uint32_t narrow[6] = {by, to, thread, signal};
     const uint64_t wide[3] = {0};
@@ -407,8 +419,8 @@ static inline int rrezhbuta_kill(const struct rrezhbuta_tables *tables, uint32_t
 }
 
 /* As kill, with a value: what is kept is a record, and `sent` gets KEPT where kill has MARKED. */
-static inline int rrezhbuta_queue(const struct rrezhbuta_tables *tables, uint32_t by, uint32_t to, uint32_t thread, uint32_t signal, uint64_t value,
-                                  uint64_t *sent)
+static inline int rrezhbuta_sigqueue(const struct rrezhbuta_tables *tables, uint32_t by, uint32_t to, uint32_t thread,
+                                     uint32_t signal, uint64_t value, uint64_t *sent)
 {
     const uint32_t narrow[6] = {by, to, thread, signal};
     const uint64_t wide[3] = {value};
@@ -420,11 +432,11 @@ static inline int rrezhbuta_queue(const struct rrezhbuta_tables *tables, uint32_
 }
 
 /* Stores an action, or only asks where `action` is NULL. `old`, which may be NULL, gets the action before. */
-static inline int rrezhbuta_action(const struct rrezhbuta_tables *tables, uint32_t process, uint32_t signal,
-                                   const struct rrezhbuta_sigaction *action, struct rrezhbuta_sigaction *old)
+static inline int rrezhbuta_sigaction(const struct rrezhbuta_tables *tables, uint32_t process, uint32_t signal,
+                                      const struct rrezhbuta_action *action, struct rrezhbuta_action *old)
 {
-    const struct rrezhbuta_sigaction none = {0, 0, 0};
-    const struct rrezhbuta_sigaction *stored = action != NULL ? action : &none;
+    const struct rrezhbuta_action none = {0, 0, 0};
+    const struct rrezhbuta_action *stored = action != NULL ? action : &none;
     const uint32_t narrow[6] = {process, signal, action != NULL};
     const uint64_t wide[3] = {stored->handler, stored->flags, stored->mask};
     struct rrezhbuta_answer answer;
@@ -437,8 +449,10 @@ static inline int rrezhbuta_action(const struct rrezhbuta_tables *tables, uint32
     return refusal;
 }
 
-/* Changes a thread's mask by SIG_BLOCK, SIG_UNBLOCK or SIG_SETMASK, or only asks where `set` is NULL. `old`, which may be NULL, gets the mask before. */
-static inline int rrezhbuta_mask(const struct rrezhbuta_tables *tables, uint32_t thread, uint32_t way, const uint64_t *set, uint64_t *old)
+/* Changes a thread's mask by SIG_BLOCK, SIG_UNBLOCK or SIG_SETMASK, or only asks where `set` is NULL. `old`, which may
+   be NULL, gets the mask before. */
+static inline int rrezhbuta_sigmask(const struct rrezhbuta_tables *tables, uint32_t thread, uint32_t way,
+                                    const uint64_t *set, uint64_t *old)
 {
     const uint32_t narrow[6] = {thread, way, set != NULL};
     const uint64_t wide[3] = {set != NULL ? *set : 0};
@@ -450,7 +464,7 @@ static inline int rrezhbuta_mask(const struct rrezhbuta_tables *tables, uint32_t
 }
 
 /* The signals that are pending for a thread or its process and that the thread blocks. */
-static inline int rrezhbuta_pending(const struct rrezhbuta_tables *tables, uint32_t thread, uint64_t *set)
+static inline int rrezhbuta_sigpending(const struct rrezhbuta_tables *tables, uint32_t thread, uint64_t *set)
 {
     struct rrezhbuta_answer answer;
     int refusal = rrezhbuta_serve_ids(tables, &answer, RREZHBUTA_CALL_SIGPENDING, thread, 0);
@@ -459,13 +473,16 @@ static inline int rrezhbuta_pending(const struct rrezhbuta_tables *tables, uint3
     return refusal;
 }
 
-/* The record that a thread takes next, where it lies in a lent buffer; NULL for a mark, for nothing, and where the look is refused. */
-static inline const struct rrezhbuta_siginfo *rrezhbuta_look_part(const struct rrezhbuta_tables *tables, uint32_t thread)
+/* The record that a thread takes next, where it lies in a lent buffer; NULL for a mark, for nothing, and where the look
+   is refused. */
+static inline const struct rrezhbuta_siginfo *rrezhbuta_look_part(const struct rrezhbuta_tables *tables,
+                                                                  uint32_t thread)
 {
-    uint64_t found = rrezhbuta_look((const uint64_t *)tables->processes, rrezhbuta_length(tables->process_places, RREZHBUTA_PROCESS_WORDS),
-                                    (const uint8_t *)tables->thread_buffer, rrezhbuta_length(tables->thread_records, RREZHBUTA_RECORD_BYTES),
-                                    (const uint8_t *)tables->process_buffer, rrezhbuta_length(tables->process_records, RREZHBUTA_RECORD_BYTES),
-                                    tables->threads, tables->thread_places, thread);
+    uint64_t found = rrezhbuta_look_slot(
+        (const uint64_t *)tables->processes, rrezhbuta_length(tables->process_places, RREZHBUTA_PROCESS_WORDS),
+        (const uint8_t *)tables->thread_buffer, rrezhbuta_length(tables->thread_records, RREZHBUTA_RECORD_BYTES),
+        (const uint8_t *)tables->process_buffer, rrezhbuta_length(tables->process_records, RREZHBUTA_RECORD_BYTES),
+        tables->threads, tables->thread_places, thread);
     if (found == 0)
         return NULL;
     if (found <= RREZHBUTA_BUFFER_RECORDS)
@@ -473,8 +490,8 @@ static inline const struct rrezhbuta_siginfo *rrezhbuta_look_part(const struct r
     return &tables->process_buffer[found - 1 - RREZHBUTA_BUFFER_RECORDS];
 }
 
-/* The look's companion: what it found, or why it was refused. */
-static inline int rrezhbuta_looked(const struct rrezhbuta_tables *tables, uint32_t thread, struct rrezhbuta_next *next)
+/* What a thread would take next, or why the look is refused. */
+static inline int rrezhbuta_look(const struct rrezhbuta_tables *tables, uint32_t thread, struct rrezhbuta_next *next)
 {
     struct rrezhbuta_answer answer;
     int refusal = rrezhbuta_serve_ids(tables, &answer, RREZHBUTA_CALL_LOOK, thread, 0);
@@ -520,7 +537,8 @@ static inline int rrezhbuta_take(const struct rrezhbuta_tables *tables, uint32_t
 }
 
 /* A thread returns from a handler: its mask becomes the saved one. `old`, which may be NULL, gets the mask before. */
-static inline int rrezhbuta_sigreturn(const struct rrezhbuta_tables *tables, uint32_t thread, uint64_t mask, uint64_t *old)
+static inline int rrezhbuta_sigreturn(const struct rrezhbuta_tables *tables, uint32_t thread, uint64_t mask,
+                                      uint64_t *old)
 {
     const uint32_t narrow[6] = {thread};
     const uint64_t wide[3] = {mask};

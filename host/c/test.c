@@ -1,4 +1,5 @@
-/* Every function of rrezhbuta.h on the linked library. Ends with status 1 and the line of the first check that fails. */
+/* Every function of rrezhbuta.h on the linked library. Ends with status 1 and the line of the first check that
+   fails. */
 
 #include <stdio.h>
 #include <stdlib.h>
@@ -28,7 +29,8 @@ static void check(int holds, const char *said, int line)
 #define CHECK(condition) check((condition), #condition, __LINE__)
 #define DONE(call) CHECK((call) == 0)
 /* the call is refused with that errno, and every table is bit for bit as it was */
-#define REFUSED(refusal, call) (before = store, CHECK((call) == (int)(refusal)), CHECK(memcmp(&store, &before, sizeof store) == 0))
+#define REFUSED(refusal, call)                                                                                         \
+    (before = store, CHECK((call) == (int)(refusal)), CHECK(memcmp(&store, &before, sizeof store) == 0))
 
 /* ---- Process 100 of user 1000 with thread 200, and process 1 of user 0 with thread 2 */
 
@@ -53,23 +55,23 @@ static uint64_t kill_sent(uint32_t thread, uint32_t signal)
     return sent;
 }
 
-static uint64_t queue_sent(uint32_t thread, uint32_t signal, uint64_t value)
+static uint64_t sigqueue_sent(uint32_t thread, uint32_t signal, uint64_t value)
 {
     uint64_t sent = 0;
-    DONE(rrezhbuta_queue(&tables, 1, 100, thread, signal, value, &sent));
+    DONE(rrezhbuta_sigqueue(&tables, 1, 100, thread, signal, value, &sent));
     return sent;
 }
 
 static void handle(uint32_t signal, uint64_t flags, uint64_t mask)
 {
-    struct rrezhbuta_sigaction action = {HANDLER, flags, mask};
-    DONE(rrezhbuta_action(&tables, 100, signal, &action, NULL));
+    struct rrezhbuta_action action = {HANDLER, flags, mask};
+    DONE(rrezhbuta_sigaction(&tables, 100, signal, &action, NULL));
 }
 
 static uint64_t mask_now(uint32_t thread)
 {
     uint64_t mask = OLD;
-    DONE(rrezhbuta_mask(&tables, thread, 7, NULL, &mask));
+    DONE(rrezhbuta_sigmask(&tables, thread, 7, NULL, &mask));
     return mask;
 }
 
@@ -93,7 +95,7 @@ static uint64_t value_taken(uint32_t thread)
 static void fill_queue(void)
 {
     for (uint64_t value = 0; value < RREZHBUTA_RECORD_LIMIT; value++)
-        CHECK(queue_sent(0, 40, value) == RREZHBUTA_ANSWER_KEPT);
+        CHECK(sigqueue_sent(0, 40, value) == RREZHBUTA_ANSWER_KEPT);
 }
 
 /* ---- Adding and ending */
@@ -105,9 +107,11 @@ static void adding(void)
     const struct rrezhbuta_process *process = &store.processes[2];
     CHECK(process->id == 300 && process->real == 1001 && process->effective == 1001 && process->saved == 1001);
     CHECK(process->session == 7 && process->stopped == 0 && process->marks == 0);
-    CHECK(store.threads[2].id == 400 && store.threads[2].process == 300 && store.threads[2].mask == (ALL_ONES & ~UNMASKABLE));
+    CHECK(store.threads[2].id == 400 && store.threads[2].process == 300 &&
+          store.threads[2].mask == (ALL_ONES & ~UNMASKABLE));
     DONE(rrezhbuta_add_thread(&tables, 400, 401));
-    CHECK(store.threads[3].id == 401 && store.threads[3].process == 300 && store.threads[3].mask == store.threads[2].mask);
+    CHECK(store.threads[3].id == 401 && store.threads[3].process == 300 &&
+          store.threads[3].mask == store.threads[2].mask);
     REFUSED(RREZHBUTA_EINVAL, add(0, 1001, 402, 0));
     REFUSED(RREZHBUTA_EINVAL, add(301, 1001, RREZHBUTA_LARGEST_ID + 1, 0));
     REFUSED(RREZHBUTA_EEXIST, add(300, 1001, 402, 0));
@@ -162,14 +166,15 @@ static void the_tables_are_as_long_as_the_limits_say(void)
 static void fill_own_queue(uint32_t process, uint32_t thread)
 {
     for (uint64_t value = 1; value < RREZHBUTA_RECORD_LIMIT; value++)
-        DONE(rrezhbuta_queue(&tables, process, process, thread, 41, value, NULL));
-    DONE(rrezhbuta_queue(&tables, process, process, thread, 40, process, NULL));
+        DONE(rrezhbuta_sigqueue(&tables, process, process, thread, 41, value, NULL));
+    DONE(rrezhbuta_sigqueue(&tables, process, process, thread, 40, process, NULL));
 }
 
 static void the_buffers_are_as_long_as_the_limits_say(void)
 {
     /* the buffers are lent the other way round: the end of the one is not the start of the other */
-    const struct rrezhbuta_siginfo *lasts[] = {&store.thread_buffer[RREZHBUTA_BUFFER_RECORDS - 1], &store.process_buffer[RREZHBUTA_BUFFER_RECORDS - 1]};
+    const struct rrezhbuta_siginfo *lasts[] = {&store.thread_buffer[RREZHBUTA_BUFFER_RECORDS - 1],
+                                               &store.process_buffer[RREZHBUTA_BUFFER_RECORDS - 1]};
     const uint32_t last = RREZHBUTA_PROCESS_PLACES;
     tables = rrezhbuta_lend(&store);
     tables.thread_buffer = store.process_buffer;
@@ -181,7 +186,7 @@ static void the_buffers_are_as_long_as_the_limits_say(void)
             fill_own_queue(n, threads ? n : 0);
         }
         CHECK(rrezhbuta_look_part(&tables, last) == lasts[threads] && lasts[threads]->value == last);
-        REFUSED(RREZHBUTA_EAGAIN, rrezhbuta_queue(&tables, last, last, 0, 41, 0, NULL));
+        REFUSED(RREZHBUTA_EAGAIN, rrezhbuta_sigqueue(&tables, last, last, 0, 41, 0, NULL));
     }
 }
 
@@ -208,15 +213,15 @@ static void queued_sends(void)
 {
     const struct rrezhbuta_siginfo wanted = {100, 200, 40, -1, 1, 0, 7};
     start();
-    CHECK(queue_sent(0, 0, 7) == RREZHBUTA_ANSWER_TESTED);
-    CHECK(queue_sent(200, 40, 7) == RREZHBUTA_ANSWER_KEPT);
+    CHECK(sigqueue_sent(0, 0, 7) == RREZHBUTA_ANSWER_TESTED);
+    CHECK(sigqueue_sent(200, 40, 7) == RREZHBUTA_ANSWER_KEPT);
     CHECK(memcmp(&store.thread_buffer[0], &wanted, sizeof wanted) == 0);
     CHECK((uint32_t)store.thread_buffer[0].code == RREZHBUTA_SI_QUEUE);
-    CHECK(queue_sent(0, 2, 8) == RREZHBUTA_ANSWER_KEPT);
+    CHECK(sigqueue_sent(0, 2, 8) == RREZHBUTA_ANSWER_KEPT);
     CHECK(store.process_buffer[0].thread == 0 && store.process_buffer[0].value == 8);
-    CHECK(queue_sent(0, 2, 9) == RREZHBUTA_ANSWER_ABSORBED);
-    CHECK(queue_sent(0, RREZHBUTA_SIGURG, 9) == RREZHBUTA_ANSWER_DROPPED);
-    CHECK(queue_sent(0, RREZHBUTA_SIGSTOP, 9) == RREZHBUTA_ANSWER_ACTED);
+    CHECK(sigqueue_sent(0, 2, 9) == RREZHBUTA_ANSWER_ABSORBED);
+    CHECK(sigqueue_sent(0, RREZHBUTA_SIGURG, 9) == RREZHBUTA_ANSWER_DROPPED);
+    CHECK(sigqueue_sent(0, RREZHBUTA_SIGSTOP, 9) == RREZHBUTA_ANSWER_ACTED);
     CHECK(store.processes[1].stopped == 1);
 }
 
@@ -225,14 +230,14 @@ static void refused_sends(void)
     uint64_t sent = OLD;
     start();
     REFUSED(RREZHBUTA_EINVAL, rrezhbuta_kill(&tables, 1, 100, 0, RREZHBUTA_SIGNALS + 1, &sent));
-    REFUSED(RREZHBUTA_EINVAL, rrezhbuta_queue(&tables, 1, 100, 0, RREZHBUTA_SIGNALS + 1, 7, &sent));
+    REFUSED(RREZHBUTA_EINVAL, rrezhbuta_sigqueue(&tables, 1, 100, 0, RREZHBUTA_SIGNALS + 1, 7, &sent));
     REFUSED(RREZHBUTA_ESRCH, rrezhbuta_kill(&tables, 9, 100, 0, 2, &sent));
-    REFUSED(RREZHBUTA_ESRCH, rrezhbuta_queue(&tables, 1, 100, 2, 2, 7, &sent));
+    REFUSED(RREZHBUTA_ESRCH, rrezhbuta_sigqueue(&tables, 1, 100, 2, 2, 7, &sent));
     REFUSED(RREZHBUTA_EPERM, rrezhbuta_kill(&tables, 100, 1, 0, 0, &sent));
-    REFUSED(RREZHBUTA_EPERM, rrezhbuta_queue(&tables, 100, 1, 0, 2, 7, &sent));
+    REFUSED(RREZHBUTA_EPERM, rrezhbuta_sigqueue(&tables, 100, 1, 0, 2, 7, &sent));
     CHECK(sent == OLD);
     DONE(rrezhbuta_kill(&tables, 1, 100, 0, 2, NULL));
-    DONE(rrezhbuta_queue(&tables, 1, 100, 0, 40, 7, NULL));
+    DONE(rrezhbuta_sigqueue(&tables, 1, 100, 0, 40, 7, NULL));
 }
 
 static void a_full_queue(void)
@@ -240,12 +245,12 @@ static void a_full_queue(void)
     start();
     handle(40, 0, 0);
     fill_queue();
-    REFUSED(RREZHBUTA_EAGAIN, rrezhbuta_queue(&tables, 1, 100, 0, 40, 7, NULL));
-    REFUSED(RREZHBUTA_EAGAIN, rrezhbuta_queue(&tables, 1, 100, 200, 41, 7, NULL));
-    REFUSED(RREZHBUTA_EAGAIN, rrezhbuta_queue(&tables, 1, 100, 0, RREZHBUTA_SIGCONT, 7, NULL));
+    REFUSED(RREZHBUTA_EAGAIN, rrezhbuta_sigqueue(&tables, 1, 100, 0, 40, 7, NULL));
+    REFUSED(RREZHBUTA_EAGAIN, rrezhbuta_sigqueue(&tables, 1, 100, 200, 41, 7, NULL));
+    REFUSED(RREZHBUTA_EAGAIN, rrezhbuta_sigqueue(&tables, 1, 100, 0, RREZHBUTA_SIGCONT, 7, NULL));
     CHECK(value_taken(200) == 0);
-    CHECK(queue_sent(0, 40, 7) == RREZHBUTA_ANSWER_KEPT);
-    REFUSED(RREZHBUTA_EAGAIN, rrezhbuta_queue(&tables, 1, 100, 0, 40, 7, NULL));
+    CHECK(sigqueue_sent(0, 40, 7) == RREZHBUTA_ANSWER_KEPT);
+    REFUSED(RREZHBUTA_EAGAIN, rrezhbuta_sigqueue(&tables, 1, 100, 0, 40, 7, NULL));
 }
 
 static void kill_lands_on_a_full_queue(void)
@@ -253,7 +258,7 @@ static void kill_lands_on_a_full_queue(void)
     for (int queued = 0; queued <= 1; queued++) {
         start();
         fill_queue();
-        uint64_t sent = queued ? queue_sent(0, RREZHBUTA_SIGKILL, 7) : kill_sent(0, RREZHBUTA_SIGKILL);
+        uint64_t sent = queued ? sigqueue_sent(0, RREZHBUTA_SIGKILL, 7) : kill_sent(0, RREZHBUTA_SIGKILL);
         CHECK(sent == RREZHBUTA_ANSWER_ACTED);
         CHECK(store.processes[1].id == 0 && store.threads[1].id == 0 && store.process_buffer[0].process == 0);
     }
@@ -263,31 +268,31 @@ static void kill_lands_on_a_full_queue(void)
 
 static void actions(void)
 {
-    struct rrezhbuta_sigaction old = {OLD, OLD, OLD};
-    const struct rrezhbuta_sigaction stored = {HANDLER, ALL_ONES, ALL_ONES};
+    struct rrezhbuta_action old = {OLD, OLD, OLD};
+    const struct rrezhbuta_action stored = {HANDLER, ALL_ONES, ALL_ONES};
     start();
-    DONE(rrezhbuta_action(&tables, 100, 40, &stored, &old));
+    DONE(rrezhbuta_sigaction(&tables, 100, 40, &stored, &old));
     CHECK(old.handler == RREZHBUTA_SIG_DFL && old.flags == 0 && old.mask == 0);
-    DONE(rrezhbuta_action(&tables, 100, 40, NULL, &old));
+    DONE(rrezhbuta_sigaction(&tables, 100, 40, NULL, &old));
     CHECK(old.handler == HANDLER && old.flags == RREZHBUTA_KNOWN_FLAGS && old.mask == (ALL_ONES & ~UNMASKABLE));
     CHECK(memcmp(&store.processes[1].actions[39], &old, sizeof old) == 0);
-    DONE(rrezhbuta_action(&tables, 100, RREZHBUTA_SIGKILL, NULL, &old));
+    DONE(rrezhbuta_sigaction(&tables, 100, RREZHBUTA_SIGKILL, NULL, &old));
     CHECK(old.handler == RREZHBUTA_SIG_DFL && old.flags == 0 && old.mask == 0);
     old.handler = OLD;
-    REFUSED(RREZHBUTA_EINVAL, rrezhbuta_action(&tables, 100, RREZHBUTA_SIGKILL, &stored, &old));
-    REFUSED(RREZHBUTA_EINVAL, rrezhbuta_action(&tables, 100, 0, NULL, &old));
-    REFUSED(RREZHBUTA_ESRCH, rrezhbuta_action(&tables, 101, 40, NULL, &old));
+    REFUSED(RREZHBUTA_EINVAL, rrezhbuta_sigaction(&tables, 100, RREZHBUTA_SIGKILL, &stored, &old));
+    REFUSED(RREZHBUTA_EINVAL, rrezhbuta_sigaction(&tables, 100, 0, NULL, &old));
+    REFUSED(RREZHBUTA_ESRCH, rrezhbuta_sigaction(&tables, 101, 40, NULL, &old));
     CHECK(old.handler == OLD);
 }
 
 static void ignoring_discards(void)
 {
-    const struct rrezhbuta_sigaction ignore = {RREZHBUTA_SIG_IGN, 0, 0};
+    const struct rrezhbuta_action ignore = {RREZHBUTA_SIG_IGN, 0, 0};
     start();
     CHECK(kill_sent(0, 2) == RREZHBUTA_ANSWER_MARKED);
-    DONE(rrezhbuta_action(&tables, 100, 2, &ignore, NULL));
+    DONE(rrezhbuta_sigaction(&tables, 100, 2, &ignore, NULL));
     CHECK(store.processes[1].marks == 0);
-    CHECK(queue_sent(0, 2, 7) == RREZHBUTA_ANSWER_DROPPED);
+    CHECK(sigqueue_sent(0, 2, 7) == RREZHBUTA_ANSWER_DROPPED);
 }
 
 static void masks(void)
@@ -295,14 +300,14 @@ static void masks(void)
     const uint64_t all = ALL_ONES, two = 2, six = 6;
     uint64_t old = OLD;
     start();
-    DONE(rrezhbuta_mask(&tables, 200, RREZHBUTA_SIG_BLOCK, &all, &old));
+    DONE(rrezhbuta_sigmask(&tables, 200, RREZHBUTA_SIG_BLOCK, &all, &old));
     CHECK(old == 0 && mask_now(200) == UINT64_C(18446744073709289215));
-    DONE(rrezhbuta_mask(&tables, 200, RREZHBUTA_SIG_SETMASK, &six, NULL));
-    DONE(rrezhbuta_mask(&tables, 200, RREZHBUTA_SIG_UNBLOCK, &two, &old));
+    DONE(rrezhbuta_sigmask(&tables, 200, RREZHBUTA_SIG_SETMASK, &six, NULL));
+    DONE(rrezhbuta_sigmask(&tables, 200, RREZHBUTA_SIG_UNBLOCK, &two, &old));
     CHECK(old == 6 && mask_now(200) == 4);
     old = OLD;
-    REFUSED(RREZHBUTA_EINVAL, rrezhbuta_mask(&tables, 200, 7, &six, &old));
-    REFUSED(RREZHBUTA_ESRCH, rrezhbuta_mask(&tables, 999, 7, NULL, &old));
+    REFUSED(RREZHBUTA_EINVAL, rrezhbuta_sigmask(&tables, 200, 7, &six, &old));
+    REFUSED(RREZHBUTA_ESRCH, rrezhbuta_sigmask(&tables, 999, 7, NULL, &old));
     CHECK(old == OLD);
 }
 
@@ -311,13 +316,13 @@ static void pending(void)
     const uint64_t set = BIT(2) | BIT(40);
     uint64_t found = OLD;
     start();
-    REFUSED(RREZHBUTA_ESRCH, rrezhbuta_pending(&tables, 999, &found));
+    REFUSED(RREZHBUTA_ESRCH, rrezhbuta_sigpending(&tables, 999, &found));
     CHECK(found == OLD);
-    DONE(rrezhbuta_mask(&tables, 200, RREZHBUTA_SIG_BLOCK, &set, NULL));
+    DONE(rrezhbuta_sigmask(&tables, 200, RREZHBUTA_SIG_BLOCK, &set, NULL));
     kill_sent(0, 2);
     kill_sent(0, 10);
-    queue_sent(200, 40, 7);
-    DONE(rrezhbuta_pending(&tables, 200, &found));
+    sigqueue_sent(200, 40, 7);
+    DONE(rrezhbuta_sigpending(&tables, 200, &found));
     CHECK(found == set);
 }
 
@@ -332,34 +337,34 @@ static void looks(void)
     CHECK(rrezhbuta_look_part(&tables, 999) == NULL);
     DONE(rrezhbuta_end_process(&tables, 100));
     DONE(add(100, 1000, 200, 0));
-    queue_sent(0, 41, 1);
-    queue_sent(0, 40, 2);
+    sigqueue_sent(0, 41, 1);
+    sigqueue_sent(0, 40, 2);
     CHECK(rrezhbuta_look_part(&tables, 200) == &store.process_buffer[1]);
-    queue_sent(200, 41, 3);
-    queue_sent(200, 40, 4);
+    sigqueue_sent(200, 41, 3);
+    sigqueue_sent(200, 40, 4);
     CHECK(rrezhbuta_look_part(&tables, 200) == &store.thread_buffer[1]);
-    queue_sent(200, 34, 5);
+    sigqueue_sent(200, 34, 5);
     CHECK(rrezhbuta_look_part(&tables, 200) == &store.thread_buffer[2]);
     CHECK(rrezhbuta_look_part(&tables, 200)->value == 5);
     store.processes[1].stopped = 2;
     CHECK(rrezhbuta_look_part(&tables, 200) == NULL);
 }
 
-static void what_was_looked(void)
+static void what_is_next(void)
 {
     struct rrezhbuta_next next;
     const struct rrezhbuta_siginfo mark = {100, 200, 2, 0, 0, 0, 0}, record = {100, 0, 1, -1, 1, 0, 7};
     start();
-    DONE(rrezhbuta_looked(&tables, 200, &next));
+    DONE(rrezhbuta_look(&tables, 200, &next));
     CHECK(next.answer == RREZHBUTA_ANSWER_NEXT_NOTHING && next.info.process == 0 && next.info.signal == 0);
     kill_sent(200, 2);
-    DONE(rrezhbuta_looked(&tables, 200, &next));
+    DONE(rrezhbuta_look(&tables, 200, &next));
     CHECK(next.answer == RREZHBUTA_ANSWER_NEXT_MARK && memcmp(&next.info, &mark, sizeof mark) == 0);
-    queue_sent(0, 1, 7);
-    DONE(rrezhbuta_looked(&tables, 200, &next));
+    sigqueue_sent(0, 1, 7);
+    DONE(rrezhbuta_look(&tables, 200, &next));
     CHECK(next.answer == RREZHBUTA_ANSWER_NEXT_RECORD && memcmp(&next.info, &record, sizeof record) == 0);
     next.answer = OLD;
-    REFUSED(RREZHBUTA_ESRCH, rrezhbuta_looked(&tables, 999, &next));
+    REFUSED(RREZHBUTA_ESRCH, rrezhbuta_look(&tables, 999, &next));
     CHECK(next.answer == OLD);
 }
 
@@ -376,7 +381,7 @@ static void who_can_take(void)
     kill_sent(0, 2);
     DONE(rrezhbuta_who(&tables, 100, &thread));
     CHECK(thread == 200);
-    DONE(rrezhbuta_mask(&tables, 200, RREZHBUTA_SIG_BLOCK, &set, NULL));
+    DONE(rrezhbuta_sigmask(&tables, 200, RREZHBUTA_SIG_BLOCK, &set, NULL));
     DONE(rrezhbuta_who(&tables, 100, &thread));
     CHECK(thread == 201);
 }
@@ -391,7 +396,7 @@ static void a_handler_takes(void)
     handle(10, RREZHBUTA_SA_SIGINFO, 2048);
     handle(40, RREZHBUTA_SA_NODEFER | RREZHBUTA_SA_RESETHAND, 2048);
     kill_sent(0, 10);
-    queue_sent(200, 40, 7);
+    sigqueue_sent(200, 40, 7);
     struct rrezhbuta_taken taken = take(200);
     CHECK(taken.answer == RREZHBUTA_ANSWER_HANDLER && taken.handler == HANDLER && taken.signal == 10);
     CHECK(taken.flags == RREZHBUTA_SA_SIGINFO && taken.saved == 0 && mask_now(200) == 2560);
@@ -412,10 +417,10 @@ static void the_order_of_takes(void)
     for (uint32_t signal = 34; signal <= 40; signal++)
         handle(signal, 0, 0);
     for (uint64_t value = 1; value <= 3; value++)
-        queue_sent(0, 40, value);
-    queue_sent(200, 40, 4);
-    queue_sent(200, 35, 5);
-    queue_sent(0, 34, 6);
+        sigqueue_sent(0, 40, value);
+    sigqueue_sent(200, 40, 4);
+    sigqueue_sent(200, 35, 5);
+    sigqueue_sent(0, 34, 6);
     const uint64_t wanted[] = {6, 5, 4, 1, 2, 3};
     for (size_t n = 0; n < sizeof wanted / sizeof *wanted; n++)
         CHECK(value_taken(200) == wanted[n]);
@@ -427,7 +432,8 @@ static void default_takes(void)
     start();
     before = store;
     struct rrezhbuta_taken taken = take(200);
-    CHECK(taken.answer == RREZHBUTA_ANSWER_NOTHING && taken.signal == 0 && taken.handler == 0 && taken.info.signal == 0);
+    CHECK(taken.answer == RREZHBUTA_ANSWER_NOTHING && taken.signal == 0 && taken.handler == 0 &&
+          taken.info.signal == 0);
     CHECK(memcmp(&store, &before, sizeof store) == 0);
     kill_sent(0, RREZHBUTA_SIGCONT);
     taken = take(200);
@@ -453,9 +459,10 @@ static uint64_t numbered(uint32_t number, size_t room)
     uint64_t answer[RREZHBUTA_ANSWER_WORDS + 1];
     for (size_t n = 0; n <= RREZHBUTA_ANSWER_WORDS; n++)
         answer[n] = OLD;
-    uint64_t refusal = rrezhbuta_call((uint64_t *)store.processes, RREZHBUTA_PROCESS_TABLE, (uint8_t *)store.thread_buffer, RREZHBUTA_BUFFER_BYTES,
-                                      (uint8_t *)store.process_buffer, RREZHBUTA_BUFFER_BYTES, answer, room, store.threads, RREZHBUTA_THREAD_PLACES,
-                                      number, 100, 40, 0, 0, 0, 0, 0, 0, 0);
+    uint64_t refusal =
+        rrezhbuta_call((uint64_t *)store.processes, RREZHBUTA_PROCESS_TABLE, (uint8_t *)store.thread_buffer,
+                       RREZHBUTA_BUFFER_BYTES, (uint8_t *)store.process_buffer, RREZHBUTA_BUFFER_BYTES, answer, room,
+                       store.threads, RREZHBUTA_THREAD_PLACES, number, 100, 40, 0, 0, 0, 0, 0, 0, 0);
     CHECK(answer[RREZHBUTA_ANSWER_WORDS] == OLD);
     for (size_t n = 0; n < RREZHBUTA_ANSWER_WORDS; n++)
         CHECK(refusal == 0 ? answer[n] != OLD : answer[n] == OLD);
@@ -525,11 +532,11 @@ static void all_refused(void)
     REFUSED(RREZHBUTA_EFAULT, rrezhbuta_end_process(&tables, 100));
     REFUSED(RREZHBUTA_EFAULT, rrezhbuta_end_thread(&tables, 200));
     REFUSED(RREZHBUTA_EFAULT, rrezhbuta_kill(&tables, 1, 100, 0, RREZHBUTA_SIGKILL, NULL));
-    REFUSED(RREZHBUTA_EFAULT, rrezhbuta_queue(&tables, 1, 100, 0, 40, 7, NULL));
-    REFUSED(RREZHBUTA_EFAULT, rrezhbuta_action(&tables, 100, 40, NULL, NULL));
-    REFUSED(RREZHBUTA_EFAULT, rrezhbuta_mask(&tables, 200, 0, NULL, NULL));
-    REFUSED(RREZHBUTA_EFAULT, rrezhbuta_pending(&tables, 200, &set));
-    REFUSED(RREZHBUTA_EFAULT, rrezhbuta_looked(&tables, 200, &next));
+    REFUSED(RREZHBUTA_EFAULT, rrezhbuta_sigqueue(&tables, 1, 100, 0, 40, 7, NULL));
+    REFUSED(RREZHBUTA_EFAULT, rrezhbuta_sigaction(&tables, 100, 40, NULL, NULL));
+    REFUSED(RREZHBUTA_EFAULT, rrezhbuta_sigmask(&tables, 200, 0, NULL, NULL));
+    REFUSED(RREZHBUTA_EFAULT, rrezhbuta_sigpending(&tables, 200, &set));
+    REFUSED(RREZHBUTA_EFAULT, rrezhbuta_look(&tables, 200, &next));
     REFUSED(RREZHBUTA_EFAULT, rrezhbuta_who(&tables, 100, &thread));
     REFUSED(RREZHBUTA_EFAULT, rrezhbuta_take(&tables, 200, &taken));
     REFUSED(RREZHBUTA_EFAULT, rrezhbuta_sigreturn(&tables, 200, 0, NULL));
@@ -549,9 +556,10 @@ static void refused_at(size_t *length, size_t wrong)
 static void wrong_lengths(void)
 {
     start();
-    queue_sent(0, 40, 7);
+    sigqueue_sent(0, 40, 7);
     CHECK(rrezhbuta_look_part(&tables, 200) != NULL);
-    size_t *lengths[] = {&tables.process_places, &tables.thread_places, &tables.thread_records, &tables.process_records};
+    size_t *lengths[] = {&tables.process_places, &tables.thread_places, &tables.thread_records,
+                         &tables.process_records};
     for (size_t n = 0; n < sizeof lengths / sizeof *lengths; n++) {
         refused_at(lengths[n], *lengths[n] - 1);
         /* too long by each power of two: 2^59 records more are 2^64 bytes more, which a size_t does not show */
@@ -598,7 +606,7 @@ int main(void)
     masks();
     pending();
     looks();
-    what_was_looked();
+    what_is_next();
     who_can_take();
     a_handler_takes();
     the_order_of_takes();

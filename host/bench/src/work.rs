@@ -61,16 +61,16 @@ fn handler(signal: u32) -> Action {
     }
 }
 
-fn set_action(process: u32, signal: u32) -> Call {
-    Call::Action {
+fn sigaction(process: u32, signal: u32) -> Call {
+    Call::Sigaction {
         process,
         signal,
         new: Some(handler(signal)),
     }
 }
 
-fn queue(to: u32, thread: u32, signal: u32) -> Call {
-    Call::Queue {
+fn sigqueue(to: u32, thread: u32, signal: u32) -> Call {
+    Call::Sigqueue {
         by: to,
         to,
         thread,
@@ -96,10 +96,13 @@ fn filling(process: u32) -> Vec<Call> {
         id: first + k,
     });
     let signals = (1..=LAST).filter(|&s| s != KILL && s != STOP);
-    let actions = signals.map(|signal| set_action(process, signal));
+    let actions = signals.map(|signal| sigaction(process, signal));
     let records = (0..RECORD_LIMIT as u32 / 4).flat_map(|k| {
-        let to_process = queue(process, 0, 40 + k);
-        [to_process, queue(process, first + k % THREADS_EACH, 48 + k)]
+        let to_process = sigqueue(process, 0, 40 + k);
+        [
+            to_process,
+            sigqueue(process, first + k % THREADS_EACH, 48 + k),
+        ]
     });
     let marks = [kill(process, 0, 2), kill(process, first, 15)];
     threads.chain(actions).chain(records).chain(marks).collect()
@@ -129,7 +132,8 @@ fn batch(name: &'static str, count: usize, call: impl Fn(usize) -> Call) -> Batc
     }
 }
 
-/// A batch for each kind of call, in the documented order. Those that use up places or records are as long as these last.
+/// A batch for each kind of call, in the documented order. Those that use up places or records are as long as these
+/// last.
 pub fn batches() -> Vec<Batch> {
     let calls = [
         batch(CALLS[0], 1, |_| Call::Clear),
@@ -141,16 +145,16 @@ pub fn batches() -> Vec<Batch> {
         batch(CALLS[3], 4, |n| Call::EndProcess { id: process(n) }),
         batch(CALLS[4], 16, |n| Call::EndThread { id: thread(n) }),
         batch(CALLS[5], 64, |n| kill(process(n), 0, 32 + n as u32 / 8)),
-        batch(CALLS[6], 64, |n| queue(process(n), thread(n), 33)),
-        batch(CALLS[7], 64, |n| set_action(process(n), 32 + n as u32 / 8)),
-        batch(CALLS[8], 64, |n| mask(thread(n), n as u32 % 3)),
-        batch(CALLS[9], 64, |n| Call::Pending { thread: thread(n) }),
+        batch(CALLS[6], 64, |n| sigqueue(process(n), thread(n), 33)),
+        batch(CALLS[7], 64, |n| sigaction(process(n), 32 + n as u32 / 8)),
+        batch(CALLS[8], 64, |n| sigmask(thread(n), n as u32 % 3)),
+        batch(CALLS[9], 64, |n| Call::Sigpending { thread: thread(n) }),
         batch(CALLS[10], 64, |n| Call::Look { thread: thread(n) }),
         batch(CALLS[11], 64, |n| Call::Who {
             process: process(n),
         }),
         batch(CALLS[12], 64, |n| Call::Take { thread: thread(n) }),
-        batch(CALLS[13], 64, |n| Call::Return {
+        batch(CALLS[13], 64, |n| Call::Sigreturn {
             thread: thread(n),
             mask: 1 << (n % 32),
         }),
@@ -158,8 +162,8 @@ pub fn batches() -> Vec<Batch> {
     calls.into()
 }
 
-fn mask(thread: u32, way: u32) -> Call {
-    Call::Mask {
+fn sigmask(thread: u32, way: u32) -> Call {
+    Call::Sigmask {
         thread,
         way,
         set: Some(1 << 40),

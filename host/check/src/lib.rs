@@ -1,4 +1,5 @@
-//! The proved check of the four lent tables, from the static library, and a plain Rust check of the same clauses beside it.
+//! The proved check of the four lent tables, from the static library, and a plain Rust check of the same clauses beside
+//! it.
 
 /// The capacities, offsets and numbers, from the one file that names them.
 pub mod limits {

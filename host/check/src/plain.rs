@@ -1,5 +1,6 @@
-//! The clauses of soundness as a Rust programmer would write them. Like the proved check it goes by place and by record, counts and notes what is pending
-//! as it goes, and allocates nothing; unlike it, it looks at the rest of a buffer after its records and not before the places.
+//! The clauses of soundness as a Rust programmer would write them. Like the proved check it goes by place and by
+//! record, counts and notes what is pending as it goes, and allocates nothing; unlike it, it looks at the rest of a
+//! buffer after its records and not before the places.
 
 use crate::limits::*;
 use crate::Tables;

@@ -1,4 +1,5 @@
-//! Tables that were reached by calls and then damaged: a call on them is refused with 14 and writes nothing, or they are still sound.
+//! Tables that were reached by calls and then damaged: a call on them is refused with 14 and writes nothing, or they
+//! are still sound.
 
 use crate::edit::{damaged, edits, Edit};
 use crate::image::{decode, encode};
@@ -18,7 +19,8 @@ fn judged(tables: &Tables<'_>) -> Result<Model, Unsound> {
     Model::from_rows(rows)
 }
 
-/// Makes the call on damaged tables on both sides: what it told, and the clause that they break if they are not sound all the same.
+/// Makes the call on damaged tables on both sides: what it told, and the clause that they break if they are not sound
+/// all the same.
 fn compare<L: Layer>(
     layer: &mut L,
     tables: Tables<'static>,
@@ -53,7 +55,7 @@ fn compare_fixed<L: Layer>(
     let found = layer.call(call);
     let mut differs = first_difference(after, layer.tables());
     if let Call::Look { thread } = call {
-        let part = layer.look(*thread);
+        let part = layer.look_part(*thread);
         differs = differs.or((!part.is_empty()).then(|| (Place::Look, both(&"nothing", &part))));
     }
     verdict(call, expected, found, differs)

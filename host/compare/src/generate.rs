@@ -70,10 +70,10 @@ impl Generator {
                 id: self.thread(rows),
             },
             5 => self.kill(rows),
-            6 => self.queue(model),
-            7 => self.action(rows),
-            8 => self.mask(rows),
-            9 => Call::Pending {
+            6 => self.sigqueue(model),
+            7 => self.sigaction(rows),
+            8 => self.sigmask(rows),
+            9 => Call::Sigpending {
                 thread: self.thread(rows),
             },
             10 => Call::Look {
@@ -83,7 +83,7 @@ impl Generator {
                 process: self.process(rows),
             },
             12 => self.take(model),
-            _ => Call::Return {
+            _ => Call::Sigreturn {
                 thread: self.thread(rows),
                 mask: self.set(),
             },
@@ -287,7 +287,7 @@ impl Generator {
     }
 
     /// Where there is no room, a take mostly makes some.
-    fn queue(&mut self, model: &Model) -> Call {
+    fn sigqueue(&mut self, model: &Model) -> Call {
         let rows = model.rows();
         let mut to = self.process(rows);
         for _ in 0..4 {
@@ -299,7 +299,7 @@ impl Generator {
         if !has_room(rows, to) && !self.random.one_in(6) {
             return self.take(model);
         }
-        Call::Queue {
+        Call::Sigqueue {
             by: self.sender(rows, to),
             to,
             thread: self.target_thread(rows, to),
@@ -308,7 +308,7 @@ impl Generator {
         }
     }
 
-    fn action(&mut self, rows: &Rows) -> Call {
+    fn sigaction(&mut self, rows: &Rows) -> Call {
         let mut signal = self.signal();
         let new = (!self.random.one_in(4)).then(|| self.new_action());
         if new.is_some() && (signal == KILL || signal == STOP) && !self.random.one_in(8) {
@@ -317,14 +317,14 @@ impl Generator {
         if signal == 0 && !self.random.one_in(2) {
             signal = LAST;
         }
-        Call::Action {
+        Call::Sigaction {
             process: self.process(rows),
             signal,
             new,
         }
     }
 
-    fn mask(&mut self, rows: &Rows) -> Call {
+    fn sigmask(&mut self, rows: &Rows) -> Call {
         let thread = self.thread(rows);
         let set = (!self.random.one_in(5)).then(|| self.set());
         let way = match self.random.below(16) {
@@ -333,7 +333,7 @@ impl Generator {
         };
         // removing few members leaves much blocked, so the others are removed instead
         let set = set.map(|set| if way == 1 { !set } else { set });
-        Call::Mask { thread, way, set }
+        Call::Sigmask { thread, way, set }
     }
 
     /// A take that would end the process mostly gives way to a handler for the signal.
@@ -346,7 +346,7 @@ impl Generator {
         if let (Some(owner), Some(signal)) = (owner, model.next_signal(thread)) {
             let ends = owner.action(signal).handler == DEFAULT && outcome(signal) == Outcome::End;
             if ends && !self.random.one_in(8) {
-                return Call::Action {
+                return Call::Sigaction {
                     process: owner.id as u32,
                     signal,
                     new: Some(Action {

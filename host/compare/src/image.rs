@@ -117,12 +117,12 @@ fn decode_records(buffer: &[u8]) -> Vec<Record> {
 /// A record of the library as the model's.
 pub fn decode_info(info: Siginfo) -> Record {
     Record {
-        process: info.process,
-        thread: info.thread,
-        signal: info.signal,
+        process: info.target.process().0,
+        thread: info.target.thread().unwrap_or_default().0,
+        signal: info.signal.0,
         code: info.code as u32,
-        sender: info.sender,
-        uid: info.uid,
+        sender: info.sender.0,
+        uid: info.uid.0,
         value: info.value,
     }
 }

@@ -2,7 +2,8 @@
 
 use crate::image::decode_info;
 use crate::step::Told;
-use rrezhbuta::{Next, Sent, SigSet, Tables, Taken};
+use rrezhbuta::{Next, ProcessId, Sent, SessionId, SigSet, Signal, Tables, Taken};
+use rrezhbuta::{Target, ThreadId, UserId};
 use rrezhbuta_model::{self as model, Action, Answer, Call, NewProcess, Set};
 
 /// A signal layer over the documented tables, in the model's words.
@@ -17,7 +18,7 @@ pub trait Layer {
     fn call(&mut self, call: &Call) -> Told;
 
     /// The part that a look hands back.
-    fn look(&self, thread: u32) -> &[u8];
+    fn look_part(&self, thread: u32) -> &[u8];
 }
 
 /// The proved library.
@@ -48,86 +49,89 @@ impl Layer for Library {
         answer.map(from_library).map_err(|errno| errno as u32)
     }
 
-    fn look(&self, thread: u32) -> &[u8] {
-        self.tables.look(thread)
+    fn look_part(&self, thread: u32) -> &[u8] {
+        self.tables.look_part(ThreadId(thread))
     }
 }
 
-/// A call of the model as the library's.
+/// A call of the model, which has plain numbers for ids and signals, as the library's.
 pub fn to_library(call: &Call) -> rrezhbuta::Call {
     use rrezhbuta::Call as Library;
     match *call {
         Call::Clear => Library::Clear,
         Call::AddProcess(ref new) => Library::AddProcess(new_process(new)),
-        Call::AddThread { creator, id } => Library::AddThread { creator, id },
-        Call::EndProcess { id } => Library::EndProcess { id },
-        Call::EndThread { id } => Library::EndThread { id },
-        Call::Kill { .. } | Call::Queue { .. } => send(call),
-        Call::Action {
-            process,
-            signal,
-            new,
-        } => {
-            let new = new.map(action_to_library);
-            Library::Action {
-                process,
-                signal,
-                new,
-            }
+        Call::AddThread { creator, id } => {
+            let [creator, id] = [creator, id].map(ThreadId);
+            Library::AddThread { creator, id }
         }
-        Call::Mask { thread, way, set } => {
-            let set = set.map(SigSet);
-            Library::Mask { thread, way, set }
-        }
-        Call::Pending { thread } => Library::Pending { thread },
-        Call::Look { thread } => Library::Look { thread },
-        Call::Who { process } => Library::Who { process },
-        Call::Take { thread } => Library::Take { thread },
-        Call::Return { thread, mask } => {
-            let mask = SigSet(mask);
-            Library::Return { thread, mask }
-        }
-    }
-}
-
-fn send(call: &Call) -> rrezhbuta::Call {
-    match *call {
+        Call::EndProcess { id } => Library::EndProcess { id: ProcessId(id) },
+        Call::EndThread { id } => Library::EndThread { id: ThreadId(id) },
         Call::Kill {
             by,
             to,
             thread,
             signal,
-        } => rrezhbuta::Call::Kill {
-            by,
-            to,
-            thread,
-            signal,
-        },
-        Call::Queue {
-            by,
-            to,
-            thread,
-            signal,
-            value,
-        } => rrezhbuta::Call::Queue {
+        } => {
+            let (by, to, signal) = (ProcessId(by), target(to, thread), Signal(signal));
+            Library::Kill { by, to, signal }
+        }
+        Call::Sigqueue {
             by,
             to,
             thread,
             signal,
             value,
+        } => Library::Sigqueue {
+            by: ProcessId(by),
+            to: target(to, thread),
+            signal: Signal(signal),
+            value,
         },
-        _ => unreachable!("only sends are made here"),
+        Call::Sigaction {
+            process,
+            signal,
+            new,
+        } => Library::Sigaction {
+            process: ProcessId(process),
+            signal: Signal(signal),
+            new: new.map(action_to_library),
+        },
+        Call::Sigmask { thread, way, set } => {
+            let (thread, set) = (ThreadId(thread), set.map(SigSet));
+            Library::Sigmask { thread, way, set }
+        }
+        Call::Sigreturn { thread, mask } => {
+            let (thread, mask) = (ThreadId(thread), SigSet(mask));
+            Library::Sigreturn { thread, mask }
+        }
+        Call::Who { process } => Library::Who {
+            process: ProcessId(process),
+        },
+        Call::Sigpending { thread } => Library::Sigpending {
+            thread: ThreadId(thread),
+        },
+        Call::Look { thread } => Library::Look {
+            thread: ThreadId(thread),
+        },
+        Call::Take { thread } => Library::Take {
+            thread: ThreadId(thread),
+        },
     }
+}
+
+/// Thread 0 says that the process is meant.
+fn target(process: u32, thread: u32) -> Target {
+    Target::from((ProcessId(process), ThreadId(thread)))
 }
 
 fn new_process(new: &NewProcess) -> rrezhbuta::NewProcess {
     rrezhbuta::NewProcess {
-        id: new.id,
-        real: new.real,
-        effective: new.effective,
-        saved: new.saved,
-        session: new.session,
-        thread: new.thread,
+        id: ProcessId(new.id),
+        real: UserId(new.real),
+        effective: UserId(new.effective),
+        saved: UserId(new.saved),
+        session: SessionId(new.session),
+        thread: ThreadId(new.thread),
         mask: SigSet(new.mask),
     }
 }
@@ -154,7 +158,8 @@ fn from_library(answer: rrezhbuta::Answer) -> Answer {
         Library::OldMask(mask) => Answer::OldMask(Set(mask.0)),
         Library::PendingSet(set) => Answer::PendingSet(Set(set.0)),
         Library::Looked(next) => Answer::Looked(from_next(next)),
-        Library::Taker(thread) => thread.map_or(Answer::NoneCan, Answer::CanTake),
+        Library::Taker(None) => Answer::NoneCan,
+        Library::Taker(Some(thread)) => Answer::CanTake(thread.0),
         Library::Taken(taken) => from_taken(taken),
     }
 }
@@ -173,14 +178,10 @@ fn from_sent(sent: Sent) -> Answer {
 fn from_next(next: Next) -> model::Next {
     match next {
         Next::Nothing => model::Next::Nothing,
-        Next::Mark {
-            process,
-            thread,
-            signal,
-        } => model::Next::Mark {
-            process,
-            thread,
-            signal,
+        Next::Mark { target, signal } => model::Next::Mark {
+            process: target.process().0,
+            thread: target.thread().unwrap_or_default().0,
+            signal: signal.0,
         },
         Next::Record(info) => model::Next::Record(decode_info(info)),
     }
@@ -191,13 +192,13 @@ fn from_taken(taken: Taken) -> Answer {
         Taken::Nothing => Answer::Nothing,
         Taken::Handler(delivery) => Answer::Handler {
             handler: delivery.handler,
-            signal: delivery.signal,
+            signal: delivery.signal.0,
             record: decode_info(delivery.info),
             flags: delivery.flags,
             saved: Set(delivery.saved.0),
         },
-        Taken::End(signal) => Answer::End(signal),
-        Taken::Stop(signal) => Answer::Stop(signal),
-        Taken::NoAction(signal) => Answer::NoAction(signal),
+        Taken::End(signal) => Answer::End(signal.0),
+        Taken::Stop(signal) => Answer::Stop(signal.0),
+        Taken::NoAction(signal) => Answer::NoAction(signal.0),
     }
 }

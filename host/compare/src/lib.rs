@@ -1,5 +1,5 @@
-//! The proved library and the second model on the same random calls. After every call the answers are compared and the four tables, word for word and byte
-//! for byte. A list of calls on which they differ is made as short as it can be.
+//! The proved library and the second model on the same random calls. After every call the answers are compared and the
+//! four tables, word for word and byte for byte. A list of calls on which they differ is made as short as it can be.
 
 pub mod damage;
 pub mod edit;

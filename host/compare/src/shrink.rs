@@ -1,6 +1,7 @@
 //! A failing list made as short as it can be: delta debugging.
 
-/// A part of the list on which `fails` still holds and of which no single item can be left out. `fails` holds of the list itself.
+/// A part of the list on which `fails` still holds and of which no single item can be left out. `fails` holds of the
+/// list itself.
 pub fn shrink<T: Clone>(list: &[T], mut fails: impl FnMut(&[T]) -> bool) -> Vec<T> {
     let mut list = list.to_vec();
     let mut size = list.len().div_ceil(2);

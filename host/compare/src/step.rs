@@ -88,7 +88,7 @@ impl Expectation {
         let Call::Look { thread } = *call else {
             return None;
         };
-        let part = layer.look(thread);
+        let part = layer.look_part(thread);
         let slot = self.model.look_slot(thread);
         let same = match slot {
             None => part.is_empty(),

@@ -12,14 +12,14 @@ pub const CALLS: [&str; 14] = [
     "end_process",
     "end_thread",
     "kill",
-    "queue",
-    "action",
-    "mask",
-    "pending",
+    "sigqueue",
+    "sigaction",
+    "sigmask",
+    "sigpending",
     "look",
     "who",
     "take",
-    "return",
+    "sigreturn",
 ];
 
 /// The answers.
@@ -58,14 +58,14 @@ pub fn kind(call: &Call) -> usize {
         Call::EndProcess { .. } => 3,
         Call::EndThread { .. } => 4,
         Call::Kill { .. } => 5,
-        Call::Queue { .. } => 6,
-        Call::Action { .. } => 7,
-        Call::Mask { .. } => 8,
-        Call::Pending { .. } => 9,
+        Call::Sigqueue { .. } => 6,
+        Call::Sigaction { .. } => 7,
+        Call::Sigmask { .. } => 8,
+        Call::Sigpending { .. } => 9,
         Call::Look { .. } => 10,
         Call::Who { .. } => 11,
         Call::Take { .. } => 12,
-        Call::Return { .. } => 13,
+        Call::Sigreturn { .. } => 13,
     }
 }
 
@@ -188,7 +188,14 @@ impl fmt::Display for Summary {
             f,
             "{damaged} on damaged tables, {unharmed} of these sound all the same"
         )?;
-        writeln!(f, "at once up to {processes} processes, {threads} threads, {to_threads} records aimed at a thread, {to_processes} at a process")?;
+        write!(
+            f,
+            "at once up to {processes} processes, {threads} threads, "
+        )?;
+        writeln!(
+            f,
+            "{to_threads} records aimed at a thread, {to_processes} at a process"
+        )?;
         writeln!(f, "\n{:<16}{:>10}{:>10}", "call", "accepted", "refused")?;
         for (name, [accepted, refused]) in CALLS.iter().zip(self.calls) {
             writeln!(f, "{name:<16}{accepted:>10}{refused:>10}")?;

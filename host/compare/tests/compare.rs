@@ -90,7 +90,7 @@ impl Layer for Faulty {
         told
     }
 
-    fn look(&self, thread: u32) -> &[u8] {
+    fn look_part(&self, thread: u32) -> &[u8] {
         let slot = self.model().and_then(|model| model.look_slot(thread));
         match slot {
             None => &[],
@@ -104,7 +104,7 @@ impl Layer for Faulty {
 
 /// KILL is refused where a record is pending.
 fn kill_needs_room(model: &Model, call: &Call) -> Option<Told> {
-    let (Call::Kill { to, signal: 9, .. } | Call::Queue { to, signal: 9, .. }) = *call else {
+    let (Call::Kill { to, signal: 9, .. } | Call::Sigqueue { to, signal: 9, .. }) = *call else {
         return None;
     };
     let records = &model.rows().process_records;
@@ -148,7 +148,7 @@ fn planted() -> [Call; 3] {
         thread: own,
         mask: 0,
     });
-    let queue = Call::Queue {
+    let sigqueue = Call::Sigqueue {
         by: own,
         to: own,
         thread: 0,
@@ -161,7 +161,7 @@ fn planted() -> [Call; 3] {
         thread: 0,
         signal: 9,
     };
-    [add, queue, kill]
+    [add, sigqueue, kill]
 }
 
 #[test]
@@ -169,7 +169,7 @@ fn a_planted_fault_is_shrunk_to_its_calls() {
     let harmless = |call: &Call| {
         !matches!(
             call,
-            Call::Clear | Call::Kill { signal: 9, .. } | Call::Queue { signal: 9, .. }
+            Call::Clear | Call::Kill { signal: 9, .. } | Call::Sigqueue { signal: 9, .. }
         )
     };
     let mut calls = noise(900, harmless);

@@ -42,19 +42,19 @@ fn call(text: &str) -> Call {
         "end_process" => Call::EndProcess { id: a.low("id") },
         "end_thread" => Call::EndThread { id: a.low("id") },
         "kill" | "queue" => send(&a),
-        "action" => Call::Action {
+        "action" => Call::Sigaction {
             process: a.low("process"),
             signal: a.low("signal"),
             new: a.action(),
         },
         "mask" => mask(&a),
-        "pending" => Call::Pending { thread: thread() },
+        "pending" => Call::Sigpending { thread: thread() },
         "look" => Call::Look { thread: thread() },
         "who" => Call::Who {
             process: a.low("process"),
         },
         "take" => Call::Take { thread: thread() },
-        "return" => Call::Return {
+        "return" => Call::Sigreturn {
             thread: thread(),
             mask: a.0["mask"],
         },
@@ -84,7 +84,7 @@ fn send(a: &Arguments) -> Call {
             thread,
             signal,
         },
-        Some(&value) => Call::Queue {
+        Some(&value) => Call::Sigqueue {
             by,
             to,
             thread,
@@ -95,7 +95,7 @@ fn send(a: &Arguments) -> Call {
 }
 
 fn mask(a: &Arguments) -> Call {
-    Call::Mask {
+    Call::Sigmask {
         thread: a.low("thread"),
         way: a.low("way"),
         set: a.0.get("set").copied(),

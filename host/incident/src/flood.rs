@@ -2,14 +2,15 @@
 
 use crate::failure::Failure;
 use crate::room::{Room, LOADER, VIEWER};
-use rrezhbuta::{Errno, Sent};
+use rrezhbuta::{Errno, Sent, Signal, Target};
 use std::time::{Duration, Instant};
 
 /// The signal that says: one more facet.
-pub const FACET: u32 = 40;
+pub const FACET: Signal = Signal(40);
 /// The loader's sends between two messages of the technicians.
 pub const SENDS_A_TURN: u64 = 4;
-/// The loader's sends between two looks at the clock: more than a queue has room for, so that it is full however slow the machine.
+/// The loader's sends between two looks at the clock: more than a queue has room for, so that it is full however slow
+/// the machine.
 pub const SENDS_A_LOOK: u64 = 64;
 
 /// When the operator steps in, whichever comes first.
@@ -44,7 +45,8 @@ impl Counts {
     }
 }
 
-/// Sends for as many facets as are claimed, within the bounds; the technicians work on in between. `watch` is told now and then.
+/// Sends for as many facets as are claimed, within the bounds; the technicians work on in between. `watch` is told now
+/// and then.
 pub fn flood(
     room: &mut Room,
     claimed: u32,
@@ -53,8 +55,9 @@ pub fn flood(
 ) -> Result<Counts, Failure> {
     let start = Instant::now();
     let mut counts = Counts::default();
+    let viewer = Target::Process(VIEWER);
     for facet in 0..bounds.sends.min(claimed.into()) {
-        counts.count(room.tables.queue(LOADER, VIEWER, 0, FACET, facet))?;
+        counts.count(room.tables.sigqueue(LOADER, viewer, FACET, facet))?;
         if counts.sent.is_multiple_of(SENDS_A_TURN) {
             room.turn()?;
         }

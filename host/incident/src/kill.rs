@@ -2,8 +2,8 @@
 
 use crate::failure::{ensure, Failure};
 use crate::room::OPERATOR;
-use rrezhbuta::limits::{PROCESS_ID, PROCESS_WORDS, RECORD_BYTES, SIGKILL};
-use rrezhbuta::{Errno, Sent, Siginfo, Tables};
+use rrezhbuta::limits::{PROCESS_ID, PROCESS_WORDS, RECORD_BYTES};
+use rrezhbuta::{Errno, ProcessId, Sent, Siginfo, Signal, Tables, Target};
 
 /// Which of the two sends is used.
 #[derive(Clone, Copy, Debug, PartialEq, Eq)]
@@ -11,31 +11,32 @@ pub enum Means {
     /// The plain one.
     Kill,
     /// The queued one.
-    Queue,
+    Sigqueue,
 }
 
 /// Sends KILL to a process, and finds it gone.
-pub fn kill(tables: &mut Tables<'_>, means: Means, target: u32) -> Result<(), Failure> {
+pub fn kill(tables: &mut Tables<'_>, means: Means, process: ProcessId) -> Result<(), Failure> {
+    let target = Target::Process(process);
     let answer = match means {
-        Means::Kill => tables.kill(OPERATOR, target, 0, SIGKILL),
-        Means::Queue => tables.queue(OPERATOR, target, 0, SIGKILL, 0),
+        Means::Kill => tables.kill(OPERATOR, target, Signal::KILL),
+        Means::Sigqueue => tables.sigqueue(OPERATOR, target, Signal::KILL, 0),
     };
     ensure(answer == Ok(Sent::Acted), || {
-        format!("KILL to {target} did not land: {answer:?}")
+        format!("KILL to {process} did not land: {answer:?}")
     })?;
-    gone(tables, target)
+    gone(tables, process)
 }
 
 /// No table names the process, and it can no longer be signalled.
-pub fn gone(tables: &mut Tables<'_>, target: u32) -> Result<(), Failure> {
-    let test = tables.kill(OPERATOR, target, 0, 0);
+pub fn gone(tables: &mut Tables<'_>, process: ProcessId) -> Result<(), Failure> {
+    let test = tables.kill(OPERATOR, Target::Process(process), Signal(0));
     ensure(
-        test == Err(Errno::ESRCH) && !is_named(tables, target),
-        || format!("process {target} is still there"),
+        test == Err(Errno::ESRCH) && !is_named(tables, process),
+        || format!("process {process} is still there"),
     )
 }
 
-fn is_named(tables: &Tables<'_>, process: u32) -> bool {
+fn is_named(tables: &Tables<'_>, process: ProcessId) -> bool {
     let id = u64::from(process);
     let mut places = tables.processes().chunks(PROCESS_WORDS);
     let has_place = places.any(|place| place[PROCESS_ID] == id);
@@ -46,7 +47,7 @@ fn is_named(tables: &Tables<'_>, process: u32) -> bool {
     has_place || has_thread || has_record
 }
 
-fn names(buffer: &[u8], process: u32) -> bool {
+fn names(buffer: &[u8], process: ProcessId) -> bool {
     let mut records = buffer.chunks(RECORD_BYTES).filter_map(Siginfo::from_bytes);
-    records.any(|record| record.process == process)
+    records.any(|record| record.target.process() == process)
 }

@@ -4,7 +4,7 @@ use crate::flood::{Counts, FACET};
 use crate::replay::{Report, NEXT_VIEWER};
 use crate::room::{user_of, EVERYONE, LOADER, OPERATOR, TECHNICIANS, VIEWER};
 use rrezhbuta::limits::{BUFFER_RECORDS, EAGAIN, PROCESS_PLACES, RECORD_LIMIT};
-use rrezhbuta::Tables;
+use rrezhbuta::{ProcessId, Tables};
 use std::fmt;
 
 /// The fields that begin a row; the others stand beside them.
@@ -12,7 +12,8 @@ const ROW_STARTS: [&str; 4] = ["Pid:", "ShdPnd:", "Tid:", "Queued:"];
 /// A queue of more rows is cut.
 const LONGEST_QUEUE: usize = 3;
 
-/// Writes the page. A replay ends at the first claim that is not so; there is a report only where no technician was refused and KILL has acted each time.
+/// Writes the page. A replay ends at the first claim that is not so; there is a report only where no technician was
+/// refused and KILL has acted each time.
 pub fn write(f: &mut fmt::Formatter<'_>, report: &Report) -> fmt::Result {
     write_room(f, report)?;
     write_tables(f, "Before", &report.before, &[LOADER, VIEWER])?;
@@ -40,7 +41,7 @@ fn write_tables(
     f: &mut fmt::Formatter<'_>,
     when: &str,
     tables: &Tables<'_>,
-    processes: &[u32],
+    processes: &[ProcessId],
 ) -> fmt::Result {
     writeln!(f, "{when}:")?;
     for row in rows(tables, processes) {
@@ -68,10 +69,10 @@ fn write_flood(f: &mut fmt::Formatter<'_>, report: &Report) -> fmt::Result {
 
 fn write_kill(f: &mut fmt::Formatter<'_>) -> fmt::Result {
     writeln!(f, "The operator's KILL, with the viewer's queue full:")?;
-    writeln!(f, "  viewer by queue: acted; loader by kill: acted")?;
+    writeln!(f, "  viewer by sigqueue: acted; loader by kill: acted")?;
     write!(
         f,
-        "  on a copy, viewer by kill: acted; loader by queue: acted; "
+        "  on a copy, viewer by kill: acted; loader by sigqueue: acted; "
     )?;
     writeln!(f, "the same tables\n")
 }
@@ -100,7 +101,7 @@ fn write_contrast(f: &mut fmt::Formatter<'_>) -> fmt::Result {
 }
 
 /// The tables as the crate shows them: those processes alone, a few fields to a row, long queues cut.
-pub fn rows(tables: &Tables<'_>, processes: &[u32]) -> Vec<String> {
+pub fn rows(tables: &Tables<'_>, processes: &[ProcessId]) -> Vec<String> {
     let mut rows = Vec::new();
     let mut is_shown = false;
     for line in tables.to_string().lines() {

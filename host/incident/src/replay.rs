@@ -6,14 +6,14 @@ use crate::kill::{kill, Means};
 use crate::room::{viewer, Room, Work, LOADER, TECHNICIANS, VIEWER};
 use crate::{mesh, page};
 use rrezhbuta::limits::RECORD_LIMIT;
-use rrezhbuta::{Sent, Tables};
+use rrezhbuta::{ProcessId, Sent, Tables, Target};
 use std::fmt;
 use std::time::{Duration, Instant};
 
 /// The facets that the file claims.
 pub const CLAIM: u32 = u32::MAX;
 /// The viewer that is started afterwards.
-pub const NEXT_VIEWER: u32 = 121;
+pub const NEXT_VIEWER: ProcessId = ProcessId(121);
 /// The technicians' messages afterwards.
 pub const TURNS_AFTER: u64 = 1000;
 
@@ -49,8 +49,8 @@ impl fmt::Display for Report {
 pub fn kill_by_either(tables: &mut Tables<'_>) -> Result<(), Failure> {
     let mut copy = tables.snapshot();
     kill(&mut copy, Means::Kill, VIEWER)?;
-    kill(&mut copy, Means::Queue, LOADER)?;
-    kill(tables, Means::Queue, VIEWER)?;
+    kill(&mut copy, Means::Sigqueue, LOADER)?;
+    kill(tables, Means::Sigqueue, VIEWER)?;
     kill(tables, Means::Kill, LOADER)?;
     ensure(*tables == copy, || "the two sends differ".to_string())
 }
@@ -61,7 +61,8 @@ fn go_on(room: &mut Room) -> Result<(), Failure> {
         room.turn()?;
     }
     let added = room.tables.add_process(viewer(NEXT_VIEWER));
-    let sent = added.and_then(|()| room.tables.queue(TECHNICIANS[0], NEXT_VIEWER, 0, FACET, 0));
+    let (owner, to) = (TECHNICIANS[0], Target::Process(NEXT_VIEWER));
+    let sent = added.and_then(|()| room.tables.sigqueue(owner, to, FACET, 0));
     ensure(sent == Ok(Sent::Kept), || {
         format!("the next viewer's first signal: {sent:?}")
     })

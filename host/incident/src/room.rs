@@ -1,36 +1,42 @@
 //! The room: the operator, four technicians, and what one of them has started.
 
 use crate::failure::{ensure, Failure};
-use rrezhbuta::{Action, Errno, NewProcess, Sent, SigSet, Tables, Taken};
+use rrezhbuta::{Action, Errno, NewProcess, ProcessId, Sent, SessionId, SigSet, Signal, Tables};
+use rrezhbuta::{Taken, Target, ThreadId, UserId};
 
 /// The operator's process, of user 0.
-pub const OPERATOR: u32 = 100;
+pub const OPERATOR: ProcessId = ProcessId(100);
 /// The technicians' processes.
-pub const TECHNICIANS: [u32; 4] = [101, 102, 103, 104];
+pub const TECHNICIANS: [ProcessId; 4] = [
+    ProcessId(101),
+    ProcessId(102),
+    ProcessId(103),
+    ProcessId(104),
+];
 /// The loader that the first technician has started.
-pub const LOADER: u32 = 110;
+pub const LOADER: ProcessId = ProcessId(110);
 /// The viewer that the loader sends its facets to.
-pub const VIEWER: u32 = 120;
+pub const VIEWER: ProcessId = ProcessId(120);
 /// All of them.
-pub const EVERYONE: [u32; 7] = {
+pub const EVERYONE: [ProcessId; 7] = {
     let [a, b, c, d] = TECHNICIANS;
     [OPERATOR, a, b, c, d, LOADER, VIEWER]
 };
 
 /// The signal of a message between technicians.
-const MESSAGE: u32 = 34;
+const MESSAGE: Signal = Signal(34);
 const HANDLER: u64 = 5000;
 /// The owner of the messenger, a set-user-id program that every technician runs: by it they may signal each other.
-const MESSENGER: u32 = 1000;
+const MESSENGER: UserId = UserId(1000);
 
 /// The user of a technician: each has one.
-pub fn user_of(technician: u32) -> u32 {
-    MESSENGER + technician - OPERATOR
+pub fn user_of(technician: ProcessId) -> UserId {
+    UserId(MESSENGER.0 + technician.0 - OPERATOR.0)
 }
 
 /// The one thread of a process.
-pub fn thread_of(process: u32) -> u32 {
-    process + 100
+pub fn thread_of(process: ProcessId) -> ThreadId {
+    ThreadId(process.0 + 100)
 }
 
 /// What the technicians have done; each call of it was accepted, or the replay has ended.
@@ -50,20 +56,20 @@ pub struct Room {
     pub work: Work,
 }
 
-/// A process of one user.
-fn process(id: u32, user: u32, session: u32) -> NewProcess {
+/// A process of one user, in the session that the leader has begun.
+fn process(id: ProcessId, user: UserId, leader: ProcessId) -> NewProcess {
     NewProcess {
         id,
         real: user,
         effective: user,
         saved: user,
-        session,
+        session: SessionId(leader.0),
         thread: thread_of(id),
         mask: SigSet::EMPTY,
     }
 }
 
-fn technician(id: u32) -> NewProcess {
+fn technician(id: ProcessId) -> NewProcess {
     NewProcess {
         effective: MESSENGER,
         saved: MESSENGER,
@@ -72,7 +78,7 @@ fn technician(id: u32) -> NewProcess {
 }
 
 /// A viewer of the first technician. It blocks all that can be blocked while it draws.
-pub fn viewer(id: u32) -> NewProcess {
+pub fn viewer(id: ProcessId) -> NewProcess {
     let owner = TECHNICIANS[0];
     NewProcess {
         mask: SigSet(u64::MAX),
@@ -82,7 +88,7 @@ pub fn viewer(id: u32) -> NewProcess {
 
 fn processes() -> Vec<NewProcess> {
     let owner = TECHNICIANS[0];
-    let mut all = vec![process(OPERATOR, 0, OPERATOR)];
+    let mut all = vec![process(OPERATOR, UserId(0), OPERATOR)];
     all.extend(TECHNICIANS.map(technician));
     all.extend([process(LOADER, user_of(owner), owner), viewer(VIEWER)]);
     all
@@ -107,7 +113,7 @@ impl Room {
         };
         for technician in TECHNICIANS {
             tables
-                .set_action(technician, MESSAGE, action)
+                .set_sigaction(technician, MESSAGE, action)
                 .map_err(refused("a technician's action"))?;
         }
         let work = Work::default();
@@ -124,8 +130,9 @@ impl Room {
         self.take(from, to, message)
     }
 
-    fn send(&mut self, from: u32, to: u32, message: u64) -> Result<(), Failure> {
-        let sent = self.tables.queue(from, to, 0, MESSAGE, message);
+    fn send(&mut self, from: ProcessId, to: ProcessId, message: u64) -> Result<(), Failure> {
+        let to = Target::Process(to);
+        let sent = self.tables.sigqueue(from, to, MESSAGE, message);
         let sent = sent.map_err(refused("a technician's send"))?;
         self.work.sends += 1;
         ensure(sent == Sent::Kept, || {
@@ -134,7 +141,7 @@ impl Room {
     }
 
     /// Takes what was sent, as it was sent, and returns from the handler.
-    fn take(&mut self, from: u32, to: u32, message: u64) -> Result<(), Failure> {
+    fn take(&mut self, from: ProcessId, to: ProcessId, message: u64) -> Result<(), Failure> {
         let thread = thread_of(to);
         let taken = self.tables.take(thread);
         let taken = taken.map_err(refused("a technician's take"))?;

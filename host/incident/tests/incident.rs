@@ -1,7 +1,7 @@
 //! The replay on short runs, and that each of its checks can fail.
 
 use rrezhbuta::limits::{RECORD_BYTES, RECORD_LIMIT};
-use rrezhbuta::{Siginfo, Tables};
+use rrezhbuta::{ProcessId, Siginfo, Signal, Tables, Target};
 use rrezhbuta_incident::failure::Failure;
 use rrezhbuta_incident::flood::{flood, Bounds, Counts, FACET, SENDS_A_LOOK};
 use rrezhbuta_incident::kill::{gone, kill, Means};
@@ -88,14 +88,15 @@ fn the_flood_leaves_all_others_as_they_were() {
     assert!(rest.iter().all(|&byte| byte == 0));
     for (value, bytes) in (0..).zip(used.chunks(RECORD_BYTES)) {
         let info = Siginfo::from_bytes(bytes).unwrap();
-        let found = (info.process, info.signal, info.sender, info.value);
-        assert_eq!(found, (VIEWER, FACET, LOADER, value));
+        let found = (info.target, info.signal, info.sender, info.value);
+        let viewer = Target::Process(VIEWER);
+        assert_eq!(found, (viewer, FACET, LOADER, value));
     }
 }
 
 #[test]
 fn kill_lands_by_either_send() {
-    for means in [Means::Kill, Means::Queue] {
+    for means in [Means::Kill, Means::Sigqueue] {
         let mut room = flooded();
         kill(&mut room.tables, means, VIEWER).unwrap();
         kill(&mut room.tables, means, LOADER).unwrap();
@@ -134,12 +135,13 @@ fn a_refused_technician_ends_the_replay() {
 #[test]
 fn a_technician_who_takes_something_else_ends_the_replay() {
     let mut room = Room::open().unwrap();
-    let to = TECHNICIANS[1];
-    room.tables.queue(OPERATOR, to, 0, 34, 0).unwrap();
+    let to = Target::Process(TECHNICIANS[1]);
+    let message = Signal(34);
+    room.tables.sigqueue(OPERATOR, to, message, 0).unwrap();
     assert!(said(room.turn()).starts_with("a technician took another message"));
-    room.tables.kill(OPERATOR, to, 0, 2).unwrap();
+    room.tables.kill(OPERATOR, to, Signal::INT).unwrap();
     room.work = Work::default();
-    assert_eq!(said(room.turn()), "a technician took End(2)");
+    assert_eq!(said(room.turn()), "a technician took End(Signal(2))");
 }
 
 #[test]
@@ -155,7 +157,7 @@ fn a_kill_that_does_not_land_is_found() {
     let mut room = flooded();
     let live = said(gone(&mut room.tables, VIEWER));
     assert_eq!(live, "process 120 is still there");
-    let failure = said(kill(&mut room.tables, Means::Kill, 999));
+    let failure = said(kill(&mut room.tables, Means::Kill, ProcessId(999)));
     assert_eq!(failure, "KILL to 999 did not land: Err(ESRCH)");
     room.tables.end_process(LOADER).unwrap();
     assert!(said(kill_by_either(&mut room.tables)).starts_with("KILL to 110 did not land"));

@@ -48,17 +48,17 @@ pub enum Call {
         id: u32,
     },
     Send(Send),
-    Action {
+    Sigaction {
         process: u32,
         signal: u32,
         new: Option<Action>,
     },
-    Mask {
+    Sigmask {
         thread: u32,
         way: u32,
         set: Option<u64>,
     },
-    Pending {
+    Sigpending {
         thread: u32,
     },
     Look {
@@ -70,7 +70,7 @@ pub enum Call {
     Take {
         thread: u32,
     },
-    Return {
+    Sigreturn {
         thread: u32,
         mask: u64,
     },
@@ -165,12 +165,12 @@ impl Call {
     /// The calls of one process or thread.
     fn of_one(name: &str, words: &mut Words) -> Result<Call, String> {
         Ok(match name {
-            "action" => Call::Action {
+            "action" => Call::Sigaction {
                 process: words.number("process")?,
                 signal: words.number("signal")?,
                 new: new_action(words)?,
             },
-            "mask" => Call::Mask {
+            "mask" => Call::Sigmask {
                 thread: words.number("thread")?,
                 way: words.number("way")?,
                 set: if words.at_end() {
@@ -179,7 +179,7 @@ impl Call {
                     Some(words.number("set")?)
                 },
             },
-            "pending" => Call::Pending {
+            "pending" => Call::Sigpending {
                 thread: words.number("thread")?,
             },
             "look" => Call::Look {
@@ -191,7 +191,7 @@ impl Call {
             "take" => Call::Take {
                 thread: words.number("thread")?,
             },
-            "return" => Call::Return {
+            "return" => Call::Sigreturn {
                 thread: words.number("thread")?,
                 mask: words.number("mask")?,
             },

@@ -1,4 +1,5 @@
-//! The history that the program `worked` writes: for each call a line with it, a line with its answer, and the lines of the tables after it.
+//! The history that the program `worked` writes: for each call a line with it, a line with its answer, and the lines of
+//! the tables after it.
 
 use crate::call::{number, Call, Words};
 use crate::side::{Action, Process, Queue, Record, Side, Thread};

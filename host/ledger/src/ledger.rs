@@ -1,4 +1,5 @@
-//! The ledger: it starts empty and is told of each call its arguments and whether it was refused, and nothing of the tables.
+//! The ledger: it starts empty and is told of each call its arguments and whether it was refused, and nothing of the
+//! tables.
 
 use crate::call::{AddProcess, Call, Send};
 use crate::limits::*;
@@ -63,21 +64,21 @@ impl Ledger {
             Call::EndProcess { id } => self.end_process(id),
             Call::EndThread { id } => self.end_thread(id),
             Call::Send(send) => self.send(send),
-            Call::Action {
+            Call::Sigaction {
                 process,
                 signal,
                 new: Some(new),
             } => self.store(process, signal, new),
-            Call::Mask {
+            Call::Sigmask {
                 thread,
                 way,
                 set: Some(set),
             } => self.change_mask(thread, way, set),
             Call::Take { thread } => self.take(thread),
-            Call::Return { thread, mask } => self.change_mask(thread, SIG_SETMASK, mask),
+            Call::Sigreturn { thread, mask } => self.change_mask(thread, SIG_SETMASK, mask),
             // those that only ask
-            Call::Action { .. } | Call::Mask { .. } => {}
-            Call::Pending { .. } | Call::Look { .. } | Call::Who { .. } => {}
+            Call::Sigaction { .. } | Call::Sigmask { .. } => {}
+            Call::Sigpending { .. } | Call::Look { .. } | Call::Who { .. } => {}
         }
     }
 

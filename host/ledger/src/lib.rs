@@ -1,4 +1,5 @@
-//! Demand 3's ledger as document 01 has it, and a history of calls on which it is held against the tables, call by call.
+//! Demand 3's ledger as document 01 has it, and a history of calls on which it is held against the tables, call by
+//! call.
 
 /// The capacities and numbers, from the one file that names them.
 pub mod limits {

@@ -40,13 +40,13 @@ impl Ledger {
             Call::Clear | Call::AddProcess(_) | Call::AddThread { .. } => "done".into(),
             Call::EndProcess { .. } | Call::EndThread { .. } => "done".into(),
             Call::Send(send) => format!("{:?}", self.fate(send)).to_lowercase(),
-            Call::Action {
+            Call::Sigaction {
                 process, signal, ..
             } => format!("old action {}", self.action(process, signal)),
-            Call::Mask { thread, .. } | Call::Return { thread, .. } => {
+            Call::Sigmask { thread, .. } | Call::Sigreturn { thread, .. } => {
                 format!("old mask {}", self.mask(thread))
             }
-            Call::Pending { thread } => format!("pending set {}", self.blocked_pending(thread)),
+            Call::Sigpending { thread } => format!("pending set {}", self.blocked_pending(thread)),
             Call::Look { thread } => self.looked(thread),
             Call::Who { process } => self.who(process),
             Call::Take { thread } => self.taken(thread),
@@ -114,7 +114,7 @@ impl Ledger {
                 (EAGAIN, self.threads_are_full()),
             ]),
             Call::Send(send) => self.refused_send(send),
-            Call::Action {
+            Call::Sigaction {
                 process,
                 signal,
                 new,
@@ -123,7 +123,7 @@ impl Ledger {
                 (EINVAL, new.is_some() && matches!(signal, SIGKILL | SIGSTOP)),
                 (ESRCH, self.process(process).is_none()),
             ]),
-            Call::Mask { thread, way, set } => first(&[
+            Call::Sigmask { thread, way, set } => first(&[
                 (EINVAL, set.is_some() && way > SIG_SETMASK),
                 (ESRCH, self.thread(thread).is_none()),
             ]),
@@ -131,10 +131,10 @@ impl Ledger {
                 first(&[(ESRCH, self.process(process).is_none())])
             }
             Call::EndThread { id: thread }
-            | Call::Pending { thread }
+            | Call::Sigpending { thread }
             | Call::Look { thread }
             | Call::Take { thread }
-            | Call::Return { thread, .. } => first(&[(ESRCH, self.thread(thread).is_none())]),
+            | Call::Sigreturn { thread, .. } => first(&[(ESRCH, self.thread(thread).is_none())]),
         }
     }
 

@@ -39,8 +39,10 @@ const WRONGS: [(&str, &str, &str); 17] = [
     ("sender=1 uid=0 value=2\n", "sender=1 uid=1 value=2\n", "the records of"),
     ("record process=100 thread=201 signal=20 code=-1 sender=1 uid=0 value=4\n", "", "the records of"),
     (
-        "record process=100 thread=0 signal=40 code=-1 sender=100 uid=1000 value=1\nrecord process=100 thread=0 signal=40 code=-1 sender=1 uid=0 value=2\n",
-        "record process=100 thread=0 signal=40 code=-1 sender=1 uid=0 value=2\nrecord process=100 thread=0 signal=40 code=-1 sender=100 uid=1000 value=1\n",
+        "record process=100 thread=0 signal=40 code=-1 sender=100 uid=1000 value=1\n\
+         record process=100 thread=0 signal=40 code=-1 sender=1 uid=0 value=2\n",
+        "record process=100 thread=0 signal=40 code=-1 sender=1 uid=0 value=2\n\
+         record process=100 thread=0 signal=40 code=-1 sender=100 uid=1000 value=1\n",
         "the records of",
     ),
     // more than the ledger has
@@ -128,10 +130,16 @@ const BAD: [(&str, &str); 19] = [
     ("call clear\nanswer done\nanswer done", "line 3"),
     ("answer done", "line 1: no call"),
     ("process id=1", "line 1: no call"),
-    ("call clear\nanswer done\nprocess id=1 real=0 effective=0 saved=0 session=0 stopped=2 marks", "line 3: stopped is 2"),
+    (
+        "call clear\nanswer done\nprocess id=1 real=0 effective=0 saved=0 session=0 stopped=2 marks",
+        "line 3: stopped is 2",
+    ),
     ("call clear\nanswer done\nprocess id=1 real=0 effective=0 saved=0 session=0 stopped=0", "line 3: the word marks"),
     ("call clear\nanswer done\nthread id=1 process=1 mask=2 marks", "line 3: `2`"),
-    ("call clear\nanswer done\nthread id=1 process=1 mask=0x0 marks\nthread id=1 process=1 mask=0x0 marks", "line 4: thread 1 stands twice"),
+    (
+        "call clear\nanswer done\nthread id=1 process=1 mask=0x0 marks\nthread id=1 process=1 mask=0x0 marks",
+        "line 4: thread 1 stands twice",
+    ),
     ("call clear\nanswer done\naction process=1 signal=2 handler=1 flags=0 mask=0x0", "line 3: no such process"),
 ];
 

@@ -58,7 +58,7 @@ pub enum Call {
         signal: u32,
     },
     /// Sends a signal with a value.
-    Queue {
+    Sigqueue {
         /// The sending process.
         by: u32,
         /// The target process.
@@ -71,7 +71,7 @@ pub enum Call {
         value: u64,
     },
     /// Asks for an action, or stores one.
-    Action {
+    Sigaction {
         /// The process.
         process: u32,
         /// The signal.
@@ -80,7 +80,7 @@ pub enum Call {
         new: Option<Action>,
     },
     /// Asks for a mask, or changes it.
-    Mask {
+    Sigmask {
         /// The thread.
         thread: u32,
         /// 0 adds the set, 1 removes its members, 2 replaces the mask.
@@ -89,7 +89,7 @@ pub enum Call {
         set: Option<u64>,
     },
     /// Asks which blocked signals are pending.
-    Pending {
+    Sigpending {
         /// The thread.
         thread: u32,
     },
@@ -109,7 +109,7 @@ pub enum Call {
         thread: u32,
     },
     /// Returns from a handler.
-    Return {
+    Sigreturn {
         /// The thread.
         thread: u32,
         /// The saved mask.

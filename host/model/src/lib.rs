@@ -1,5 +1,6 @@
-//! A second model of the signal layer, written from document 01, POSIX and the settled readings alone. It shares no code, no number and no table layout
-//! with the proved layer, so that where the two agree they do not agree by having a common source.
+//! A second model of the signal layer, written from document 01, POSIX and the settled readings alone. It shares no
+//! code, no number and no table layout with the proved layer, so that where the two agree they do not agree by having a
+//! common source.
 //!
 //! ```
 //! use rrezhbuta_model::{Answer, Call, Model, NewProcess};

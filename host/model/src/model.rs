@@ -58,7 +58,8 @@ impl Model {
         judge(&self.rows)
     }
 
-    /// One call: its answer, or the errno of its refusal, which changes nothing. The store is sound, so 14 is never given.
+    /// One call: its answer, or the errno of its refusal, which changes nothing. The store is sound, so 14 is never
+    /// given.
     pub fn call(&mut self, call: &Call) -> Result<Answer, u32> {
         match *call {
             Call::Clear => Ok(self.clear()),
@@ -72,24 +73,24 @@ impl Model {
                 thread,
                 signal,
             } => self.send(by, to, thread, signal, None),
-            Call::Queue {
+            Call::Sigqueue {
                 by,
                 to,
                 thread,
                 signal,
                 value,
             } => self.send(by, to, thread, signal, Some(value)),
-            Call::Action {
+            Call::Sigaction {
                 process,
                 signal,
                 new,
-            } => self.action(process, signal, new),
-            Call::Mask { thread, way, set } => self.mask(thread, way, set),
-            Call::Pending { thread } => self.pending(thread),
+            } => self.sigaction(process, signal, new),
+            Call::Sigmask { thread, way, set } => self.sigmask(thread, way, set),
+            Call::Sigpending { thread } => self.sigpending(thread),
             Call::Look { thread } => self.look(thread),
             Call::Who { process } => self.who(process),
             Call::Take { thread } => self.take(thread),
-            Call::Return { thread, mask } => self.mask(thread, 2, Some(mask)),
+            Call::Sigreturn { thread, mask } => self.sigmask(thread, 2, Some(mask)),
         }
     }
 }

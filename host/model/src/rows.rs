@@ -117,7 +117,8 @@ pub struct Record {
     pub value: u64,
 }
 
-/// The whole state: the two tables place by place, and the records of each buffer up to the last that is not all zero, the oldest first.
+/// The whole state: the two tables place by place, and the records of each buffer up to the last that is not all zero,
+/// the oldest first.
 #[derive(Clone, Debug, PartialEq, Eq)]
 pub struct Rows {
     /// The process table.

@@ -63,7 +63,8 @@ impl Model {
         Answer::Acted
     }
 
-    /// Steps 2 to 5. Step 2 removes nothing that steps 3 and 4 ask about, so these are judged first, and errno 11 before anything changes.
+    /// Steps 2 to 5. Step 2 removes nothing that steps 3 and 4 ask about, so these are judged first, and errno 11
+    /// before anything changes.
     fn deliver(&mut self, record: Record, queued: bool) -> Result<Answer, u32> {
         let (to, signal) = (record.process, record.signal);
         let queue = Queue {

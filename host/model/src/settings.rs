@@ -8,7 +8,7 @@ use crate::signal::{Set, FLAGS, KILL, LAST, STOP};
 use crate::store::Queue;
 
 impl Model {
-    pub(crate) fn action(
+    pub(crate) fn sigaction(
         &mut self,
         process: u32,
         signal: u32,
@@ -38,7 +38,12 @@ impl Model {
         }
     }
 
-    pub(crate) fn mask(&mut self, thread: u32, way: u32, set: Option<u64>) -> Result<Answer, u32> {
+    pub(crate) fn sigmask(
+        &mut self,
+        thread: u32,
+        way: u32,
+        set: Option<u64>,
+    ) -> Result<Answer, u32> {
         if set.is_some() && way > 2 {
             return Err(EINVAL);
         }
@@ -56,7 +61,7 @@ impl Model {
         Ok(Answer::OldMask(old))
     }
 
-    pub(crate) fn pending(&self, thread: u32) -> Result<Answer, u32> {
+    pub(crate) fn sigpending(&self, thread: u32) -> Result<Answer, u32> {
         let thread = self.thread(thread)?;
         let [own, shared] = queues(thread);
         let pending = self.pending_in(own).or(self.pending_in(shared));

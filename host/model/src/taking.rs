@@ -26,7 +26,8 @@ fn reset(action: Action) -> Action {
 }
 
 impl Model {
-    /// The lowest unblocked signal; at equal numbers the thread's queue goes first, and in a queue the oldest record before the mark.
+    /// The lowest unblocked signal; at equal numbers the thread's queue goes first, and in a queue the oldest record
+    /// before the mark.
     fn next(&self, thread: &Thread) -> Option<Found> {
         let owner = self.process(thread.process as u32).expect("a live owner");
         if owner.stopped != 0 {

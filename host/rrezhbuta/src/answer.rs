@@ -1,7 +1,8 @@
 //! The answers, and how the C boundary writes them.
 
 use crate::limits::*;
-use crate::{Action, SigSet, Siginfo};
+use crate::siginfo::target;
+use crate::{Action, SigSet, Siginfo, Signal, Target, ThreadId};
 
 /// What became of a send.
 #[derive(Clone, Copy, Debug, PartialEq, Eq, Hash)]
@@ -27,12 +28,10 @@ pub enum Next {
     Nothing,
     /// A mark.
     Mark {
-        /// The process of the queue that it is in.
-        process: u32,
-        /// The thread of that queue, or 0 for the process's own.
-        thread: u32,
+        /// Whom it is pending for.
+        target: Target,
         /// The signal.
-        signal: u32,
+        signal: Signal,
     },
     /// A record.
     Record(Siginfo),
@@ -44,7 +43,7 @@ pub struct Delivery {
     /// The handler number.
     pub handler: u64,
     /// The signal.
-    pub signal: u32,
+    pub signal: Signal,
     /// The flags of the action, as they were before RESETHAND.
     pub flags: u64,
     /// The mask before, for the return.
@@ -61,11 +60,11 @@ pub enum Taken {
     /// A signal with a handler.
     Handler(Delivery),
     /// This signal ended the process.
-    End(u32),
+    End(Signal),
     /// This signal stopped the process.
-    Stop(u32),
+    Stop(Signal),
     /// This signal, CONT, did nothing more.
-    NoAction(u32),
+    NoAction(Signal),
 }
 
 /// What an accepted call answers.
@@ -84,7 +83,7 @@ pub enum Answer {
     /// Of a look.
     Looked(Next),
     /// The thread that can take something, if one can.
-    Taker(Option<u32>),
+    Taker(Option<ThreadId>),
     /// Of a take.
     Taken(Taken),
 }
@@ -96,7 +95,7 @@ impl Answer {
     ///
     /// Where the words are no answer, which the library never writes.
     pub fn from_words(words: &[u64; ANSWER_WORDS]) -> Answer {
-        let low = words[1] as u32;
+        let signal = Signal(words[1] as u32);
         match words[0] {
             ANSWER_DONE => Answer::Done,
             ANSWER_TESTED => Answer::Sent(Sent::Tested),
@@ -111,13 +110,13 @@ impl Answer {
             ANSWER_NEXT_NOTHING => Answer::Looked(Next::Nothing),
             ANSWER_NEXT_MARK => Answer::Looked(mark(words)),
             ANSWER_NEXT_RECORD => Answer::Looked(Next::Record(Siginfo::from_words(&words[1..]))),
-            ANSWER_CAN_TAKE => Answer::Taker(Some(low)),
+            ANSWER_CAN_TAKE => Answer::Taker(Some(ThreadId(words[1] as u32))),
             ANSWER_NONE_CAN => Answer::Taker(None),
             ANSWER_NOTHING => Answer::Taken(Taken::Nothing),
             ANSWER_HANDLER => Answer::Taken(Taken::Handler(delivery(words))),
-            ANSWER_END => Answer::Taken(Taken::End(low)),
-            ANSWER_STOP => Answer::Taken(Taken::Stop(low)),
-            ANSWER_NO_ACTION => Answer::Taken(Taken::NoAction(low)),
+            ANSWER_END => Answer::Taken(Taken::End(signal)),
+            ANSWER_STOP => Answer::Taken(Taken::Stop(signal)),
+            ANSWER_NO_ACTION => Answer::Taken(Taken::NoAction(signal)),
             other => unreachable!("answer {other}"),
         }
     }
@@ -133,16 +132,15 @@ fn action(words: &[u64; ANSWER_WORDS]) -> Action {
 
 fn mark(words: &[u64; ANSWER_WORDS]) -> Next {
     Next::Mark {
-        process: words[1] as u32,
-        thread: words[2] as u32,
-        signal: words[3] as u32,
+        target: target(words[1] as u32, words[2] as u32),
+        signal: Signal(words[3] as u32),
     }
 }
 
 fn delivery(words: &[u64; ANSWER_WORDS]) -> Delivery {
     Delivery {
         handler: words[1],
-        signal: words[2] as u32,
+        signal: Signal(words[2] as u32),
         flags: words[3],
         saved: SigSet(words[4]),
         info: Siginfo::from_words(&words[5..]),

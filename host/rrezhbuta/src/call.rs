@@ -2,7 +2,7 @@
 
 use crate::limits::*;
 use crate::raw::Numbers;
-use crate::SigSet;
+use crate::{ProcessId, SessionId, SigSet, Signal, Target, ThreadId, UserId};
 
 /// What a process does on a signal.
 #[derive(Clone, Copy, Debug, Default, PartialEq, Eq, Hash)]
@@ -31,17 +31,17 @@ pub enum Way {
 #[derive(Clone, Copy, Debug, Default, PartialEq, Eq, Hash)]
 pub struct NewProcess {
     /// Its id.
-    pub id: u32,
+    pub id: ProcessId,
     /// Real user id.
-    pub real: u32,
+    pub real: UserId,
     /// Effective user id.
-    pub effective: u32,
+    pub effective: UserId,
     /// Saved user id.
-    pub saved: u32,
+    pub saved: UserId,
     /// Session id.
-    pub session: u32,
+    pub session: SessionId,
     /// The id of the first thread.
-    pub thread: u32,
+    pub thread: ThreadId,
     /// The mask of that thread; KILL and STOP are left out.
     pub mask: SigSet,
 }
@@ -56,86 +56,82 @@ pub enum Call {
     /// Adds a thread to its creator's process.
     AddThread {
         /// A thread.
-        creator: u32,
+        creator: ThreadId,
         /// The new thread.
-        id: u32,
+        id: ThreadId,
     },
     /// Ends a process.
     EndProcess {
         /// The process.
-        id: u32,
+        id: ProcessId,
     },
     /// Ends a thread.
     EndThread {
         /// The thread.
-        id: u32,
+        id: ThreadId,
     },
     /// Sends a signal without a value.
     Kill {
         /// The sending process.
-        by: u32,
-        /// The target process.
-        to: u32,
-        /// A thread of the target, or 0 for the process itself.
-        thread: u32,
+        by: ProcessId,
+        /// The target.
+        to: Target,
         /// The signal, or 0 to test.
-        signal: u32,
+        signal: Signal,
     },
     /// Sends a signal with a value.
-    Queue {
+    Sigqueue {
         /// The sending process.
-        by: u32,
-        /// The target process.
-        to: u32,
-        /// A thread of the target, or 0 for the process itself.
-        thread: u32,
+        by: ProcessId,
+        /// The target.
+        to: Target,
         /// The signal, or 0 to test.
-        signal: u32,
+        signal: Signal,
         /// The value.
         value: u64,
     },
     /// Asks for an action, or stores one.
-    Action {
+    Sigaction {
         /// The process.
-        process: u32,
+        process: ProcessId,
         /// The signal.
-        signal: u32,
+        signal: Signal,
         /// The action to store.
         new: Option<Action>,
     },
     /// Asks for a mask, or changes it.
-    Mask {
+    Sigmask {
         /// The thread.
-        thread: u32,
+        thread: ThreadId,
         /// The number of a [`Way`]; others are refused where a set is given.
         way: u32,
         /// The set.
         set: Option<SigSet>,
     },
     /// Asks which blocked signals are pending.
-    Pending {
+    Sigpending {
         /// The thread.
-        thread: u32,
+        thread: ThreadId,
     },
-    /// Asks what a look would find.
+    /// Asks what is next.
     Look {
         /// The thread.
-        thread: u32,
+        thread: ThreadId,
     },
     /// Asks which thread can take something.
     Who {
         /// The process.
-        process: u32,
+        process: ProcessId,
     },
     /// Takes the next signal.
     Take {
         /// The thread.
-        thread: u32,
+        thread: ThreadId,
     },
     /// Returns from a handler.
-    Return {
+    Sigreturn {
         /// The thread.
-        thread: u32,
+        thread: ThreadId,
         /// The saved mask.
         mask: SigSet,
     },
@@ -158,9 +154,10 @@ fn numbers<const N: usize, const W: usize>(
 
 impl NewProcess {
     fn numbers(&self) -> Numbers {
-        let ids = [self.id, self.real, self.effective, self.saved];
-        let [id, real, effective, saved] = ids;
-        let narrow = [id, real, effective, saved, self.session, self.thread];
+        let users = [self.real, self.effective, self.saved];
+        let [real, effective, saved] = users.map(|user| user.0);
+        let (session, thread) = (self.session.0, self.thread.0);
+        let narrow = [self.id.0, real, effective, saved, session, thread];
         numbers(CALL_ADD_PROCESS, narrow, [self.mask.0])
     }
 }
@@ -171,46 +168,47 @@ impl Call {
         match *self {
             Call::Clear => numbers(CALL_CLEAR, [], []),
             Call::AddProcess(process) => process.numbers(),
-            Call::AddThread { creator, id } => numbers(CALL_ADD_THREAD, [creator, id], []),
-            Call::EndProcess { id } => numbers(CALL_END_PROCESS, [id], []),
-            Call::EndThread { id } => numbers(CALL_END_THREAD, [id], []),
-            Call::Kill {
+            Call::AddThread { creator, id } => numbers(CALL_ADD_THREAD, [creator.0, id.0], []),
+            Call::EndProcess { id } => numbers(CALL_END_PROCESS, [id.0], []),
+            Call::EndThread { id } => numbers(CALL_END_THREAD, [id.0], []),
+            Call::Kill { by, to, signal } => numbers(CALL_KILL, send_numbers(by, to, signal), []),
+            Call::Sigqueue {
                 by,
                 to,
-                thread,
-                signal,
-            } => numbers(CALL_KILL, [by, to, thread, signal], []),
-            Call::Queue {
-                by,
-                to,
-                thread,
                 signal,
                 value,
-            } => numbers(CALL_SIGQUEUE, [by, to, thread, signal], [value]),
-            Call::Action {
+            } => numbers(CALL_SIGQUEUE, send_numbers(by, to, signal), [value]),
+            Call::Sigaction {
                 process,
                 signal,
                 new,
-            } => action_numbers(process, signal, new),
-            Call::Mask { thread, way, set } => mask_numbers(thread, way, set),
-            Call::Pending { thread } => numbers(CALL_SIGPENDING, [thread], []),
-            Call::Look { thread } => numbers(CALL_LOOK, [thread], []),
-            Call::Who { process } => numbers(CALL_WHO, [process], []),
-            Call::Take { thread } => numbers(CALL_TAKE, [thread], []),
-            Call::Return { thread, mask } => numbers(CALL_SIGRETURN, [thread], [mask.0]),
+            } => sigaction_numbers(process, signal, new),
+            Call::Sigmask { thread, way, set } => sigmask_numbers(thread, way, set),
+            Call::Sigpending { thread } => numbers(CALL_SIGPENDING, [thread.0], []),
+            Call::Look { thread } => numbers(CALL_LOOK, [thread.0], []),
+            Call::Who { process } => numbers(CALL_WHO, [process.0], []),
+            Call::Take { thread } => numbers(CALL_TAKE, [thread.0], []),
+            Call::Sigreturn { thread, mask } => numbers(CALL_SIGRETURN, [thread.0], [mask.0]),
         }
     }
 }
 
+/// The third number is the thread, or 0 where the process is meant.
+fn send_numbers(by: ProcessId, to: Target, signal: Signal) -> [u32; 4] {
+    let thread = to.thread().unwrap_or_default();
+    [by.0, to.process().0, thread.0, signal.0]
+}
+
 /// The third number says whether an action is given.
-fn action_numbers(process: u32, signal: u32, new: Option<Action>) -> Numbers {
+fn sigaction_numbers(process: ProcessId, signal: Signal, new: Option<Action>) -> Numbers {
     let action = new.unwrap_or_default();
     let wide = [action.handler, action.flags, action.mask.0];
-    numbers(CALL_SIGACTION, [process, signal, new.is_some() as u32], wide)
+    let narrow = [process.0, signal.0, new.is_some() as u32];
+    numbers(CALL_SIGACTION, narrow, wide)
 }
 
 /// The third number says whether a set is given.
-fn mask_numbers(thread: u32, way: u32, set: Option<SigSet>) -> Numbers {
-    let given = set.is_some() as u32;
-    numbers(CALL_SIGMASK, [thread, way, given], [set.unwrap_or_default().0])
+fn sigmask_numbers(thread: ThreadId, way: u32, set: Option<SigSet>) -> Numbers {
+    let narrow = [thread.0, way, set.is_some() as u32];
+    numbers(CALL_SIGMASK, narrow, [set.unwrap_or_default().0])
 }

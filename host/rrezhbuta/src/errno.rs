@@ -6,9 +6,9 @@ use std::fmt;
 /// Why a call was refused. The number is that of Linux on x86-64.
 ///
 /// ```
-/// use rrezhbuta::{Errno, Tables};
+/// use rrezhbuta::{Errno, Tables, ThreadId};
 ///
-/// let refusal = Tables::new().take(200).unwrap_err();
+/// let refusal = Tables::new().take(ThreadId(200)).unwrap_err();
 /// assert_eq!(refusal, Errno::ESRCH);
 /// assert_eq!(refusal as u32, 3);
 /// assert_eq!(refusal.to_string(), "no such process or thread (ESRCH)");

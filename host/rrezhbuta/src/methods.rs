@@ -3,6 +3,7 @@
 use crate::limits::{ANSWER_WORDS, BUFFER_RECORDS, RECORD_BYTES, SIG_BLOCK};
 use crate::raw;
 use crate::{Action, Answer, Call, Errno, NewProcess, Next, Sent, SigSet, Tables, Taken, Way};
+use crate::{ProcessId, Signal, Target, ThreadId};
 
 /// Each call has its own answers, which the library's promises fix.
 fn unexpected(answer: Answer) -> ! {
@@ -43,14 +44,15 @@ fn record(buffer: &[u8], slot: usize) -> &[u8] {
 }
 
 impl Tables<'_> {
-    /// One call as a value: its answer, or why it was refused, and then no table has changed. Every other method but the look goes through here.
+    /// One call as a value: its answer, or why it was refused, and then no table has changed. Every other method but
+    /// `look_part` goes through here.
     ///
     /// ```
-    /// use rrezhbuta::{Answer, Call, Errno, Tables};
+    /// use rrezhbuta::{Answer, Call, Errno, Tables, ThreadId};
     ///
     /// let mut tables = Tables::new();
     /// assert_eq!(tables.call(&Call::Clear), Ok(Answer::Done));
-    /// assert_eq!(tables.call(&Call::EndThread { id: 7 }), Err(Errno::ESRCH));
+    /// assert_eq!(tables.call(&Call::EndThread { id: ThreadId(7) }), Err(Errno::ESRCH));
     /// ```
     pub fn call(&mut self, call: &Call) -> Result<Answer, Errno> {
         let mut words = [0; ANSWER_WORDS];
@@ -71,53 +73,46 @@ impl Tables<'_> {
     }
 
     /// Adds a thread to its creator's process, with its creator's mask.
-    pub fn add_thread(&mut self, creator: u32, id: u32) -> Result<(), Errno> {
+    pub fn add_thread(&mut self, creator: ThreadId, id: ThreadId) -> Result<(), Errno> {
         self.call(&Call::AddThread { creator, id }).map(done)
     }
 
     /// Ends a process, with its threads and all that is pending for them.
-    pub fn end_process(&mut self, id: u32) -> Result<(), Errno> {
+    pub fn end_process(&mut self, id: ProcessId) -> Result<(), Errno> {
         self.call(&Call::EndProcess { id }).map(done)
     }
 
     /// Ends a thread; the last one of a process ends the process.
-    pub fn end_thread(&mut self, id: u32) -> Result<(), Errno> {
+    pub fn end_thread(&mut self, id: ThreadId) -> Result<(), Errno> {
         self.call(&Call::EndThread { id }).map(done)
     }
 
-    /// Process `by` sends a signal to process `to`, or to a thread of it where that is not 0. Signal 0 only tests.
-    pub fn kill(&mut self, by: u32, to: u32, thread: u32, signal: u32) -> Result<Sent, Errno> {
-        let call = Call::Kill {
-            by,
-            to,
-            thread,
-            signal,
-        };
-        self.call(&call).map(sent)
+    /// Process `by` sends a signal to a process or to a thread. Signal 0 only tests.
+    pub fn kill(&mut self, by: ProcessId, to: Target, signal: Signal) -> Result<Sent, Errno> {
+        self.call(&Call::Kill { by, to, signal }).map(sent)
     }
 
     /// As `kill`, with a value: what is kept is a record.
     ///
     /// ```
-    /// use rrezhbuta::{NewProcess, Sent, Tables};
+    /// use rrezhbuta::{NewProcess, ProcessId, Sent, Signal, Tables, Target, ThreadId};
     ///
+    /// let (process, thread) = (ProcessId(100), ThreadId(200));
     /// let mut tables = Tables::new();
-    /// tables.add_process(NewProcess { id: 100, thread: 200, ..NewProcess::default() })?;
-    /// assert_eq!(tables.queue(100, 100, 200, 40, 7)?, Sent::Kept);
+    /// tables.add_process(NewProcess { id: process, thread, ..NewProcess::default() })?;
+    /// assert_eq!(tables.sigqueue(process, Target::Thread(process, thread), Signal(40), 7)?, Sent::Kept);
     /// # Ok::<(), rrezhbuta::Errno>(())
     /// ```
-    pub fn queue(
+    pub fn sigqueue(
         &mut self,
-        by: u32,
-        to: u32,
-        thread: u32,
-        signal: u32,
+        by: ProcessId,
+        to: Target,
+        signal: Signal,
         value: u64,
     ) -> Result<Sent, Errno> {
-        let call = Call::Queue {
+        let call = Call::Sigqueue {
             by,
             to,
-            thread,
             signal,
             value,
         };
@@ -125,38 +120,39 @@ impl Tables<'_> {
     }
 
     /// The action of a signal.
-    pub fn action(&mut self, process: u32, signal: u32) -> Result<Action, Errno> {
-        self.change_action(process, signal, None)
+    pub fn sigaction(&mut self, process: ProcessId, signal: Signal) -> Result<Action, Errno> {
+        self.change_sigaction(process, signal, None)
     }
 
     /// Stores an action and answers the old one. What is ignored from now on is no longer pending.
     ///
     /// ```
-    /// use rrezhbuta::{Action, NewProcess, SigSet, Tables};
+    /// use rrezhbuta::{Action, NewProcess, ProcessId, SigSet, Signal, Tables, ThreadId};
     ///
+    /// let process = ProcessId(100);
     /// let mut tables = Tables::new();
-    /// tables.add_process(NewProcess { id: 100, thread: 200, ..NewProcess::default() })?;
+    /// tables.add_process(NewProcess { id: process, thread: ThreadId(200), ..NewProcess::default() })?;
     /// let handler = Action { handler: 5000, flags: 4, mask: SigSet(2048) };
-    /// assert_eq!(tables.set_action(100, 40, handler)?, Action::default());
-    /// assert_eq!(tables.action(100, 40)?, handler);
+    /// assert_eq!(tables.set_sigaction(process, Signal(40), handler)?, Action::default());
+    /// assert_eq!(tables.sigaction(process, Signal(40))?, handler);
     /// # Ok::<(), rrezhbuta::Errno>(())
     /// ```
-    pub fn set_action(
+    pub fn set_sigaction(
         &mut self,
-        process: u32,
-        signal: u32,
+        process: ProcessId,
+        signal: Signal,
         action: Action,
     ) -> Result<Action, Errno> {
-        self.change_action(process, signal, Some(action))
+        self.change_sigaction(process, signal, Some(action))
     }
 
-    fn change_action(
+    fn change_sigaction(
         &mut self,
-        process: u32,
-        signal: u32,
+        process: ProcessId,
+        signal: Signal,
         new: Option<Action>,
     ) -> Result<Action, Errno> {
-        let call = Call::Action {
+        let call = Call::Sigaction {
             process,
             signal,
             new,
@@ -165,39 +161,45 @@ impl Tables<'_> {
     }
 
     /// The mask of a thread.
-    pub fn mask(&mut self, thread: u32) -> Result<SigSet, Errno> {
+    pub fn sigmask(&mut self, thread: ThreadId) -> Result<SigSet, Errno> {
         let (way, set) = (SIG_BLOCK, None);
-        self.call(&Call::Mask { thread, way, set }).map(old_mask)
+        self.call(&Call::Sigmask { thread, way, set }).map(old_mask)
     }
 
     /// Changes the mask of a thread and answers the old one; KILL and STOP are left out.
     ///
     /// ```
-    /// use rrezhbuta::{NewProcess, SigSet, Tables, Way};
+    /// use rrezhbuta::{NewProcess, ProcessId, SigSet, Tables, ThreadId, Way};
     ///
+    /// let (id, thread, mask) = (ProcessId(100), ThreadId(200), SigSet(6));
     /// let mut tables = Tables::new();
-    /// tables.add_process(NewProcess { id: 100, thread: 200, mask: SigSet(6), ..NewProcess::default() })?;
-    /// assert_eq!(tables.set_mask(200, Way::Unblock, SigSet(2))?, SigSet(6));
-    /// assert_eq!(tables.mask(200)?, SigSet(4));
+    /// tables.add_process(NewProcess { id, thread, mask, ..NewProcess::default() })?;
+    /// assert_eq!(tables.set_sigmask(thread, Way::Unblock, SigSet(2))?, SigSet(6));
+    /// assert_eq!(tables.sigmask(thread)?, SigSet(4));
     /// # Ok::<(), rrezhbuta::Errno>(())
     /// ```
-    pub fn set_mask(&mut self, thread: u32, way: Way, set: SigSet) -> Result<SigSet, Errno> {
+    pub fn set_sigmask(
+        &mut self,
+        thread: ThreadId,
+        way: Way,
+        set: SigSet,
+    ) -> Result<SigSet, Errno> {
         let (way, set) = (way as u32, Some(set));
-        self.call(&Call::Mask { thread, way, set }).map(old_mask)
+        self.call(&Call::Sigmask { thread, way, set }).map(old_mask)
     }
 
     /// The signals that are pending for a thread or its process and that the thread blocks.
-    pub fn pending(&mut self, thread: u32) -> Result<SigSet, Errno> {
-        match self.call(&Call::Pending { thread })? {
+    pub fn sigpending(&mut self, thread: ThreadId) -> Result<SigSet, Errno> {
+        match self.call(&Call::Sigpending { thread })? {
             Answer::PendingSet(set) => Ok(set),
             other => unexpected(other),
         }
     }
 
-    /// The 32 bytes of the record that a thread takes next, a part of the buffer that holds it; empty for a mark, for nothing, and where the look is
-    /// refused. `looked` tells these apart.
-    pub fn look(&self, thread: u32) -> &[u8] {
-        let slot = raw::look(self, thread) as usize;
+    /// The 32 bytes of the record that a thread takes next, a part of the buffer that holds it; empty for a mark, for
+    /// nothing, and where the look is refused. `look` tells these apart.
+    pub fn look_part(&self, thread: ThreadId) -> &[u8] {
+        let slot = raw::look_slot(self, thread.0) as usize;
         match slot {
             0 => &[],
             1..=BUFFER_RECORDS => record(&self.thread_buffer, slot - 1),
@@ -205,8 +207,8 @@ impl Tables<'_> {
         }
     }
 
-    /// What a look finds.
-    pub fn looked(&mut self, thread: u32) -> Result<Next, Errno> {
+    /// What a thread would take next.
+    pub fn look(&mut self, thread: ThreadId) -> Result<Next, Errno> {
         match self.call(&Call::Look { thread })? {
             Answer::Looked(next) => Ok(next),
             other => unexpected(other),
@@ -214,7 +216,7 @@ impl Tables<'_> {
     }
 
     /// The thread in the lowest place of a process that can take something.
-    pub fn who(&mut self, process: u32) -> Result<Option<u32>, Errno> {
+    pub fn who(&mut self, process: ProcessId) -> Result<Option<ThreadId>, Errno> {
         match self.call(&Call::Who { process })? {
             Answer::Taker(thread) => Ok(thread),
             other => unexpected(other),
@@ -224,18 +226,19 @@ impl Tables<'_> {
     /// A thread takes its next signal.
     ///
     /// ```
-    /// use rrezhbuta::{Action, NewProcess, SigSet, Tables, Taken};
+    /// use rrezhbuta::{Action, NewProcess, ProcessId, SigSet, Signal, Tables, Taken, Target, ThreadId};
     ///
+    /// let (process, thread) = (ProcessId(100), ThreadId(200));
     /// let mut tables = Tables::new();
-    /// tables.add_process(NewProcess { id: 100, thread: 200, ..NewProcess::default() })?;
-    /// tables.set_action(100, 10, Action { handler: 5000, ..Action::default() })?;
-    /// tables.kill(100, 100, 0, 10)?;
-    /// let Taken::Handler(delivery) = tables.take(200)? else { panic!() };
-    /// assert_eq!((delivery.handler, delivery.signal), (5000, 10));
-    /// assert_eq!(tables.sigreturn(200, delivery.saved)?, SigSet::of_signal(10));
+    /// tables.add_process(NewProcess { id: process, thread, ..NewProcess::default() })?;
+    /// tables.set_sigaction(process, Signal::INT, Action { handler: 5000, ..Action::default() })?;
+    /// tables.kill(process, Target::Process(process), Signal::INT)?;
+    /// let Taken::Handler(delivery) = tables.take(thread)? else { panic!() };
+    /// assert_eq!((delivery.handler, delivery.signal), (5000, Signal::INT));
+    /// assert_eq!(tables.sigreturn(thread, delivery.saved)?, SigSet::of_signal(Signal::INT));
     /// # Ok::<(), rrezhbuta::Errno>(())
     /// ```
-    pub fn take(&mut self, thread: u32) -> Result<Taken, Errno> {
+    pub fn take(&mut self, thread: ThreadId) -> Result<Taken, Errno> {
         match self.call(&Call::Take { thread })? {
             Answer::Taken(taken) => Ok(taken),
             other => unexpected(other),
@@ -243,7 +246,7 @@ impl Tables<'_> {
     }
 
     /// A thread returns from a handler: its mask becomes the saved one, and the mask before is answered.
-    pub fn sigreturn(&mut self, thread: u32, mask: SigSet) -> Result<SigSet, Errno> {
-        self.call(&Call::Return { thread, mask }).map(old_mask)
+    pub fn sigreturn(&mut self, thread: ThreadId, mask: SigSet) -> Result<SigSet, Errno> {
+        self.call(&Call::Sigreturn { thread, mask }).map(old_mask)
     }
 }

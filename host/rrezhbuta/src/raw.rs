@@ -1,4 +1,5 @@
-//! The C boundary as it is, for a host that numbers its calls itself, and all the code of this crate that the compiler cannot check.
+//! The C boundary as it is, for a host that numbers its calls itself, and all the code of this crate that the compiler
+//! cannot check.
 
 #![allow(unsafe_code)]
 
@@ -39,7 +40,7 @@ extern "C" {
         z: u64,
     ) -> u64;
 
-    fn rrezhbuta_look(
+    fn rrezhbuta_look_slot(
         processes: *const u64,
         process_words: usize,
         thread_buffer: *const u8,
@@ -52,7 +53,8 @@ extern "C" {
     ) -> u64;
 }
 
-/// One call. Returns 0 with the answer's words in `answer`, or the errno with nothing written; an `answer` of under 12 words is 22 after 14.
+/// One call. Returns 0 with the answer's words in `answer`, or the errno with nothing written; an `answer` of under 12
+/// words is 22 after 14.
 ///
 /// ```
 /// use rrezhbuta::raw::{call, Numbers};
@@ -71,8 +73,8 @@ pub fn call(tables: &mut Tables<'_>, answer: &mut [u64], numbers: &Numbers) -> u
     } = tables;
     let [a, b, c, d, e, f] = numbers.narrow;
     let [x, y, z] = numbers.wide;
-    // SAFETY: each pointer is that of a live slice that is borrowed for the call alone and comes with its length; no two overlap. The library reads and
-    // writes within the lengths, answers any contents, and keeps no pointer.
+    // SAFETY: each pointer is that of a live slice that is borrowed for the call alone and comes with its length; no
+    // two overlap. The library reads and writes within the lengths, answers any contents, and keeps no pointer.
     unsafe {
         rrezhbuta_call(
             processes.as_mut_ptr(),
@@ -99,12 +101,13 @@ pub fn call(tables: &mut Tables<'_>, answer: &mut [u64], numbers: &Numbers) -> u
     }
 }
 
-/// Where the record lies that a thread takes next: 0 for none, 1 to 512 for a slot of the thread buffer, 513 to 1024 for a slot of the process buffer.
-pub fn look(tables: &Tables<'_>, thread: u32) -> u64 {
-    // SAFETY: each pointer is that of a live slice that is borrowed for the call and comes with its length; the library only reads, within the lengths,
-    // and keeps no pointer.
+/// Where the record lies that a thread takes next: 0 for none, 1 to 512 for a slot of the thread buffer, 513 to 1024
+/// for a slot of the process buffer.
+pub fn look_slot(tables: &Tables<'_>, thread: u32) -> u64 {
+    // SAFETY: each pointer is that of a live slice that is borrowed for the call and comes with its length; the library
+    // only reads, within the lengths, and keeps no pointer.
     unsafe {
-        rrezhbuta_look(
+        rrezhbuta_look_slot(
             tables.processes.as_ptr(),
             tables.processes.len(),
             tables.thread_buffer.as_ptr(),

@@ -1,22 +1,21 @@
 //! Records.
 
 use crate::limits::*;
+use crate::{ProcessId, Signal, Target, ThreadId, UserId};
 
 /// A pending signal with what its sender said of it.
 #[derive(Clone, Copy, Debug, PartialEq, Eq, Hash)]
 pub struct Siginfo {
-    /// The process that it is pending for.
-    pub process: u32,
-    /// The thread that it is pending for; 0 for the process itself.
-    pub thread: u32,
+    /// Whom it is pending for.
+    pub target: Target,
     /// The signal.
-    pub signal: u32,
+    pub signal: Signal,
     /// -1 for a queued one, 0 for a mark.
     pub code: i32,
     /// The process that sent it; 0 for a mark.
-    pub sender: u32,
+    pub sender: ProcessId,
     /// The real user id of the sender; 0 for a mark.
-    pub uid: u32,
+    pub uid: UserId,
     /// The value; 0 for a mark.
     pub value: u64,
 }
@@ -25,13 +24,14 @@ impl Siginfo {
     /// The record that 32 bytes of a buffer say; none for a part of another length, as a look hands back for a mark.
     ///
     /// ```
-    /// use rrezhbuta::{NewProcess, Siginfo, Tables};
+    /// use rrezhbuta::{NewProcess, ProcessId, Siginfo, Signal, Tables, Target, ThreadId};
     ///
+    /// let (process, thread) = (ProcessId(100), ThreadId(200));
     /// let mut tables = Tables::new();
-    /// tables.add_process(NewProcess { id: 100, thread: 200, ..NewProcess::default() })?;
-    /// tables.queue(100, 100, 0, 40, 7)?;
-    /// let info = Siginfo::from_bytes(tables.look(200)).unwrap();
-    /// assert_eq!((info.signal, info.code, info.value), (40, -1, 7));
+    /// tables.add_process(NewProcess { id: process, thread, ..NewProcess::default() })?;
+    /// tables.sigqueue(process, Target::Process(process), Signal(40), 7)?;
+    /// let info = Siginfo::from_bytes(tables.look_part(thread)).unwrap();
+    /// assert_eq!((info.signal, info.code, info.value), (Signal(40), -1, 7));
     /// # Ok::<(), rrezhbuta::Errno>(())
     /// ```
     pub fn from_bytes(bytes: &[u8]) -> Option<Siginfo> {
@@ -40,12 +40,11 @@ impl Siginfo {
         }
         let low = |at| read::<4>(bytes, at).map(u32::from_le_bytes);
         Some(Siginfo {
-            process: low(RECORD_PROCESS)?,
-            thread: low(RECORD_THREAD)?,
-            signal: low(RECORD_SIGNAL)?,
+            target: target(low(RECORD_PROCESS)?, low(RECORD_THREAD)?),
+            signal: Signal(low(RECORD_SIGNAL)?),
             code: low(RECORD_CODE)? as i32,
-            sender: low(RECORD_SENDER)?,
-            uid: low(RECORD_UID)?,
+            sender: ProcessId(low(RECORD_SENDER)?),
+            uid: UserId(low(RECORD_UID)?),
             value: read::<8>(bytes, RECORD_VALUE).map(u64::from_le_bytes)?,
         })
     }
@@ -54,15 +53,19 @@ impl Siginfo {
     pub(crate) fn from_words(words: &[u64]) -> Siginfo {
         let low = |i: usize| words[i] as u32;
         Siginfo {
-            process: low(0),
-            thread: low(1),
-            signal: low(2),
+            target: target(low(0), low(1)),
+            signal: Signal(low(2)),
             code: low(3) as i32,
-            sender: low(4),
-            uid: low(5),
+            sender: ProcessId(low(4)),
+            uid: UserId(low(5)),
             value: words[6],
         }
     }
+}
+
+/// Of the two numbers that a record and an answer have.
+pub(crate) fn target(process: u32, thread: u32) -> Target {
+    Target::from((ProcessId(process), ThreadId(thread)))
 }
 
 fn read<const WIDTH: usize>(bytes: &[u8], at: usize) -> Option<[u8; WIDTH]> {

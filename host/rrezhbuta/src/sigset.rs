@@ -1,14 +1,15 @@
 //! Sets of signals.
 
-use crate::limits::{SIGKILL, SIGNALS, SIGSTOP};
+use crate::limits::SIGNALS;
+use crate::Signal;
 use std::fmt;
 
 /// A set of signals: signal s is bit s-1. A tuple struct, so that a mask and a plain value cannot be mixed.
 ///
 /// ```
-/// use rrezhbuta::SigSet;
+/// use rrezhbuta::{SigSet, Signal};
 ///
-/// let set = SigSet::of_signal(9).union(SigSet::of_signal(10));
+/// let set = SigSet::of_signal(Signal::KILL).union(SigSet::of_signal(Signal(10)));
 /// assert_eq!(set, SigSet(768));
 /// assert_eq!(set.without(SigSet::UNMASKABLE), SigSet(512));
 /// assert_eq!(set.to_string(), "0000000000000300");
@@ -21,14 +22,15 @@ impl SigSet {
     /// No signal.
     pub const EMPTY: SigSet = SigSet(0);
     /// KILL and STOP, which no mask holds.
-    pub const UNMASKABLE: SigSet = SigSet(1 << (SIGKILL - 1) | 1 << (SIGSTOP - 1));
+    pub const UNMASKABLE: SigSet =
+        SigSet::of_signal(Signal::KILL).union(SigSet::of_signal(Signal::STOP));
 
-    /// The set of one signal; empty for a number that is none.
-    pub const fn of_signal(signal: u32) -> SigSet {
-        if signal == 0 || signal > SIGNALS {
+    /// The set of one signal; empty for a number that is no signal.
+    pub const fn of_signal(signal: Signal) -> SigSet {
+        if signal.0 == 0 || signal.0 > SIGNALS {
             return SigSet::EMPTY;
         }
-        SigSet(1 << (signal - 1))
+        SigSet(1 << (signal.0 - 1))
     }
 
     /// The members of either.
@@ -42,7 +44,7 @@ impl SigSet {
     }
 
     /// Is the signal a member?
-    pub const fn has(self, signal: u32) -> bool {
+    pub const fn has(self, signal: Signal) -> bool {
         self.0 & SigSet::of_signal(signal).0 != 0
     }
 }

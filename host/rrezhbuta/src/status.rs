@@ -1,18 +1,19 @@
 //! The tables for a reader, in the style of `/proc/PID/status`.
 
 use crate::limits::*;
-use crate::{SigSet, Siginfo, Tables, Thread};
+use crate::{ProcessId, SigSet, Siginfo, Signal, Tables, Thread};
 use std::fmt;
 
-/// Each live process with its sets and its queue, and under it each of its threads. What is pending counts marks and records, as Linux does; SigIgn are the
-/// signals that are ignored by choice, SigCgt those with a handler.
+/// Each live process with its sets and its queue, and under it each of its threads. What is pending counts marks and
+/// records, as Linux does; SigIgn are the signals that are ignored by choice, SigCgt those with a handler.
 ///
 /// ```
-/// use rrezhbuta::{NewProcess, Tables};
+/// use rrezhbuta::{NewProcess, ProcessId, Signal, Tables, Target, ThreadId};
 ///
+/// let (process, thread) = (ProcessId(100), ThreadId(200));
 /// let mut tables = Tables::new();
-/// tables.add_process(NewProcess { id: 100, thread: 200, ..NewProcess::default() })?;
-/// tables.queue(100, 100, 200, 40, 7)?;
+/// tables.add_process(NewProcess { id: process, thread, ..NewProcess::default() })?;
+/// tables.sigqueue(process, Target::Thread(process, thread), Signal(40), 7)?;
 /// let page = tables.to_string();
 /// assert!(page.starts_with("Pid:\t100\nUid:\t0\t0\t0\n"));
 /// assert!(page.contains("SigPnd:\t0000008000000000\n"));
@@ -36,7 +37,9 @@ impl fmt::Display for Tables<'_> {
 impl Tables<'_> {
     fn write_process(&self, f: &mut fmt::Formatter<'_>, p: &[u64]) -> fmt::Result {
         let id = p[PROCESS_ID];
-        let queue = queue(&self.process_buffer, |r| r.process as u64 == id);
+        let queue = queue(&self.process_buffer, |r| {
+            u64::from(r.target.process()) == id
+        });
         let state = if p[PROCESS_STOPPED] == 0 {
             "running"
         } else {
@@ -53,7 +56,9 @@ impl Tables<'_> {
     }
 
     fn write_thread(&self, f: &mut fmt::Formatter<'_>, thread: &Thread) -> fmt::Result {
-        let queue = queue(&self.thread_buffer, |r| r.thread as u64 == thread.id);
+        let queue = queue(&self.thread_buffer, |r| {
+            r.target.thread().map(u64::from) == Some(thread.id)
+        });
         writeln!(f, "Tid:\t{}", thread.id)?;
         writeln!(f, "SigPnd:\t{}", pending(thread.marks.0, &queue))?;
         writeln!(f, "SigBlk:\t{}", thread.mask)?;
@@ -66,7 +71,7 @@ fn queue(buffer: &[u8], is_of: impl Fn(&Siginfo) -> bool) -> Vec<Siginfo> {
     buffer
         .chunks_exact(RECORD_BYTES)
         .filter_map(Siginfo::from_bytes)
-        .take_while(|record| record.process != 0)
+        .take_while(|record| record.target.process() != ProcessId(0))
         .filter(is_of)
         .collect()
 }
@@ -83,7 +88,7 @@ fn actions(process: &[u64], is_such: impl Fn(u64) -> bool) -> SigSet {
         .zip(actions)
         .fold(SigSet::EMPTY, |set, (signal, action)| {
             if is_such(action[ACTION_HANDLER]) {
-                set.union(SigSet::of_signal(signal))
+                set.union(SigSet::of_signal(Signal(signal)))
             } else {
                 set
             }

@@ -4,7 +4,7 @@ use crate::limits::{BUFFER_BYTES, PROCESS_TABLE, THREAD_PLACES};
 use crate::SigSet;
 use std::ops::{Deref, DerefMut};
 
-/// A place of the thread table.
+/// A place of the thread table: four words, and whoever keeps the table may have written any numbers there.
 #[derive(Clone, Copy, Debug, Default, PartialEq, Eq, Hash)]
 #[repr(C)]
 pub struct Thread {
@@ -77,7 +77,8 @@ impl<T: PartialEq> PartialEq for Table<'_, T> {
 
 impl<T: Eq> Eq for Table<'_, T> {}
 
-/// The four tables. Any lengths and any contents are safe: a call on tables that are not as they should be is refused with EFAULT.
+/// The four tables. Any lengths and any contents are safe: a call on tables that are not as they should be is refused
+/// with EFAULT.
 #[derive(Debug, PartialEq, Eq)]
 pub struct Tables<'a> {
     pub(crate) processes: Table<'a, u64>,
@@ -105,11 +106,12 @@ impl Tables<'static> {
 }
 
 impl<'a> Tables<'a> {
-    /// Tables from vectors, or from slices of a host that keeps its own: processes, threads, the thread buffer, the process buffer.
+    /// Tables from vectors, or from slices of a host that keeps its own: processes, threads, the thread buffer, the
+    /// process buffer.
     ///
     /// ```
     /// use rrezhbuta::limits::{BUFFER_BYTES, PROCESS_TABLE, THREAD_PLACES};
-    /// use rrezhbuta::{Errno, NewProcess, Tables, Thread};
+    /// use rrezhbuta::{Errno, NewProcess, ProcessId, Tables, Thread, ThreadId};
     ///
     /// let mut processes = [0; PROCESS_TABLE];
     /// let mut threads = [Thread::FREE; THREAD_PLACES];
@@ -121,7 +123,8 @@ impl<'a> Tables<'a> {
     ///     &mut thread_buffer[..],
     ///     &mut process_buffer[..],
     /// );
-    /// tables.add_process(NewProcess { id: 100, thread: 200, ..NewProcess::default() })?;
+    /// let (id, thread) = (ProcessId(100), ThreadId(200));
+    /// tables.add_process(NewProcess { id, thread, ..NewProcess::default() })?;
     /// assert_eq!((processes[0], threads[0].id), (100, 200));
     ///
     /// let mut short = Tables::from_parts(vec![], &mut threads[..], vec![], vec![]);

@@ -1,4 +1,5 @@
-//! Reads what the program `worked` wrote, from a file or from standard input, and writes the page with the ledger beside it.
+//! Reads what the program `worked` wrote, from a file or from standard input, and writes the page with the ledger
+//! beside it.
 
 use rrezhbuta_ledger::{history, page};
 use std::process::ExitCode;

@@ -70,9 +70,9 @@ fn the_end_of_a_thread_discards_its_queue_and_the_last_ends_the_process() {
         &mut model,
         &[
             thread(200, 201),
-            queue(200, 40, 1),
-            queue(201, 40, 2),
-            queue(0, 40, 3),
+            sigqueue(200, 40, 1),
+            sigqueue(201, 40, 2),
+            sigqueue(0, 40, 3),
         ],
     );
     let end = Call::EndThread { id: 200 };
@@ -95,16 +95,16 @@ fn records_of_a_buffer_stand_in_order_of_arrival() {
         &mut model,
         &[
             process(101, 1000, 201, 0),
-            queue(0, 41, 1),
-            Call::Queue {
+            sigqueue(0, 41, 1),
+            Call::Sigqueue {
                 by: 100,
                 to: 101,
                 thread: 0,
                 signal: 35,
                 value: 2,
             },
-            queue(0, 40, 3),
-            queue(200, 40, 4),
+            sigqueue(0, 40, 3),
+            sigqueue(200, 40, 4),
         ],
     );
     let values = |records: &[Record]| records.iter().map(|r| r.value).collect::<Vec<_>>();
@@ -127,7 +127,7 @@ fn stop_discards_cont_in_every_queue() {
         kill(0, CONT),
         thread(200, 201),
         kill(200, CONT),
-        queue(201, CONT, 1),
+        sigqueue(201, CONT, 1),
     ];
     answers(&mut model, &calls);
     assert_eq!(all_marks(&model), (Set(bit(CONT)), Set(bit(CONT))));
@@ -145,8 +145,8 @@ fn cont_discards_the_stop_signals_and_continues_even_where_it_is_ignored() {
         kill(0, STOP),
         kill(0, TTIN),
         kill(200, TTOU),
-        queue(200, TSTP, 1),
-        queue(0, TERM, 1),
+        sigqueue(200, TSTP, 1),
+        sigqueue(0, TERM, 1),
     ];
     answers(&mut model, &calls);
     assert_eq!(all_marks(&model), (Set(bit(TTIN)), Set(bit(TTOU))));
@@ -161,7 +161,7 @@ fn cont_discards_the_stop_signals_and_continues_even_where_it_is_ignored() {
 fn signal_31_is_standard_and_32_is_realtime() {
     let mut model = one(0);
     use Answer::{Absorbed, Kept};
-    let calls = [31, 31, 32, 32].map(|signal| queue(0, signal, 1));
+    let calls = [31, 31, 32, 32].map(|signal| sigqueue(0, signal, 1));
     assert_eq!(
         answers(&mut model, &calls),
         [Kept, Absorbed, Kept, Kept].map(Ok)
@@ -189,7 +189,7 @@ fn a_record_has_its_senders_real_user_id() {
         thread: 201,
         mask: 0,
     });
-    let queue = Call::Queue {
+    let sigqueue = Call::Sigqueue {
         by: 101,
         to: 100,
         thread: 0,
@@ -197,7 +197,7 @@ fn a_record_has_its_senders_real_user_id() {
         value: 9,
     };
     assert_eq!(
-        answers(&mut model, &[sender, queue]),
+        answers(&mut model, &[sender, sigqueue]),
         [Ok(Answer::Done), Ok(Answer::Kept)]
     );
     let record = model.rows().process_records[0];
@@ -212,9 +212,9 @@ fn realtime_marks_and_records_stand_side_by_side() {
         &[
             handler(40),
             kill(0, 40),
-            queue(0, 40, 1),
+            sigqueue(0, 40, 1),
             kill(0, 40),
-            queue(0, 40, 2),
+            sigqueue(0, 40, 2),
         ],
     );
     use Answer::{Absorbed, Kept, Marked};
@@ -229,17 +229,17 @@ fn realtime_marks_and_records_stand_side_by_side() {
 #[test]
 fn a_standard_signal_is_pending_once_in_a_queue_either_way() {
     let mut model = one(0);
-    let calls = [queue(0, USR1, 1), kill(0, USR1), kill(200, USR1)];
+    let calls = [sigqueue(0, USR1, 1), kill(0, USR1), kill(200, USR1)];
     let sent = answers(&mut model, &calls);
     use Answer::{Absorbed, Kept, Marked};
     assert_eq!(sent, [Kept, Absorbed, Marked].map(Ok));
-    assert_eq!(model.call(&queue(200, USR1, 2)), Ok(Answer::Absorbed));
+    assert_eq!(model.call(&sigqueue(200, USR1, 2)), Ok(Answer::Absorbed));
 }
 
 #[test]
 fn storing_keeps_known_flags_and_discards_what_is_ignored() {
     let mut model = one(0);
-    answers(&mut model, &[kill(0, USR1), queue(200, USR1, 1)]);
+    answers(&mut model, &[kill(0, USR1), sigqueue(200, USR1, 1)]);
     let flags = SIGINFO | RESTART | NODEFER | RESETHAND;
     answers(&mut model, &[store(USR1, IGNORE, u64::MAX, u64::MAX)]);
     let stored = Action {
@@ -272,7 +272,7 @@ fn resethand_discards_what_the_default_ignores() {
     let calls = [
         store(CHLD, 5000, RESETHAND | SIGINFO, 2048),
         kill(0, CHLD),
-        queue(200, CHLD, 1),
+        sigqueue(200, CHLD, 1),
         TAKE,
         ask(CHLD),
     ];
@@ -321,7 +321,7 @@ fn a_look_changes_nothing_and_says_where_the_record_lies() {
     assert_eq!(model.call(&look), nothing);
     answers(
         &mut model,
-        &[queue(0, 40, 1), queue(200, 41, 2), queue(0, 39, 3)],
+        &[sigqueue(0, 40, 1), sigqueue(200, 41, 2), sigqueue(0, 39, 3)],
     );
     let before = model.clone();
     let record = model.rows().process_records[1];
@@ -349,7 +349,7 @@ fn who_names_the_thread_in_the_lowest_place() {
     let who = Call::Who { process: 100 };
     answers(&mut model, &[thread(200, 150), kill(0, USR1)]);
     assert_eq!(model.call(&who), Ok(Answer::CanTake(200)));
-    answers(&mut model, &[mask(0, bit(USR1))]);
+    answers(&mut model, &[sigmask(0, bit(USR1))]);
     assert_eq!(model.call(&who), Ok(Answer::CanTake(150)));
     assert_eq!(model.next_signal(150), Some(USR1));
     assert_eq!(model.next_signal(200), None);
@@ -360,7 +360,7 @@ fn who_names_the_thread_in_the_lowest_place() {
 #[test]
 fn a_model_from_its_own_rows_is_the_same() {
     let mut model = one(0);
-    answers(&mut model, &[queue(0, 40, 1), kill(200, USR1)]);
+    answers(&mut model, &[sigqueue(0, 40, 1), kill(200, USR1)]);
     assert_eq!(model.judge(), Ok(()));
     assert_eq!(Model::from_rows(model.rows().clone()), Ok(model));
     assert_eq!(Model::default().rows().processes[0], Process::FREE);

@@ -33,8 +33,8 @@ pub fn kill(thread: u32, signal: u32) -> Call {
 }
 
 /// The same with a value.
-pub fn queue(thread: u32, signal: u32, value: u64) -> Call {
-    Call::Queue {
+pub fn sigqueue(thread: u32, signal: u32, value: u64) -> Call {
+    Call::Sigqueue {
         by: 100,
         to: 100,
         thread,
@@ -45,7 +45,7 @@ pub fn queue(thread: u32, signal: u32, value: u64) -> Call {
 
 /// An action of process 100 is stored.
 pub fn store(signal: u32, handler: u64, flags: u64, mask: u64) -> Call {
-    Call::Action {
+    Call::Sigaction {
         process: 100,
         signal,
         new: Some(Action {
@@ -58,7 +58,7 @@ pub fn store(signal: u32, handler: u64, flags: u64, mask: u64) -> Call {
 
 /// An action of process 100 is asked for.
 pub fn ask(signal: u32) -> Call {
-    Call::Action {
+    Call::Sigaction {
         process: 100,
         signal,
         new: None,
@@ -66,8 +66,8 @@ pub fn ask(signal: u32) -> Call {
 }
 
 /// Thread 200's mask is changed.
-pub fn mask(way: u32, set: u64) -> Call {
-    Call::Mask {
+pub fn sigmask(way: u32, set: u64) -> Call {
+    Call::Sigmask {
         thread: 200,
         way,
         set: Some(set),
@@ -76,7 +76,7 @@ pub fn mask(way: u32, set: u64) -> Call {
 
 /// Thread 200's mask.
 pub fn mask_now(model: &mut Model) -> u64 {
-    let ask = Call::Mask {
+    let ask = Call::Sigmask {
         thread: 200,
         way: 7,
         set: None,
@@ -95,7 +95,7 @@ pub fn taken(model: &mut Model) -> Record {
     let Ok(Answer::Handler { record, saved, .. }) = model.call(&TAKE) else {
         panic!("a handler was expected");
     };
-    let back = Call::Return {
+    let back = Call::Sigreturn {
         thread: 200,
         mask: saved.0,
     };

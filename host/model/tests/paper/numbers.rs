@@ -32,27 +32,30 @@ fn values_taken(model: &mut Model, count: usize) -> Vec<u64> {
 #[test]
 fn case_1_blocking_everything() {
     let mut model = one(0);
-    assert_eq!(model.call(&mask(0, u64::MAX)), Ok(Answer::OldMask(Set(0))));
+    assert_eq!(
+        model.call(&sigmask(0, u64::MAX)),
+        Ok(Answer::OldMask(Set(0)))
+    );
     assert_eq!(mask_now(&mut model), ALL_BUT_KILL_AND_STOP);
 }
 
 #[test]
 fn case_2_unblocking() {
     let mut model = one(6);
-    assert_eq!(model.call(&mask(1, 2)), Ok(Answer::OldMask(Set(6))));
+    assert_eq!(model.call(&sigmask(1, 2)), Ok(Answer::OldMask(Set(6))));
     assert_eq!(mask_now(&mut model), 4);
 }
 
 #[test]
 fn case_3_the_way_counts_only_with_a_set() {
     let mut model = one(6);
-    let ask = Call::Mask {
+    let ask = Call::Sigmask {
         thread: 200,
         way: 7,
         set: None,
     };
     assert_eq!(model.call(&ask), Ok(Answer::OldMask(Set(6))));
-    assert_eq!(model.call(&mask(7, 1)), Err(EINVAL));
+    assert_eq!(model.call(&sigmask(7, 1)), Err(EINVAL));
     assert_eq!(mask_now(&mut model), 6);
 }
 
@@ -78,10 +81,10 @@ fn case_4_the_mask_in_a_handler() {
 fn case_5_a_realtime_signal_in_order_of_arrival() {
     let mut model = handling(&[40], 1 << 39);
     for value in 1..=3 {
-        assert_eq!(model.call(&queue(0, 40, value)), Ok(Answer::Kept));
+        assert_eq!(model.call(&sigqueue(0, 40, value)), Ok(Answer::Kept));
     }
     assert_eq!(model.call(&TAKE), Ok(Answer::Nothing));
-    model.call(&mask(1, 1 << 39)).unwrap();
+    model.call(&sigmask(1, 1 << 39)).unwrap();
     assert_eq!(values_taken(&mut model, 3), [1, 2, 3]);
     assert_eq!(model.call(&TAKE), Ok(Answer::Nothing));
 }
@@ -89,11 +92,11 @@ fn case_5_a_realtime_signal_in_order_of_arrival() {
 #[test]
 fn case_6_the_lowest_number_and_then_the_thread() {
     let mut model = handling(&[34, 35], 0);
-    answers(&mut model, &[queue(0, 35, 1), queue(0, 34, 2)]);
+    answers(&mut model, &[sigqueue(0, 35, 1), sigqueue(0, 34, 2)]);
     assert_eq!(values_taken(&mut model, 2), [2, 1]);
-    answers(&mut model, &[queue(200, 35, 1), queue(0, 34, 2)]);
+    answers(&mut model, &[sigqueue(200, 35, 1), sigqueue(0, 34, 2)]);
     assert_eq!(values_taken(&mut model, 2), [2, 1]);
-    answers(&mut model, &[queue(0, 34, 1), queue(200, 34, 2)]);
+    answers(&mut model, &[sigqueue(0, 34, 1), sigqueue(200, 34, 2)]);
     assert_eq!(values_taken(&mut model, 2), [2, 1]);
 }
 
@@ -102,7 +105,7 @@ fn case_7_a_standard_signal_is_taken_once() {
     let mut model = handling(&[INT], 2);
     let sent = answers(&mut model, &[kill(0, INT), kill(0, INT)]);
     assert_eq!(sent, [Ok(Answer::Marked), Ok(Answer::Absorbed)]);
-    model.call(&mask(1, 2)).unwrap();
+    model.call(&sigmask(1, 2)).unwrap();
     assert_eq!(taken(&mut model).signal, INT);
     assert_eq!(model.call(&TAKE), Ok(Answer::Nothing));
 }
@@ -111,9 +114,9 @@ fn case_7_a_standard_signal_is_taken_once() {
 fn full() -> Model {
     let mut model = handling(&[34], 0);
     for _ in 0..32 {
-        assert_eq!(model.call(&queue(0, 34, 7)), Ok(Answer::Kept));
+        assert_eq!(model.call(&sigqueue(0, 34, 7)), Ok(Answer::Kept));
     }
-    assert_eq!(model.call(&queue(0, 34, 8)), Err(EAGAIN));
+    assert_eq!(model.call(&sigqueue(0, 34, 8)), Err(EAGAIN));
     model
 }
 
@@ -121,11 +124,11 @@ fn full() -> Model {
 fn case_8_the_limit() {
     let mut model = full();
     taken(&mut model);
-    let sent = answers(&mut model, &[queue(0, 34, 8), queue(200, 34, 9)]);
+    let sent = answers(&mut model, &[sigqueue(0, 34, 8), sigqueue(200, 34, 9)]);
     assert_eq!(sent, [Ok(Answer::Kept), Err(EAGAIN)]);
     assert_eq!(full().call(&kill(0, 9)), Ok(Answer::Acted));
     let mut model = full();
-    assert_eq!(model.call(&queue(0, 9, 1)), Ok(Answer::Acted));
+    assert_eq!(model.call(&sigqueue(0, 9, 1)), Ok(Answer::Acted));
     assert_eq!(model, Model::new());
 }
 
@@ -136,7 +139,7 @@ fn case_9_stopping_and_continuing() {
         let mut model = one(both);
         let sent = answers(&mut model, &[kill(0, first), kill(200, second)]);
         assert_eq!(sent, [Ok(Answer::Marked); 2]);
-        let pending = model.call(&Call::Pending { thread: 200 });
+        let pending = model.call(&Call::Sigpending { thread: 200 });
         assert_eq!(pending, Ok(Answer::PendingSet(Set(1 << (second - 1)))));
     }
 }
@@ -153,7 +156,7 @@ fn case_10_defaults() {
 #[test]
 fn unblocking_is_no_intersection() {
     let mut model = one(7);
-    model.call(&mask(1, 3)).unwrap();
+    model.call(&sigmask(1, 3)).unwrap();
     assert_eq!(mask_now(&mut model), 4);
 }
 
@@ -166,7 +169,7 @@ fn cont_can_be_blocked_and_continues_all_the_same() {
     assert_eq!(model.call(&kill(0, CONT)), Ok(Answer::Marked));
     assert_eq!(taken(&mut model).signal, USR1);
     assert_eq!(model.call(&TAKE), Ok(Answer::Nothing));
-    model.call(&mask(1, blocked)).unwrap();
+    model.call(&sigmask(1, blocked)).unwrap();
     assert_eq!(taken(&mut model).signal, CONT);
 }
 

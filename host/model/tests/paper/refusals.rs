@@ -47,11 +47,11 @@ fn einval_comes_first() {
     let mut model = two();
     for signal in [65, u32::MAX] {
         refused(&mut model, send(999, 998, 997, signal), EINVAL);
-        refused(&mut model, queue(0, signal, 1), EINVAL);
+        refused(&mut model, sigqueue(0, signal, 1), EINVAL);
     }
     for signal in [0, 65] {
         refused(&mut model, ask(signal), EINVAL);
-        let action = Call::Action {
+        let action = Call::Sigaction {
             process: 999,
             signal,
             new: None,
@@ -60,7 +60,7 @@ fn einval_comes_first() {
     }
     refused(&mut model, store(9, 0, 0, 0), EINVAL);
     refused(&mut model, store(19, 1, 0, 0), EINVAL);
-    let nobodys_mask = Call::Mask {
+    let nobodys_mask = Call::Sigmask {
         thread: 0,
         way: 3,
         set: Some(0),
@@ -87,15 +87,15 @@ fn esrch_for_who_is_not_live() {
         refused(&mut model, Call::Who { process: id }, ESRCH);
         let (thread, mask) = (id, 0);
         refused(&mut model, Call::EndThread { id }, ESRCH);
-        refused(&mut model, Call::Pending { thread }, ESRCH);
+        refused(&mut model, Call::Sigpending { thread }, ESRCH);
         refused(&mut model, Call::Look { thread }, ESRCH);
         refused(&mut model, Call::Take { thread }, ESRCH);
-        refused(&mut model, Call::Return { thread, mask }, ESRCH);
+        refused(&mut model, Call::Sigreturn { thread, mask }, ESRCH);
         let (way, set) = (7, None);
-        refused(&mut model, Call::Mask { thread, way, set }, ESRCH);
+        refused(&mut model, Call::Sigmask { thread, way, set }, ESRCH);
     }
     refused(&mut model, thread(999, 200), ESRCH);
-    let action = Call::Action {
+    let action = Call::Sigaction {
         process: 999,
         signal: 9,
         new: None,
@@ -114,7 +114,8 @@ fn eperm_for_a_stranger() {
     refused(&mut model, send(100, 101, 0, 18), EPERM);
 }
 
-/// Whether a sender of these user ids may send CONT and another signal to a target of real 1, effective 2, saved 3 in the same session.
+/// Whether a sender of these user ids may send CONT and another signal to a target of real 1, effective 2, saved 3 in
+/// the same session.
 fn may(real: u32, effective: u32) -> [bool; 2] {
     let mut model = Model::new();
     let user = |id, real, effective, saved| {
@@ -170,9 +171,9 @@ fn eexist_before_eagain() {
 fn full() -> Model {
     let mut model = one(0);
     for value in 0..31 {
-        assert_eq!(model.call(&queue(200, 34, value)), Ok(Answer::Kept));
+        assert_eq!(model.call(&sigqueue(200, 34, value)), Ok(Answer::Kept));
     }
-    let last = [kill(0, 19), queue(0, 20, 1)];
+    let last = [kill(0, 19), sigqueue(0, 20, 1)];
     let expected = [Ok(Answer::Acted), Ok(Answer::Kept)];
     assert_eq!(answers(&mut model, &last), expected);
     model
@@ -181,21 +182,21 @@ fn full() -> Model {
 #[test]
 fn eagain_only_where_a_record_is_needed() {
     let mut model = full();
-    refused(&mut model, queue(0, 40, 1), EAGAIN);
+    refused(&mut model, sigqueue(0, 40, 1), EAGAIN);
     // CONT would make room by discarding TSTP, but the limit is judged before
-    refused(&mut model, queue(0, 18, 1), EAGAIN);
+    refused(&mut model, sigqueue(0, 18, 1), EAGAIN);
     use Answer::{Absorbed, Acted, Dropped, Marked, Tested};
     let others = [
-        queue(0, 0, 1),
-        queue(0, 17, 1),
-        queue(0, 20, 1),
+        sigqueue(0, 0, 1),
+        sigqueue(0, 17, 1),
+        sigqueue(0, 20, 1),
         kill(0, 40),
-        queue(0, 19, 1),
+        sigqueue(0, 19, 1),
         kill(0, 18),
     ];
     let expected = [Tested, Dropped, Absorbed, Marked, Acted, Marked].map(Ok);
     assert_eq!(answers(&mut model, &others), expected);
     // the plain CONT discarded TSTP's record, so there is room for one
-    let sent = answers(&mut model, &[queue(0, 40, 1), queue(0, 40, 2)]);
+    let sent = answers(&mut model, &[sigqueue(0, 40, 1), sigqueue(0, 40, 2)]);
     assert_eq!(sent, [Ok(Answer::Kept), Err(EAGAIN)]);
 }

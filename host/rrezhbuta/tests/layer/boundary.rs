@@ -3,8 +3,9 @@
 use crate::common::*;
 use crate::lengths::calls;
 use rrezhbuta::limits::*;
-use rrezhbuta::raw::{call, look, Numbers};
-use rrezhbuta::{Call, SigSet, Tables};
+use rrezhbuta::raw::{call, look_slot, Numbers};
+use rrezhbuta::{Call, NewProcess, ProcessId, Sent, SessionId, SigSet, Signal, Tables};
+use rrezhbuta::{Target, ThreadId, UserId, Way};
 
 const OLD: u64 = 0xA5A5;
 
@@ -59,7 +60,7 @@ fn efault_goes_before_einval() {
 
 #[test]
 fn a_refused_call_writes_nothing() {
-    let stranger = Call::Take { thread: 999 };
+    let stranger = Call::Take { thread: NOBODY };
     refused(&mut two(), ANSWER_WORDS, &stranger.numbers(), ESRCH);
 }
 
@@ -68,7 +69,8 @@ fn an_answer_has_zeros_behind_it_and_the_rest_stays() {
     let mut answer = [OLD; ANSWER_WORDS + 3];
     let ask = numbered(CALL_SIGACTION);
     let mut tables = two();
-    tables.set_action(100, 10, handler(4, 2048)).unwrap();
+    let action = handler(4, 2048);
+    tables.set_sigaction(PROCESS, USR1, action).unwrap();
     assert_eq!(call(&mut tables, &mut answer, &ask), 0);
     assert_eq!(answer[..4], [ANSWER_OLD_ACTION, HANDLER, 4, 2048]);
     assert_eq!(answer[4..ANSWER_WORDS], [0; ANSWER_WORDS - 4]);
@@ -88,31 +90,75 @@ fn every_answer_fills_the_same_words() {
 #[test]
 fn the_longest_answer_fills_its_words() {
     let mut tables = two();
-    tables.set_action(100, 40, handler(4, 0)).unwrap();
-    tables
-        .set_mask(200, rrezhbuta::Way::Block, SigSet(1))
-        .unwrap();
-    tables.queue(1, 100, 200, 40, 7).unwrap();
+    tables.set_sigaction(PROCESS, RT, handler(4, 0)).unwrap();
+    tables.set_sigmask(THREAD, Way::Block, SigSet(1)).unwrap();
+    tables.sigqueue(ROOT, TO_THREAD, RT, 7).unwrap();
     let mut answer = [OLD; ANSWER_WORDS];
-    let take = Call::Take { thread: 200 }.numbers();
+    let take = Call::Take { thread: THREAD }.numbers();
     assert_eq!(call(&mut tables, &mut answer, &take), 0);
     let record = [100, 200, 40, SI_QUEUE as u64, 1, 0, 7];
     assert_eq!(answer[..5], [ANSWER_HANDLER, HANDLER, 40, 4, 1]);
     assert_eq!(answer[5..], record);
 }
 
+/// Each argument has its place, in the documented order.
+#[test]
+fn every_argument_has_its_number() {
+    let process = NewProcess {
+        id: ProcessId(1),
+        real: UserId(2),
+        effective: UserId(3),
+        saved: UserId(4),
+        session: SessionId(5),
+        thread: ThreadId(6),
+        mask: SigSet(7),
+    };
+    let added = Call::AddProcess(process).numbers();
+    assert_eq!((added.narrow, added.wide), ([1, 2, 3, 4, 5, 6], [7, 0, 0]));
+    let [creator, id] = [1, 2].map(ThreadId);
+    let thread = Call::AddThread { creator, id }.numbers();
+    assert_eq!(thread.narrow[..2], [1, 2]);
+    let to = Target::Thread(ProcessId(2), ThreadId(3));
+    let (by, signal, value) = (ProcessId(1), Signal(4), 5);
+    assert_eq!(
+        Call::Kill { by, to, signal }.numbers().narrow[..4],
+        [1, 2, 3, 4]
+    );
+    let to = Target::Process(ProcessId(2));
+    let sent = Call::Sigqueue {
+        by,
+        to,
+        signal,
+        value,
+    }
+    .numbers();
+    assert_eq!(
+        (&sent.narrow[..4], sent.wide),
+        (&[1, 2, 0, 4][..], [5, 0, 0])
+    );
+}
+
+/// No thread has id 0, and a send to it is one to the process, as at the boundary.
+#[test]
+fn thread_0_is_the_process() {
+    let mut tables = two();
+    let zero = Target::Thread(PROCESS, ThreadId(0));
+    assert_eq!(tables.kill(ROOT, zero, USR1), Ok(Sent::Marked));
+    assert_eq!(tables.kill(ROOT, TO_PROCESS, USR1), Ok(Sent::Absorbed));
+}
+
 #[test]
 fn a_look_numbers_the_slots_of_both_buffers() {
     let mut tables = two();
-    assert_eq!(look(&tables, 200), 0);
-    tables.queue(1, 100, 0, 41, 1).unwrap();
-    tables.queue(1, 100, 0, 40, 2).unwrap();
-    assert_eq!(look(&tables, 200), BUFFER_RECORDS as u64 + 2);
-    tables.queue(1, 100, 200, 39, 3).unwrap();
-    assert_eq!(look(&tables, 200), 1);
-    tables.kill(1, 100, 200, 1).unwrap();
-    assert_eq!(look(&tables, 200), 0);
-    assert_eq!(look(&tables, 999), 0);
+    assert_eq!(look_slot(&tables, 200), 0);
+    tables.sigqueue(ROOT, TO_PROCESS, Signal(41), 1).unwrap();
+    tables.sigqueue(ROOT, TO_PROCESS, Signal(40), 2).unwrap();
+    assert_eq!(look_slot(&tables, 200), BUFFER_RECORDS as u64 + 2);
+    tables.sigqueue(ROOT, TO_THREAD, Signal(39), 3).unwrap();
+    assert_eq!(look_slot(&tables, 200), 1);
+    tables.kill(ROOT, TO_THREAD, Signal(1)).unwrap();
+    assert_eq!(look_slot(&tables, 200), 0);
+    assert_eq!(look_slot(&tables, 999), 0);
     tables.threads_mut()[5].mask = SigSet(1);
-    assert_eq!(look(&tables, 200), 0);
+    assert_eq!(look_slot(&tables, 200), 0);
 }

@@ -1,6 +1,26 @@
 //! Process 100 of user 1000 with thread 200, and process 1 of user 0 with thread 2.
 
-use rrezhbuta::{Action, NewProcess, SigSet, Tables};
+use rrezhbuta::{Action, NewProcess, ProcessId, SessionId, SigSet, Signal, Tables};
+use rrezhbuta::{Target, ThreadId, UserId};
+
+/// The process of user 0.
+pub const ROOT: ProcessId = ProcessId(1);
+/// Its thread.
+pub const ROOTS: ThreadId = ThreadId(2);
+/// The process of user 1000.
+pub const PROCESS: ProcessId = ProcessId(100);
+/// Its thread.
+pub const THREAD: ThreadId = ThreadId(200);
+/// The process as a target.
+pub const TO_PROCESS: Target = Target::Process(PROCESS);
+/// Its thread as a target.
+pub const TO_THREAD: Target = Target::Thread(PROCESS, THREAD);
+/// A thread id that nobody has.
+pub const NOBODY: ThreadId = ThreadId(999);
+/// A signal that ends by default.
+pub const USR1: Signal = Signal(10);
+/// A realtime signal.
+pub const RT: Signal = Signal(40);
 
 /// A handler number.
 pub const HANDLER: u64 = 5000;
@@ -9,13 +29,14 @@ pub const RESETHAND: u64 = 0x8000_0000;
 
 /// A process of one user in session 7.
 pub fn user(id: u32, user: u32, thread: u32) -> NewProcess {
+    let user = UserId(user);
     NewProcess {
-        id,
+        id: ProcessId(id),
         real: user,
         effective: user,
         saved: user,
-        session: 7,
-        thread,
+        session: SessionId(7),
+        thread: ThreadId(thread),
         mask: SigSet::EMPTY,
     }
 }

@@ -1,69 +1,63 @@
 //! Every call on tables of other lengths is EFAULT and writes nothing.
 
-use crate::common::two;
-use rrezhbuta::{Action, Call, Errno, NewProcess, SigSet, Tables, Thread};
+use crate::common::*;
+use rrezhbuta::{Action, Call, Errno, SigSet, Signal, Tables, Thread, ThreadId};
 
 /// Every call, in the documented order.
 pub fn calls() -> Vec<Call> {
-    let thread = 200;
+    let thread = THREAD;
     let asking = [
-        Call::Pending { thread },
+        Call::Sigpending { thread },
         Call::Look { thread },
-        Call::Who { process: 100 },
+        Call::Who { process: PROCESS },
         Call::Take { thread },
-        Call::Return {
+        Call::Sigreturn {
             thread,
             mask: SigSet(1),
         },
     ];
-    let sending = [kill(9), queue(40), set_action(10), block(thread)];
+    let sending = [kill(), sigqueue(), sigaction(), sigmask()];
     let adding = [
         Call::Clear,
-        Call::AddProcess(NewProcess {
-            id: 300,
-            thread: 300,
-            ..NewProcess::default()
-        }),
+        Call::AddProcess(user(300, 0, 300)),
         Call::AddThread {
             creator: thread,
-            id: 300,
+            id: ThreadId(300),
         },
-        Call::EndProcess { id: 100 },
+        Call::EndProcess { id: PROCESS },
         Call::EndThread { id: thread },
     ];
     [&adding[..], &sending[..], &asking[..]].concat()
 }
 
-fn kill(signal: u32) -> Call {
+fn kill() -> Call {
     Call::Kill {
-        by: 1,
-        to: 100,
-        thread: 0,
-        signal,
+        by: ROOT,
+        to: TO_PROCESS,
+        signal: Signal::KILL,
     }
 }
 
-fn queue(signal: u32) -> Call {
-    Call::Queue {
-        by: 1,
-        to: 100,
-        thread: 0,
-        signal,
+fn sigqueue() -> Call {
+    Call::Sigqueue {
+        by: ROOT,
+        to: TO_PROCESS,
+        signal: RT,
         value: 1,
     }
 }
 
-fn set_action(signal: u32) -> Call {
-    Call::Action {
-        process: 100,
-        signal,
+fn sigaction() -> Call {
+    Call::Sigaction {
+        process: PROCESS,
+        signal: USR1,
         new: Some(Action::default()),
     }
 }
 
-fn block(thread: u32) -> Call {
-    Call::Mask {
-        thread,
+fn sigmask() -> Call {
+    Call::Sigmask {
+        thread: THREAD,
         way: 0,
         set: Some(SigSet(1)),
     }
@@ -108,7 +102,7 @@ fn other_lengths_are_efault() {
             assert_eq!(tables.call(&call), Err(Errno::EFAULT), "{call:?}");
             assert!(tables == before, "{call:?} wrote");
         }
-        assert!(tables.look(200).is_empty());
+        assert!(tables.look_part(THREAD).is_empty());
     }
 }
 

@@ -2,36 +2,45 @@
 
 use crate::common::*;
 use rrezhbuta::limits::*;
-use rrezhbuta::{Action, Delivery, Next, Sent, SigSet, Siginfo, Tables, Taken, Thread, Way};
-
-const USR1: u32 = 10;
-const TERM: u32 = 15;
+use rrezhbuta::{Action, Delivery, Next, ProcessId, Sent, SessionId, SigSet, Siginfo, Signal};
+use rrezhbuta::{Tables, Taken, Target, Thread, ThreadId, UserId, Way};
 
 /// A record of process 100, queued by process 1.
-fn record(thread: u32, signal: u32, value: u64) -> Siginfo {
+fn record(target: Target, signal: Signal, value: u64) -> Siginfo {
     Siginfo {
-        process: 100,
-        thread,
+        target,
         signal,
         code: -1,
-        sender: 1,
-        uid: 0,
+        sender: ROOT,
+        uid: UserId(0),
         value,
     }
+}
+
+/// Those of Linux on x86-64.
+#[test]
+fn signals_have_their_numbers() {
+    let [int, ill, trap, kill] = [Signal::INT, Signal::ILL, Signal::TRAP, Signal::KILL];
+    assert_eq!([int, ill, trap, kill].map(u64::from), [2, 4, 5, 9]);
+    let stops = [Signal::STOP, Signal::TSTP, Signal::TTIN, Signal::TTOU];
+    assert_eq!(stops.map(u64::from), [19, 20, 21, 22]);
+    let others = [Signal::CHLD, Signal::CONT, Signal::URG, Signal::WINCH];
+    assert_eq!(others.map(u64::from), [17, 18, 23, 28]);
 }
 
 #[test]
 fn adding_ending_and_clearing() {
     let mut tables = two();
-    tables.add_thread(200, 201).unwrap();
+    let second = ThreadId(201);
+    tables.add_thread(THREAD, second).unwrap();
     let ids: Vec<_> = tables.threads().iter().map(|t| t.id).take(4).collect();
     assert_eq!(ids, [2, 200, 201, 0]);
     assert_eq!(tables.threads()[2].process, 100);
-    tables.end_thread(200).unwrap();
+    tables.end_thread(THREAD).unwrap();
     assert_eq!(tables.threads()[1], Thread::FREE);
-    tables.end_thread(201).unwrap();
+    tables.end_thread(second).unwrap();
     assert_eq!(tables.processes()[PROCESS_WORDS], 0);
-    tables.end_process(1).unwrap();
+    tables.end_process(ROOT).unwrap();
     assert_eq!(tables, Tables::new());
     let mut tables = two();
     tables.clear().unwrap();
@@ -42,12 +51,13 @@ fn adding_ending_and_clearing() {
 fn a_process_is_laid_out_as_documented() {
     let mut tables = Tables::new();
     let mut process = user(100, 1, 200);
-    (process.effective, process.saved, process.session) = (2, 3, 4);
-    process.mask = SigSet(768);
+    (process.effective, process.saved) = (UserId(2), UserId(3));
+    (process.session, process.mask) = (SessionId(4), SigSet(768));
     tables.add_process(process).unwrap();
-    tables.set_action(100, 64, handler(4, 2048)).unwrap();
-    tables.kill(100, 100, 0, SIGSTOP).unwrap();
-    tables.kill(100, 100, 0, USR1).unwrap();
+    let action = handler(4, 2048);
+    tables.set_sigaction(PROCESS, Signal(64), action).unwrap();
+    tables.kill(PROCESS, TO_PROCESS, Signal::STOP).unwrap();
+    tables.kill(PROCESS, TO_PROCESS, USR1).unwrap();
     let words = tables.processes();
     assert_eq!(words[..HEAD_WORDS], [100, 1, 2, 3, 4, 1, 512]);
     assert_eq!(words[PROCESS_WORDS - 3..PROCESS_WORDS], [HANDLER, 4, 2048]);
@@ -57,16 +67,18 @@ fn a_process_is_laid_out_as_documented() {
 #[test]
 fn every_answer_to_a_send() {
     let mut tables = two();
-    assert_eq!(tables.kill(1, 100, 0, 0), Ok(Sent::Tested));
-    assert_eq!(tables.kill(1, 100, 200, SIGSTOP), Ok(Sent::Acted));
-    assert_eq!(tables.kill(1, 100, 0, SIGCHLD), Ok(Sent::Dropped));
-    assert_eq!(tables.kill(1, 100, 0, USR1), Ok(Sent::Marked));
-    assert_eq!(tables.kill(1, 100, 0, USR1), Ok(Sent::Absorbed));
-    assert_eq!(tables.queue(1, 100, 0, 0, 7), Ok(Sent::Tested));
-    assert_eq!(tables.queue(1, 100, 0, SIGURG, 7), Ok(Sent::Dropped));
-    assert_eq!(tables.queue(1, 100, 0, USR1, 7), Ok(Sent::Absorbed));
-    assert_eq!(tables.queue(1, 100, 0, 40, 7), Ok(Sent::Kept));
-    assert_eq!(tables.queue(1, 100, 0, SIGKILL, 7), Ok(Sent::Acted));
+    let mut kill = |to, signal| tables.kill(ROOT, to, signal);
+    assert_eq!(kill(TO_PROCESS, Signal(0)), Ok(Sent::Tested));
+    assert_eq!(kill(TO_THREAD, Signal::STOP), Ok(Sent::Acted));
+    assert_eq!(kill(TO_PROCESS, Signal::CHLD), Ok(Sent::Dropped));
+    assert_eq!(kill(TO_PROCESS, USR1), Ok(Sent::Marked));
+    assert_eq!(kill(TO_PROCESS, USR1), Ok(Sent::Absorbed));
+    let mut sigqueue = |signal| tables.sigqueue(ROOT, TO_PROCESS, signal, 7);
+    assert_eq!(sigqueue(Signal(0)), Ok(Sent::Tested));
+    assert_eq!(sigqueue(Signal::URG), Ok(Sent::Dropped));
+    assert_eq!(sigqueue(USR1), Ok(Sent::Absorbed));
+    assert_eq!(sigqueue(RT), Ok(Sent::Kept));
+    assert_eq!(sigqueue(Signal::KILL), Ok(Sent::Acted));
     assert_eq!(tables.process_buffer(), [0; BUFFER_BYTES]);
 }
 
@@ -74,115 +86,121 @@ fn every_answer_to_a_send() {
 fn actions() {
     let mut tables = two();
     let first = handler(u64::MAX, u64::MAX);
-    assert_eq!(tables.set_action(100, 40, first), Ok(Action::default()));
+    let old = tables.set_sigaction(PROCESS, RT, first);
+    assert_eq!(old, Ok(Action::default()));
     let stored = handler(KNOWN_FLAGS, !262_400);
-    assert_eq!(tables.action(100, 40), Ok(stored));
-    assert_eq!(tables.set_action(100, 40, handler(0, 0)), Ok(stored));
-    assert_eq!(tables.action(100, SIGKILL), Ok(Action::default()));
+    assert_eq!(tables.sigaction(PROCESS, RT), Ok(stored));
+    let old = tables.set_sigaction(PROCESS, RT, handler(0, 0));
+    assert_eq!(old, Ok(stored));
+    let fixed = tables.sigaction(PROCESS, Signal::KILL);
+    assert_eq!(fixed, Ok(Action::default()));
 }
 
 #[test]
 fn masks() {
     let mut tables = two();
-    let old = tables.set_mask(200, Way::Block, SigSet(u64::MAX));
+    let old = tables.set_sigmask(THREAD, Way::Block, SigSet(u64::MAX));
     assert_eq!(old, Ok(SigSet::EMPTY));
-    assert_eq!(tables.mask(200), Ok(SigSet(18446744073709289215)));
-    tables.set_mask(200, Way::SetMask, SigSet(6)).unwrap();
-    tables.set_mask(200, Way::Unblock, SigSet(2)).unwrap();
-    assert_eq!(tables.sigreturn(200, SigSet(768)), Ok(SigSet(4)));
-    assert_eq!(tables.mask(200), Ok(SigSet(512)));
-    assert_eq!(tables.mask(2), Ok(SigSet::EMPTY));
+    let all = SigSet(18446744073709289215);
+    assert_eq!(tables.sigmask(THREAD), Ok(all));
+    tables.set_sigmask(THREAD, Way::SetMask, SigSet(6)).unwrap();
+    tables.set_sigmask(THREAD, Way::Unblock, SigSet(2)).unwrap();
+    assert_eq!(tables.sigreturn(THREAD, SigSet(768)), Ok(SigSet(4)));
+    assert_eq!(tables.sigmask(THREAD), Ok(SigSet(512)));
+    assert_eq!(tables.sigmask(ROOTS), Ok(SigSet::EMPTY));
 }
 
 #[test]
 fn the_pending_set() {
     let mut tables = two();
-    tables.kill(1, 100, 0, USR1).unwrap();
-    tables.queue(1, 100, 200, 40, 7).unwrap();
-    assert_eq!(tables.pending(200), Ok(SigSet::EMPTY));
+    tables.kill(ROOT, TO_PROCESS, USR1).unwrap();
+    tables.sigqueue(ROOT, TO_THREAD, RT, 7).unwrap();
+    assert_eq!(tables.sigpending(THREAD), Ok(SigSet::EMPTY));
     let all = SigSet(u64::MAX);
-    tables.set_mask(200, Way::SetMask, all).unwrap();
-    let both = SigSet::of_signal(USR1).union(SigSet::of_signal(40));
-    assert_eq!(tables.pending(200), Ok(both));
+    tables.set_sigmask(THREAD, Way::SetMask, all).unwrap();
+    let both = SigSet::of_signal(USR1).union(SigSet::of_signal(RT));
+    assert_eq!(tables.sigpending(THREAD), Ok(both));
+    assert!(both.has(RT) && !both.has(Signal(41)) && !both.has(Signal(0)));
 }
 
 #[test]
 fn looks() {
     let mut tables = two();
-    assert_eq!(tables.looked(200), Ok(Next::Nothing));
-    assert!(tables.look(200).is_empty());
-    tables.queue(1, 100, 0, 41, 1).unwrap();
-    tables.queue(1, 100, 0, 40, 2).unwrap();
+    assert_eq!(tables.look(THREAD), Ok(Next::Nothing));
+    assert!(tables.look_part(THREAD).is_empty());
+    tables.sigqueue(ROOT, TO_PROCESS, Signal(41), 1).unwrap();
+    tables.sigqueue(ROOT, TO_PROCESS, RT, 2).unwrap();
     let before = tables.snapshot();
-    assert_eq!(tables.looked(200), Ok(Next::Record(record(0, 40, 2))));
-    let part = tables.look(200);
-    assert_eq!(Siginfo::from_bytes(part), Some(record(0, 40, 2)));
+    let next = record(TO_PROCESS, RT, 2);
+    assert_eq!(tables.look(THREAD), Ok(Next::Record(next)));
+    let part = tables.look_part(THREAD);
+    assert_eq!(Siginfo::from_bytes(part), Some(next));
     let second = &tables.process_buffer()[RECORD_BYTES..2 * RECORD_BYTES];
     assert!(std::ptr::eq(part, second));
-    tables.queue(1, 100, 200, 40, 3).unwrap();
+    tables.sigqueue(ROOT, TO_THREAD, RT, 3).unwrap();
     let first = &tables.thread_buffer()[..RECORD_BYTES];
-    assert!(std::ptr::eq(tables.look(200), first));
+    assert!(std::ptr::eq(tables.look_part(THREAD), first));
     assert_eq!(before.process_buffer(), tables.process_buffer());
 }
 
 #[test]
 fn a_look_at_a_mark_or_for_nobody_is_empty() {
     let mut tables = two();
-    tables.kill(1, 100, 200, USR1).unwrap();
+    tables.kill(ROOT, TO_THREAD, USR1).unwrap();
     let mark = Next::Mark {
-        process: 100,
-        thread: 200,
+        target: TO_THREAD,
         signal: USR1,
     };
-    assert_eq!(tables.looked(200), Ok(mark));
-    assert!(tables.look(200).is_empty());
-    assert!(tables.look(999).is_empty());
+    assert_eq!(tables.look(THREAD), Ok(mark));
+    assert!(tables.look_part(THREAD).is_empty());
+    assert!(tables.look_part(NOBODY).is_empty());
 }
 
 #[test]
 fn who_can_take() {
     let mut tables = two();
-    assert_eq!(tables.who(100), Ok(None));
-    tables.kill(1, 100, 0, USR1).unwrap();
-    assert_eq!(tables.who(100), Ok(Some(200)));
+    assert_eq!(tables.who(PROCESS), Ok(None));
+    tables.kill(ROOT, TO_PROCESS, USR1).unwrap();
+    assert_eq!(tables.who(PROCESS), Ok(Some(THREAD)));
 }
 
 #[test]
 fn a_handler_for_a_record() {
     let mut tables = two();
     let action = handler(SA_SIGINFO | SA_RESETHAND, 2048);
-    tables.set_action(100, 40, action).unwrap();
-    tables.set_mask(200, Way::Block, SigSet(1)).unwrap();
-    tables.queue(1, 100, 200, 40, u64::MAX).unwrap();
+    tables.set_sigaction(PROCESS, RT, action).unwrap();
+    tables.set_sigmask(THREAD, Way::Block, SigSet(1)).unwrap();
+    tables.sigqueue(ROOT, TO_THREAD, RT, u64::MAX).unwrap();
     let delivery = Delivery {
         handler: HANDLER,
-        signal: 40,
+        signal: RT,
         flags: SA_SIGINFO | SA_RESETHAND,
         saved: SigSet(1),
-        info: record(200, 40, u64::MAX),
+        info: record(TO_THREAD, RT, u64::MAX),
     };
-    assert_eq!(tables.take(200), Ok(Taken::Handler(delivery)));
-    assert_eq!(tables.mask(200), Ok(SigSet(1 | 2048 | 1 << 39)));
+    assert_eq!(tables.take(THREAD), Ok(Taken::Handler(delivery)));
+    let mask = SigSet(1 | 2048 | 1 << 39);
+    assert_eq!(tables.sigmask(THREAD), Ok(mask));
     let reset = Action {
         handler: SIG_DFL,
         flags: RESETHAND,
         mask: SigSet(2048),
     };
-    assert_eq!(tables.action(100, 40), Ok(reset));
+    assert_eq!(tables.sigaction(PROCESS, RT), Ok(reset));
 }
 
 #[test]
 fn a_handler_for_a_mark() {
     let mut tables = two();
-    tables.set_action(100, USR1, handler(0, 0)).unwrap();
-    tables.kill(1, 100, 0, USR1).unwrap();
-    let Ok(Taken::Handler(delivery)) = tables.take(200) else {
+    tables.set_sigaction(PROCESS, USR1, handler(0, 0)).unwrap();
+    tables.kill(ROOT, TO_PROCESS, USR1).unwrap();
+    let Ok(Taken::Handler(delivery)) = tables.take(THREAD) else {
         panic!("a handler was expected");
     };
     let mark = Siginfo {
         code: 0,
-        sender: 0,
-        ..record(0, USR1, 0)
+        sender: ProcessId(0),
+        ..record(TO_PROCESS, USR1, 0)
     };
     assert_eq!(delivery.info, mark);
 }
@@ -190,14 +208,15 @@ fn a_handler_for_a_mark() {
 #[test]
 fn defaults_taken() {
     let mut tables = two();
-    assert_eq!(tables.take(200), Ok(Taken::Nothing));
-    tables.kill(1, 100, 0, SIGCONT).unwrap();
-    assert_eq!(tables.take(200), Ok(Taken::NoAction(SIGCONT)));
-    tables.kill(1, 100, 0, SIGTSTP).unwrap();
-    assert_eq!(tables.take(200), Ok(Taken::Stop(SIGTSTP)));
-    tables.kill(1, 100, 0, SIGCONT).unwrap();
-    tables.kill(1, 100, 0, TERM).unwrap();
-    assert_eq!(tables.take(200), Ok(Taken::End(TERM)));
+    let (stop, cont) = (Signal::TSTP, Signal::CONT);
+    assert_eq!(tables.take(THREAD), Ok(Taken::Nothing));
+    tables.kill(ROOT, TO_PROCESS, cont).unwrap();
+    assert_eq!(tables.take(THREAD), Ok(Taken::NoAction(cont)));
+    tables.kill(ROOT, TO_PROCESS, stop).unwrap();
+    assert_eq!(tables.take(THREAD), Ok(Taken::Stop(stop)));
+    tables.kill(ROOT, TO_PROCESS, cont).unwrap();
+    tables.kill(ROOT, TO_PROCESS, USR1).unwrap();
+    assert_eq!(tables.take(THREAD), Ok(Taken::End(USR1)));
 }
 
 #[test]
@@ -213,9 +232,9 @@ fn a_host_may_keep_its_own_tables() {
         &mut process_buffer[..],
     );
     tables.add_process(user(100, 1000, 200)).unwrap();
-    tables.queue(100, 100, 0, 40, 7).unwrap();
+    tables.sigqueue(PROCESS, TO_PROCESS, RT, 7).unwrap();
     let copy = tables.snapshot();
-    tables.queue(100, 100, 0, 40, 8).unwrap();
+    tables.sigqueue(PROCESS, TO_PROCESS, RT, 8).unwrap();
     assert_ne!(copy, tables);
     assert_eq!((words[0], threads[0].id), (100, 200));
     assert_eq!(Siginfo::from_bytes(&buffers[1][32..64]).unwrap().value, 8);

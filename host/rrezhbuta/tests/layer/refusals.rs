@@ -1,8 +1,9 @@
 //! Each errno by each method that gives it; no table changes by a bit.
 
 use crate::common::*;
-use rrezhbuta::limits::{LARGEST_ID, PROCESS_PLACES, RECORD_LIMIT, SIGKILL, THREAD_PLACES};
-use rrezhbuta::{Action, Call, Errno, NewProcess, SigSet, Tables, Way};
+use rrezhbuta::limits::{LARGEST_ID, PROCESS_PLACES, RECORD_LIMIT, THREAD_PLACES};
+use rrezhbuta::{Action, Call, Errno, NewProcess, ProcessId, SigSet, Signal, Tables};
+use rrezhbuta::{Target, ThreadId, Way};
 use std::fmt::Debug;
 
 /// The call is refused so, and the tables are as before.
@@ -20,19 +21,20 @@ fn refused<T: Debug + PartialEq>(
 fn einval() {
     let mut tables = two();
     let e = Errno::EINVAL;
-    refused(&mut tables, e, |t| t.kill(1, 100, 0, 65));
-    refused(&mut tables, e, |t| t.queue(1, 100, 0, u32::MAX, 1));
-    refused(&mut tables, e, |t| t.action(100, 0));
+    refused(&mut tables, e, |t| t.kill(ROOT, TO_PROCESS, Signal(65)));
+    let most = Signal(u32::MAX);
+    refused(&mut tables, e, |t| t.sigqueue(ROOT, TO_PROCESS, most, 1));
+    refused(&mut tables, e, |t| t.sigaction(PROCESS, Signal(0)));
     refused(&mut tables, e, |t| {
-        t.set_action(100, SIGKILL, Action::default())
+        t.set_sigaction(PROCESS, Signal::KILL, Action::default())
     });
     refused(&mut tables, e, |t| t.add_process(user(0, 0, 300)));
     refused(&mut tables, e, |t| {
         t.add_process(user(300, 0, LARGEST_ID + 1))
     });
-    refused(&mut tables, e, |t| t.add_thread(200, 0));
-    let way = Call::Mask {
-        thread: 200,
+    refused(&mut tables, e, |t| t.add_thread(THREAD, ThreadId(0)));
+    let way = Call::Sigmask {
+        thread: THREAD,
         way: 3,
         set: Some(SigSet(1)),
     };
@@ -43,27 +45,34 @@ fn einval() {
 fn esrch() {
     let mut tables = two();
     let e = Errno::ESRCH;
-    refused(&mut tables, e, |t| t.kill(9, 100, 0, 10));
-    refused(&mut tables, e, |t| t.queue(1, 100, 2, 10, 1));
-    refused(&mut tables, e, |t| t.end_process(9));
-    refused(&mut tables, e, |t| t.end_thread(9));
-    refused(&mut tables, e, |t| t.add_thread(9, 300));
-    refused(&mut tables, e, |t| t.action(9, 10));
-    refused(&mut tables, e, |t| t.set_action(9, 10, Action::default()));
-    refused(&mut tables, e, |t| t.mask(9));
-    refused(&mut tables, e, |t| t.set_mask(9, Way::Block, SigSet(1)));
-    refused(&mut tables, e, |t| t.pending(9));
-    refused(&mut tables, e, |t| t.looked(9));
-    refused(&mut tables, e, |t| t.who(9));
-    refused(&mut tables, e, |t| t.take(9));
-    refused(&mut tables, e, |t| t.sigreturn(9, SigSet(0)));
+    let (process, thread) = (ProcessId(9), NOBODY);
+    let anothers = Target::Thread(PROCESS, ROOTS);
+    refused(&mut tables, e, |t| t.kill(process, TO_PROCESS, USR1));
+    refused(&mut tables, e, |t| t.sigqueue(ROOT, anothers, USR1, 1));
+    refused(&mut tables, e, |t| t.end_process(process));
+    refused(&mut tables, e, |t| t.end_thread(thread));
+    refused(&mut tables, e, |t| t.add_thread(thread, ThreadId(300)));
+    refused(&mut tables, e, |t| t.sigaction(process, USR1));
+    refused(&mut tables, e, |t| {
+        t.set_sigaction(process, USR1, Action::default())
+    });
+    refused(&mut tables, e, |t| t.sigmask(thread));
+    refused(&mut tables, e, |t| {
+        t.set_sigmask(thread, Way::Block, SigSet(1))
+    });
+    refused(&mut tables, e, |t| t.sigpending(thread));
+    refused(&mut tables, e, |t| t.look(thread));
+    refused(&mut tables, e, |t| t.who(process));
+    refused(&mut tables, e, |t| t.take(thread));
+    refused(&mut tables, e, |t| t.sigreturn(thread, SigSet(0)));
 }
 
 #[test]
 fn eperm() {
     let mut tables = two();
-    refused(&mut tables, Errno::EPERM, |t| t.kill(100, 1, 0, 10));
-    refused(&mut tables, Errno::EPERM, |t| t.queue(100, 1, 0, 0, 1));
+    let (e, to) = (Errno::EPERM, Target::Process(ROOT));
+    refused(&mut tables, e, |t| t.kill(PROCESS, to, USR1));
+    refused(&mut tables, e, |t| t.sigqueue(PROCESS, to, Signal(0), 1));
 }
 
 #[test]
@@ -72,7 +81,7 @@ fn eexist() {
     let e = Errno::EEXIST;
     refused(&mut tables, e, |t| t.add_process(user(100, 0, 300)));
     refused(&mut tables, e, |t| t.add_process(user(300, 0, 200)));
-    refused(&mut tables, e, |t| t.add_thread(200, 2));
+    refused(&mut tables, e, |t| t.add_thread(THREAD, ROOTS));
 }
 
 #[test]
@@ -85,18 +94,23 @@ fn eagain_for_places() {
         t.add_process(user(99, 0, 99))
     });
     for id in PROCESS_PLACES + 1..=THREAD_PLACES {
-        tables.add_thread(1, id as u32).unwrap();
+        let id = ThreadId(id as u32);
+        tables.add_thread(ThreadId(1), id).unwrap();
     }
-    refused(&mut tables, Errno::EAGAIN, |t| t.add_thread(1, 99));
+    refused(&mut tables, Errno::EAGAIN, |t| {
+        t.add_thread(ThreadId(1), ThreadId(99))
+    });
 }
 
 #[test]
 fn eagain_for_records() {
     let mut tables = two();
     for value in 0..RECORD_LIMIT as u64 {
-        tables.queue(1, 100, 0, 40, value).unwrap();
+        tables.sigqueue(ROOT, TO_PROCESS, RT, value).unwrap();
     }
-    refused(&mut tables, Errno::EAGAIN, |t| t.queue(1, 100, 200, 41, 0));
+    refused(&mut tables, Errno::EAGAIN, |t| {
+        t.sigqueue(ROOT, TO_THREAD, Signal(41), 0)
+    });
 }
 
 #[test]
@@ -104,12 +118,12 @@ fn efault_for_tables_that_are_not_sound() {
     let mut tables = two();
     tables.threads_mut()[0].mask = SigSet::UNMASKABLE;
     let e = Errno::EFAULT;
-    refused(&mut tables, e, |t| t.kill(1, 100, 0, 65));
+    refused(&mut tables, e, |t| t.kill(ROOT, TO_PROCESS, Signal(65)));
     refused(&mut tables, e, |t| t.add_process(NewProcess::default()));
-    refused(&mut tables, e, |t| t.add_thread(9, 0));
-    refused(&mut tables, e, |t| t.take(200));
-    refused(&mut tables, e, |t| t.mask(200));
-    assert!(tables.look(200).is_empty());
+    refused(&mut tables, e, |t| t.add_thread(NOBODY, ThreadId(0)));
+    refused(&mut tables, e, |t| t.take(THREAD));
+    refused(&mut tables, e, |t| t.sigmask(THREAD));
+    assert!(tables.look_part(THREAD).is_empty());
     assert_eq!(tables.clear(), Ok(()));
     assert_eq!(tables, Tables::new());
 }

@@ -1,7 +1,7 @@
 //! The tables for a reader.
 
 use crate::common::*;
-use rrezhbuta::{Action, SigSet, Tables, Way};
+use rrezhbuta::{Action, SigSet, Signal, Tables, Target, ThreadId, Way};
 
 #[test]
 fn a_cleared_store_has_nothing_to_say() {
@@ -15,16 +15,20 @@ fn processes_threads_and_what_is_pending() {
         handler: 1,
         ..Action::default()
     };
-    tables.add_thread(200, 201).unwrap();
-    tables.end_process(1).unwrap();
-    tables.set_action(100, 1, ignore).unwrap();
-    tables.set_action(100, 2, handler(0, 0)).unwrap();
-    tables.kill(100, 100, 0, 10).unwrap();
-    tables.queue(100, 100, 0, 40, 7).unwrap();
-    tables.queue(100, 100, 201, 64, 8).unwrap();
-    tables.kill(100, 100, 201, 2).unwrap();
-    tables.kill(100, 100, 0, 19).unwrap();
-    tables.set_mask(201, Way::Block, SigSet(1 << 63)).unwrap();
+    let second = ThreadId(201);
+    let to_second = Target::Thread(PROCESS, second);
+    tables.add_thread(THREAD, second).unwrap();
+    tables.end_process(ROOT).unwrap();
+    tables.set_sigaction(PROCESS, Signal(1), ignore).unwrap();
+    let action = handler(0, 0);
+    tables.set_sigaction(PROCESS, Signal::INT, action).unwrap();
+    tables.kill(PROCESS, TO_PROCESS, USR1).unwrap();
+    tables.sigqueue(PROCESS, TO_PROCESS, RT, 7).unwrap();
+    tables.sigqueue(PROCESS, to_second, Signal(64), 8).unwrap();
+    tables.kill(PROCESS, to_second, Signal::INT).unwrap();
+    tables.kill(PROCESS, TO_PROCESS, Signal::STOP).unwrap();
+    let last = SigSet::of_signal(Signal(64));
+    tables.set_sigmask(second, Way::Block, last).unwrap();
     let expected = "\
 Pid:\t100
 Uid:\t1000\t1000\t1000
