@@ -10,13 +10,13 @@ use Rattle.lists.specs.Lists.{any, All}
 use Rattle.lists.proofs.Bools.{or-fst-false, or-snd-false}
 use Rattle.siginfo.specs.Bytes.{Bytes}
 use Rattle.sigset.specs.declared.SigSet.{SigSet}
-use Rattle.sigset.specs.Set.{empty, maskable}
-use Rattle.rules.specs.Types.{Call, addProcess, addThread}
+use Rattle.sigset.specs.Set.{maskable}
+use Rattle.rules.specs.Types.{addProcess, addThread}
 use Rattle.rules.specs.View.{isThread, liveThread, theThread}
 use Rattle.rules.specs.Store.{isFreeProcess, isFreeThread, fill, view, apply, applyAll}
 use Rattle.rules.specs.Sound.{goodId}
 use Rattle.rules.specs.Adding.{addedProcess, addProcessChanges, addThreadChanges}
-use Rattle.rules.specs.Refusals.{rows, isClear, fault, table, refusalOf, noThreadLive, noProcessPlace, noThreadPlace}
+use Rattle.rules.specs.Refusals.{rows, isClear, noThreadLive, noProcessPlace, noThreadPlace}
 use Rattle.rules.specs.Calls.{changes, reply}
 use Rattle.rules.proofs.RefusalTable.{Off}
 use Rattle.tables.specs.Tables.{processesOf, threadsOf, heldProcesses, heldThreads}
@@ -25,7 +25,9 @@ use Rattle.effects.proofs.Places.{with-all}
 use Rattle.sound.proofs.Facts.{right-processes, right-threads, threads-long}
 use Rattle.effects.specs.Effects.{threadOf}
 use Rattle.view.specs.Named.{threadNamed}
+use Rattle.types.specs.declared.NewProcess.{NewProcess}
 use Rattle.types.specs.declared.Reply.the-variants.{Done}
+use Rattle.types.specs.declared.Answer.{Answer}
 use Rattle.types.specs.declared.Answer.the-variants.{Refused, Accepted}
 use Rattle.answers.specs.Step.{Lent, lent, refusalOn, stepOn}
 use Rattle.view.proofs.Live.{owner-known}
@@ -33,57 +35,51 @@ use Rattle.answers.proofs.Endings.{longAs, accepted-long, accepted-rows, accept
 
 -- ---- a process
 
--- the user ids, the session id and the mask decide nothing
-undecided : (id real effective saved session thread : ℕ) (mask : SigSet) (l : Lent)
-    → refusalOn (addProcess id 0 0 0 0 thread empty) l ≡ refusalOn (addProcess id real effective saved session thread mask) l
-unfolding refusalOn refusalOf table fault isClear rows
-undecided id real effective saved session thread mask l = refl
-
-module _ (ps ts tb pb : List ℕ) (id thread n : ℕ) (r : n ≡ refusalOn (addProcess id 0 0 0 0 thread empty) (lent ps ts tb pb)) where
+module _ (ps ts tb pb : List ℕ) (new : NewProcess) (n : ℕ) (r : n ≡ refusalOn (addProcess new) (lent ps ts tb pb)) where
   module _ (z : n ≡ 0) where
     process-long : longAs (lent ps ts tb pb) ≡ true
-    process-long = accepted-long (addProcess id 0 0 0 0 thread empty) (lent ps ts tb pb) (sym r ∙ z)
+    process-long = accepted-long (addProcess new) (lent ps ts tb pb) (sym r ∙ z)
 
     places : (noProcessPlace (view (storeOf ps ts tb pb)) || noThreadPlace (view (storeOf ps ts tb pb))) ≡ false
     unfolding rows
-    places = accepted-rows (addProcess id 0 0 0 0 thread empty) (lent ps ts tb pb) (sym r ∙ z) .1 .1 .0
+    places = accepted-rows (addProcess new) (lent ps ts tb pb) (sym r ∙ z) .1 .1 .0
 
     pub process-room : (length ps ≡ processTable) × (any isFreeProcess (heldProcesses ps) ≡ true)
     unfolding noProcessPlace view storeOf
-    process-room =
-        (right-processes ps ts tb pb process-long, not-false (any isFreeProcess (heldProcesses ps)) (or-fst-false (not (any isFreeProcess (heldProcesses ps))) _ places))
+    process-room = (
+      right-processes ps ts tb pb process-long,
+      not-false (any isFreeProcess (heldProcesses ps)) (or-fst-false (not (any isFreeProcess (heldProcesses ps))) _ places),
+    )
 
     pub first-thread-room : (length ts ≡ threadTable) × (any isFreeThread (heldThreads ts) ≡ true)
     unfolding noThreadPlace noProcessPlace view storeOf
-    first-thread-room =
-        (right-threads ps ts tb pb process-long, not-false (any isFreeThread (heldThreads ts)) (or-snd-false (not (any isFreeProcess (heldProcesses ps))) _ places))
+    first-thread-room = (
+      right-threads ps ts tb pb process-long,
+      not-false (any isFreeThread (heldThreads ts)) (or-snd-false (not (any isFreeProcess (heldProcesses ps))) _ places),
+    )
 
-  module _ (real effective saved session : ℕ) (mask : SigSet) where
-    abbrev call : Call
-    call = addProcess id real effective saved session thread mask
+  abbrev Ends : Answer → Lent → Type 0
+  Ends a m = (a ≡ stepOn (addProcess new) (lent ps ts tb pb) .1) × (m ≡ stepOn (addProcess new) (lent ps ts tb pb) .0)
 
-    number : n ≡ refusalOn call (lent ps ts tb pb)
-    number = r ∙ undecided id real effective saved session thread mask (lent ps ts tb pb)
+  pub process-refused : (n ≡ 0 → ⊥) → Ends (Refused n) (lent ps ts tb pb)
+  process-refused = refused-ends (addProcess new) (lent ps ts tb pb) n r
 
-    pub process-refused : (n ≡ 0 → ⊥) → (Refused n ≡ stepOn call (lent ps ts tb pb) .1) × (lent ps ts tb pb ≡ stepOn call (lent ps ts tb pb) .0)
-    process-refused = refused-ends call (lent ps ts tb pb) n number
+  module _ (ps′ ts′ : List ℕ) (given : SigSet) (g : given ≡ maskable (new .mask))
+      (p : processesOf ps′ ≡ fill isFreeProcess (addedProcess new) (processesOf ps))
+      (t : threadsOf ts′ ≡ fill isFreeThread (threadOf (new .thread) (new .id) given) (threadsOf ts)) where
+    process-made : storeOf ps′ ts′ tb pb ≡ applyAll (changes (view (storeOf ps ts tb pb)) (addProcess new)) (storeOf ps ts tb pb)
+    unfolding storeOf changes addProcessChanges applyAll apply
+    process-made =
+        let f : threadsOf ts′ ≡ fill isFreeThread (threadOf (new .thread) (new .id) (maskable (new .mask))) (threadsOf ts) =
+        t ∙ ap (λ (m : SigSet). fill isFreeThread (threadOf (new .thread) (new .id) m) (threadsOf ts)) g in
+        with-all ps′ ts′ tb pb p f refl refl
 
-    module _ (ps′ ts′ : List ℕ) (given : SigSet) (g : given ≡ maskable mask)
-        (p : processesOf ps′ ≡ fill isFreeProcess (addedProcess id real effective saved session) (processesOf ps))
-        (t : threadsOf ts′ ≡ fill isFreeThread (threadOf thread id given) (threadsOf ts)) where
-      process-made : storeOf ps′ ts′ tb pb ≡ applyAll (changes (view (storeOf ps ts tb pb)) call) (storeOf ps ts tb pb)
-      unfolding storeOf changes addProcessChanges applyAll apply
-      process-made =
-          let f : threadsOf ts′ ≡ fill isFreeThread (threadOf thread id (maskable mask)) (threadsOf ts) =
-          t ∙ ap (λ (m : SigSet). fill isFreeThread (threadOf thread id m) (threadsOf ts)) g in
-          with-all ps′ ts′ tb pb p f refl refl
-
-      pub process-added : n ≡ 0 → length ps′ ≡ length ps → length ts′ ≡ length ts → Bytes tb → Bytes pb
-          → (Accepted Done ≡ stepOn call (lent ps ts tb pb) .1) × (lent ps′ ts′ tb pb ≡ stepOn call (lent ps ts tb pb) .0)
-      unfolding reply
-      process-added z lp lt bt bp =
-          accepted-ends call (lent ps ts tb pb) (sym number ∙ z) Done refl (lent ps′ ts′ tb pb)
-          (record { processes = lp; threads = lt; threadBuffer = refl; processBuffer = refl }) bt bp process-made
+    pub process-added : n ≡ 0 → length ps′ ≡ length ps → length ts′ ≡ length ts → Bytes tb → Bytes pb
+        → Ends (Accepted Done) (lent ps′ ts′ tb pb)
+    unfolding reply
+    process-added z lp lt bt bp =
+        accepted-ends (addProcess new) (lent ps ts tb pb) (sym r ∙ z) Done refl (lent ps′ ts′ tb pb)
+        (record { processes = lp; threads = lt; threadBuffer = refl; processBuffer = refl }) bt bp process-made
 
 -- ---- a thread
 

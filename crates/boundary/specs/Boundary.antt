@@ -19,6 +19,7 @@ use Rattle.types.specs.declared.Reply.{Reply}
 use Rattle.types.specs.declared.Reply.the-variants as reply
 use Rattle.types.specs.declared.Answer.{Answer}
 use Rattle.types.specs.declared.Answer.the-variants.{Refused, Accepted}
+use Rattle.types.specs.Values.{newOf}
 use Rattle.rules.specs.Types.{Call, clear, addProcess, addThread, endProcess, endThread, kill, queue, action, mask, pending, look, who, take, return}
 use Rattle.sound.specs.Lent.{lengthsAre, soundTables}
 use Rattle.answers.specs.Step.{Lent, stepOn}
@@ -48,7 +49,7 @@ whereGiven n v = cond (eqb n 0) none (some v)
 unfoldable pub callsOf : Arguments → List Call
 callsOf g =
     clear
-    ∷ addProcess (g .a) (g .b) (g .c) (g .d) (g .e) (g .f) (bits (g .x))
+    ∷ addProcess (newOf (g .a) (g .b) (g .c) (g .d) (g .e) (g .f) (bits (g .x)))
     ∷ addThread (g .a) (g .b)
     ∷ endProcess (g .a)
     ∷ endThread (g .a)

@@ -13,14 +13,14 @@ use Rattle.types.specs.declared.Action.{Action}
 use Rattle.types.specs.declared.Siginfo.{Siginfo}
 use Rattle.types.specs.Values.{defaultAction}
 use Rattle.types.specs.declared.Answer.{Answer}
-use Rattle.rules.specs.Types.{Call, addProcess, addThread, endProcess, endThread, kill, queue, action, mask, pending, look, who, take, return}
+use Rattle.rules.specs.Types.{Call, addThread, endProcess, endThread, kill, queue, action, mask, pending, look, who, take, return}
 use Rattle.rules.specs.Store.{Store, cleared}
 use Rattle.rules.specs.Calls.{run}
 use Rattle.rules.specs.Machine.{machine}
 use Rattle.rules.specs.Computing.{computing}
 use Rattle.rules.proofs.Cleared.{sound-cleared}
 use Rattle.rules.proofs.QuickRuns.{quickComputing, quickRun, same-run}
-use Rattle.examples.specs.Words.{refused, done, tested, acted, dropped, marked, kept, oldAction, oldMask, pendingSet, nothing, handler}
+use Rattle.examples.specs.Words.{adds, refused, done, tested, acted, dropped, marked, kept, oldAction, oldMask, pendingSet, nothing, handler}
 
 pub answers : List Call → List Answer
 answers cs = run cs cleared .1
@@ -40,7 +40,7 @@ holds c u e = ap (λ (x : Store × List Answer). x .1) (same-run (c .calls) clea
 -- ---- what the cases share: process 100 with thread 200, which signals itself
 
 abbrev one : SigSet → Call
-one m = addProcess 100 1000 1000 1000 7 200 m
+one m = adds 100 1000 1000 1000 7 200 m
 
 -- a handler with these flags and this mask
 abbrev handling : ℕ → ℕ → Action
@@ -227,7 +227,7 @@ abbrev noId : Case
 noId =
     record {
       calls =
-          addProcess 0 0 0 0 0 200 empty ∷ addProcess 100 0 0 0 0 0 empty ∷ addProcess 2147483648 0 0 0 0 200 empty ∷ one empty ∷ addThread 0 201 ∷ addThread 200 0
+          adds 0 0 0 0 0 200 empty ∷ adds 100 0 0 0 0 0 empty ∷ adds 2147483648 0 0 0 0 200 empty ∷ one empty ∷ addThread 0 201 ∷ addThread 200 0
           ∷ endProcess 0 ∷ endThread 0 ∷ kill 0 100 0 10 ∷ kill 100 0 0 10 ∷ kill 100 100 4294967295 10 ∷ take 0 ∷ look 0 ∷ who 0 ∷ pending 0 ∷ return 0 empty ∷ [];
       expected =
           refused EINVAL ∷ refused EINVAL ∷ refused EINVAL ∷ done ∷ refused ESRCH ∷ refused EINVAL

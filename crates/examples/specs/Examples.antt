@@ -10,7 +10,7 @@ use Rattle.lists.specs.Lists.{All, all}
 use Rattle.sigset.specs.Set.{bits, empty}
 use Rattle.types.specs.Values.{defaultAction}
 use Rattle.types.specs.declared.Answer.{Answer}
-use Rattle.rules.specs.Types.{Call, clear, addProcess, addThread, endProcess, endThread, kill, queue, action, mask, pending, look, who, take, return}
+use Rattle.rules.specs.Types.{Call, clear, addThread, endProcess, endThread, kill, queue, action, mask, pending, look, who, take, return}
 use Rattle.rules.specs.Store.{Store, cleared}
 use Rattle.rules.specs.Calls.{run, Part, emptyPart, processSlot, lookPart}
 use Rattle.rules.specs.Machine.{machine}
@@ -19,7 +19,7 @@ use Rattle.rules.proofs.Cleared.{sound-cleared}
 use Rattle.rules.proofs.StaysSound.{run-sound}
 use Rattle.rules.proofs.QuickRuns.{quickComputing, quickRun, same-run, quickPart, same-part}
 use Rattle.examples.specs.Cases.{Case, Holds, holds, times}
-use Rattle.examples.specs.Words.{refused, done, tested, acted, dropped, absorbed, marked, kept, oldAction, oldMask, pendingSet, canTake, noneCan, nothing, handler, end, stop, noAction, lookedNothing, lookedMark, lookedRecord}
+use Rattle.examples.specs.Words.{adds, refused, done, tested, acted, dropped, absorbed, marked, kept, oldAction, oldMask, pendingSet, canTake, noneCan, nothing, handler, end, stop, noAction, lookedNothing, lookedMark, lookedRecord}
 
 abbrev called : Call × Answer → Call
 called x = x .0
@@ -33,17 +33,17 @@ story =
     -- clear → done
     (clear, done)
     -- add_process id=1 real=0 effective=0 saved=0 session=1 thread=2 mask=0 → done
-    ∷ (addProcess 1 0 0 0 1 2 empty, done)
+    ∷ (adds 1 0 0 0 1 2 empty, done)
     -- add_process id=100 real=1000 effective=1000 saved=1000 session=7 thread=200 mask=0 → done
-    ∷ (addProcess 100 1000 1000 1000 7 200 empty, done)
+    ∷ (adds 100 1000 1000 1000 7 200 empty, done)
     -- add_process id=300 real=1001 effective=1001 saved=1001 session=8 thread=400 mask=768 → done
-    ∷ (addProcess 300 1001 1001 1001 8 400 (bits 768), done)
+    ∷ (adds 300 1001 1001 1001 8 400 (bits 768), done)
     -- mask thread=400 way=0 → old mask 512
     ∷ (mask 400 0 none, oldMask (bits 512))
     -- add_process id=2147483648 real=0 effective=0 saved=0 session=1 thread=500 mask=0 → refused 22
-    ∷ (addProcess 2147483648 0 0 0 1 500 empty, refused 22)
+    ∷ (adds 2147483648 0 0 0 1 500 empty, refused 22)
     -- add_process id=301 real=0 effective=0 saved=0 session=1 thread=200 mask=0 → refused 17
-    ∷ (addProcess 301 0 0 0 1 200 empty, refused 17)
+    ∷ (adds 301 0 0 0 1 200 empty, refused 17)
     -- add_thread creator=200 id=201 → done
     ∷ (addThread 200 201, done)
     -- add_thread creator=400 id=401 → done
@@ -61,7 +61,7 @@ story =
     -- mask thread=401 way=0 → refused 3
     ∷ (mask 401 0 none, refused 3)
     -- add_process id=302 real=1001 effective=1001 saved=1001 session=8 thread=402 mask=0 → done
-    ∷ (addProcess 302 1001 1001 1001 8 402 empty, done)
+    ∷ (adds 302 1001 1001 1001 8 402 empty, done)
     -- add_thread creator=402 id=403 → done
     ∷ (addThread 402 403, done)
     -- end_thread id=402 → done
@@ -228,7 +228,7 @@ parts = (finds aMark refl refl, (finds nothingNext refl refl, (finds aRecord ref
 
 -- beside the story: process 100 alone, with 32 records of 34 pending
 abbrev crowd : List (Call × Answer)
-crowd = (addProcess 100 1000 1000 1000 7 200 empty, done) ∷ times recordLimit ((queue 100 100 0 34 7, kept) ∷ [])
+crowd = (adds 100 1000 1000 1000 7 200 empty, done) ∷ times recordLimit ((queue 100 100 0 34 7, kept) ∷ [])
 
 abbrev beside : List (Call × Answer)
 beside =

@@ -62,7 +62,7 @@ rows-no-fault v c = given-passes notFault (rows v c) refl (below v c)
   where
     below : (v : View) (c : Call) → All (λ (r : Row). r .applies ≡ true → notFault (r .errno) ≡ true) (rows v c)
     below v clear = tt
-    below v (addProcess id real effective saved session thread m) = ((λ e. refl), ((λ e. refl), ((λ e. refl), tt)))
+    below v (addProcess new) = ((λ e. refl), ((λ e. refl), ((λ e. refl), tt)))
     below v (addThread creator id) = ((λ e. refl), ((λ e. refl), ((λ e. refl), ((λ e. refl), tt))))
     below v (endProcess id) = ((λ e. refl), tt)
     below v (endThread id) = ((λ e. refl), tt)

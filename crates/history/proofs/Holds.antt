@@ -100,9 +100,9 @@ holds-accepted : (c : Call) (st : Store) (k : Ledger) → machine c ≡ true →
     → Holds (applyAll (changes (view st) c) st) (noteAll (changes (view st) c) k)
 unfolding isAddProcess
 holds-accepted clear st k u e h = fitting-holds clear st k u e h refl
-holds-accepted (addProcess id real effective saved session thread m) st k u e h =
+holds-accepted (addProcess new) st k u e h =
     record {
-      isSound = after-sound (addProcess id real effective saved session thread m) st k u e h;
+      isSound = after-sound (addProcess new) st k u e h;
       beside = unfold changes addProcessChanges in beside-added _ _ st k h;
     }
 holds-accepted (addThread creator id) st k u e h = fitting-holds (addThread creator id) st k u e h refl

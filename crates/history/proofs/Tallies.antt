@@ -79,7 +79,7 @@ kept-who v (some t) = refl
 -- a queued send that needs a record, and no other call
 unfoldable keepsOne : View → Call → Bool
 keepsOne v clear = false
-keepsOne v (addProcess id real effective saved session thread m) = false
+keepsOne v (addProcess new) = false
 keepsOne v (addThread creator id) = false
 keepsOne v (endProcess id) = false
 keepsOne v (endThread id) = false
@@ -96,7 +96,7 @@ keepsOne v (return t saved) = false
 kept-call : (v : View) (c : Call) → isKept (Accepted (reply v c)) ≡ keepsOne v c
 unfolding reply keepsOne taker onAccepted onReply
 kept-call v clear = refl
-kept-call v (addProcess id real effective saved session thread m) = refl
+kept-call v (addProcess new) = refl
 kept-call v (addThread creator id) = refl
 kept-call v (endProcess id) = refl
 kept-call v (endThread id) = refl
@@ -123,7 +123,7 @@ module _ (k : Ledger) (v : View) where
   keeps-cases : (P : Call → Type 0) → ((by to t s value : ℕ) → generation v true (targetQueue to t) s ≡ keeping → P (queue by to t s value)) → (c : Call) → keepsOne v c ≡ true → P c
   unfolding keepsOne
   keeps-cases P h clear e = clash e refl
-  keeps-cases P h (addProcess id real effective saved session thread m) e = clash e refl
+  keeps-cases P h (addProcess new) e = clash e refl
   keeps-cases P h (addThread creator id) e = clash e refl
   keeps-cases P h (endProcess id) e = clash e refl
   keeps-cases P h (endThread id) e = clash e refl
@@ -196,7 +196,7 @@ takes-cases : (v : View) (q : Queue) (s : ℕ) (r : Siginfo) (P : Call → Type 
     → (c : Call) → takenBy v c ≡ nextRecord q s r → P c
 unfolding takenBy
 takes-cases v q s r P h clear e = nothing-taken q s r e
-takes-cases v q s r P h (addProcess id real effective saved session thread m) e = nothing-taken q s r e
+takes-cases v q s r P h (addProcess new) e = nothing-taken q s r e
 takes-cases v q s r P h (addThread creator id) e = nothing-taken q s r e
 takes-cases v q s r P h (endProcess id) e = nothing-taken q s r e
 takes-cases v q s r P h (endThread id) e = nothing-taken q s r e

@@ -7,6 +7,7 @@ use mathlib.Core.Option.{some}
 use Rattle.limits.specs.Limits.{sigIgn}
 use Rattle.sigset.specs.Set.{empty}
 use Rattle.types.specs.declared.Siginfo.{Siginfo}
+use Rattle.types.specs.Values.{newOf}
 use Rattle.rules.specs.Types.{Call, clear, addProcess, queue, action, take, return}
 use Rattle.rules.specs.View.{processQueue}
 use Rattle.rules.specs.Computing.{computing}
@@ -22,7 +23,7 @@ refused c = record { call = c; refused = true }
 sent : List Entry
 sent =
     accepted clear
-    ∷ accepted (addProcess 100 1000 1000 1000 7 200 empty)
+    ∷ accepted (addProcess (newOf 100 1000 1000 1000 7 200 empty))
     ∷ accepted (action 100 40 (some (record { handler = 5000; flags = 0; mask = empty })))
     ∷ accepted (queue 100 100 0 40 1)
     ∷ accepted (queue 100 100 0 40 2)

@@ -61,7 +61,7 @@ isKept = onAccepted isKeptSend (λ _. false)
 -- the call is a queued send of that signal to that queue
 unfoldable pub keepsAt : Call → Queue → ℕ → Bool
 keepsAt clear q s = false
-keepsAt (addProcess id real effective saved session thread m) q s = false
+keepsAt (addProcess new) q s = false
 keepsAt (addThread creator id) q s = false
 keepsAt (endProcess id) q s = false
 keepsAt (endThread id) q s = false

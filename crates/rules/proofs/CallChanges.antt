@@ -139,7 +139,7 @@ module _ (P : Change → Type 0) (h : Quiet P) where
         → ((q : Queue) (s : ℕ) (r : Siginfo) → takenBy v c ≡ nextRecord q s r → P (dropOldest q s)) → All P (changes v c)
     unfolding changes send addProcessChanges addThreadChanges endThreadChanges takenBy
     changes-made clear k d = (h .forgets, tt)
-    changes-made (addProcess id real effective saved session thread m) k d = (h .comes _, (h .joins _, tt))
+    changes-made (addProcess new) k d = (h .comes _, (h .joins _, tt))
     changes-made (addThread creator id) k d = (h .joins _, tt)
     changes-made (endProcess id) k d = (h .ended id, tt)
     changes-made (endThread id) k d = end-made (any (otherThread v (theThread v id)) (v .threads)) _ _ (h .left _) (h .ended _)

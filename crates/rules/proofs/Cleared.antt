@@ -49,7 +49,7 @@ places-free = refl
 -- adding a process is refused for a bad id alone; what names a process or a thread finds none, unless 22 comes first
 pub refusedThere : Call → ℕ
 refusedThere clear = 0
-refusedThere (addProcess id real effective saved session thread m) = cond (badId id || badId thread) EINVAL 0
+refusedThere (addProcess new) = cond (badId (new .id) || badId (new .thread)) EINVAL 0
 refusedThere (addThread creator id) = cond (badId id) EINVAL ESRCH
 refusedThere (endProcess id) = ESRCH
 refusedThere (endThread id) = ESRCH
@@ -66,7 +66,7 @@ refusedThere (return t saved) = ESRCH
 by-rows : (c : Call) → refusal (rows (view cleared) c) ≡ refusedThere c
 unfolding refusal rows refusedThere noProcessLive noThreadLive badTarget
 by-rows clear = refl
-by-rows (addProcess id real effective saved session thread m) = rw (no-process id, no-thread thread, places-free)
+by-rows (addProcess new) = rw (no-process (new .id), no-thread (new .thread), places-free)
 by-rows (addThread creator id) = rw (no-thread creator)
 by-rows (endProcess id) = rw (no-process id)
 by-rows (endThread id) = rw (no-thread id)

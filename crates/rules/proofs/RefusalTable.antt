@@ -67,7 +67,7 @@ listedRow r = listed (r .errno)
 ordered-listed : (st : Store) (c : Call) → (pairs above (table st c) && all listedRow (table st c)) ≡ true
 unfolding table rows fault pairs all any find
 ordered-listed st clear = refl
-ordered-listed st (addProcess id real effective saved session thread m) = refl
+ordered-listed st (addProcess new) = refl
 ordered-listed st (addThread creator id) = refl
 ordered-listed st (endProcess id) = refl
 ordered-listed st (endThread id) = refl
@@ -122,7 +122,7 @@ accepted-sound st c k e = sym (cond-false (lengthsRight st) (sound st) k) ∙ no
 pub is-clear : (c : Call) → isClear c ≡ true → c ≡ clear
 unfolding isClear
 is-clear clear e = refl
-is-clear (addProcess id real effective saved session thread m) e = clash e refl
+is-clear (addProcess new) e = clash e refl
 is-clear (addThread creator id) e = clash e refl
 is-clear (endProcess id) e = clash e refl
 is-clear (endThread id) e = clash e refl

@@ -1,14 +1,14 @@
 -- Sound stays sound: every call, accepted or refused, and every list of calls leaves a sound store sound. Assumes nothing.
 use Prim.Native.Nat.{ℕ}
 use mathlib.Core.Path.{_≡_, refl, ap, _∙_}
-use mathlib.Core.Bool.{Bool, true, false, not}
+use mathlib.Core.Bool.{Bool, true, false, not, _||_}
 use mathlib.Core.List.{List, [], _∷_}
 use mathlib.Core.Option.{some}
 use borrow.Author.Tests.{not-false}
 use Rattle.limits.specs.Limits.{sigSetmask}
 use Rattle.lists.specs.Lists.{all, any}
 use Rattle.lists.proofs.Bools.{clash, and-fst, and-snd, and-both, or-fst-false, or-snd-false}
-use Rattle.sigset.specs.declared.SigSet.{SigSet}
+use Rattle.types.specs.declared.NewProcess.{NewProcess}
 use Rattle.rules.specs.Types.{Call, clear, addProcess, addThread, endProcess, endThread, kill, queue, action, mask, pending, look, who, take, return}
 use Rattle.rules.specs.View.{liveProcess, liveThread}
 use Rattle.rules.specs.Store.{Store, isFreeProcess, isFreeThread, view, applyAll}
@@ -29,7 +29,7 @@ use Rattle.rules.proofs.TakeFits.{take-fits, end-thread-fits}
 -- adding a process is the one call of which a change does not fit: its two changes fit only together
 unfoldable pub isAddProcess : Call → Bool
 isAddProcess clear = false
-isAddProcess (addProcess id real effective saved session thread m) = true
+isAddProcess (addProcess new) = true
 isAddProcess (addThread creator id) = false
 isAddProcess (endProcess id) = false
 isAddProcess (endThread id) = false
@@ -80,7 +80,7 @@ module _ (st : Store) where
 pub call-fits : (c : Call) (st : Store) → isAddProcess c ≡ false → refusalOf st c ≡ 0 → fitsAll (changes (view st) c) st ≡ true
 unfolding isAddProcess isClear changes table rows fitsAll fits
 call-fits clear st k e = refl
-call-fits (addProcess id real effective saved session thread m) st k e = clash refl k
+call-fits (addProcess new) st k e = clash refl k
 call-fits (addThread creator id) st k e =
     let o = accepted-off st (addThread creator id) e .1 in
     add-thread-fits st (accepted-sound st (addThread creator id) refl e) creator id (o .0) (o .1 .0) (o .1 .1 .0) (o .1 .1 .1 .0)
@@ -105,25 +105,29 @@ call-fits (return t saved) st k e = mask-fits st t sigSetmask (some saved) (thre
 
 -- ---- what an accepted call leaves
 
-module _ (id real effective saved session thread : ℕ) (m : SigSet) (st : Store) where
+module _ (new : NewProcess) (st : Store) where
   abbrev adding : Call
-  adding = addProcess id real effective saved session thread m
+  adding = addProcess new
 
   -- the user ids and the session id are 32-bit numbers
-  add-process-sound : machine adding ≡ true → refusalOf st adding ≡ 0 → sound (applyAll (addProcessChanges id real effective saved session thread m) st) ≡ true
+  add-process-sound : machine adding ≡ true → refusalOf st adding ≡ 0 → sound (applyAll (addProcessChanges new) st) ≡ true
   unfolding machine isU32 goodUser isClear table rows
   add-process-sound u e =
       let o = accepted-off st adding e .1 in
-      let u1 = and-snd (isU32 id) _ u in
-      let u2 = and-snd (isU32 real) _ u1 in
-      let u3 = and-snd (isU32 effective) _ u2 in
-      let u4 = and-snd (isU32 saved) _ u3 in
-      addProcess-sound st (accepted-sound st adding refl e) id real effective saved session thread m
-      (good-id id (or-fst-false (badId id) (badId thread) (o .0))) (good-id thread (or-snd-false (badId id) (badId thread) (o .0)))
-      (or-fst-false (liveProcess (view st) id) (liveThread (view st) thread) (o .1 .0)) (or-snd-false (liveProcess (view st) id) (liveThread (view st) thread) (o .1 .0))
-      (process-place st (or-fst-false (noProcessPlace (view st)) (noThreadPlace (view st)) (o .1 .1 .0)))
-      (thread-place st (or-snd-false (noProcessPlace (view st)) (noThreadPlace (view st)) (o .1 .1 .0)))
-      (and-fst (isU32 real) _ u1) (and-fst (isU32 effective) _ u2) (and-fst (isU32 saved) _ u3) (and-fst (isU32 session) _ u4)
+      let u1 = and-snd (isU32 (new .id)) _ u in
+      let u2 = and-snd (isU32 (new .real)) _ u1 in
+      let u3 = and-snd (isU32 (new .effective)) _ u2 in
+      let u4 = and-snd (isU32 (new .saved)) _ u3 in
+      let live : (liveProcess (view st) (new .id) || liveThread (view st) (new .thread)) ≡ false = o .1 .0 in
+      let full : (noProcessPlace (view st) || noThreadPlace (view st)) ≡ false = o .1 .1 .0 in
+      addProcess-sound st (accepted-sound st adding refl e) new
+      (good-id (new .id) (or-fst-false (badId (new .id)) (badId (new .thread)) (o .0)))
+      (good-id (new .thread) (or-snd-false (badId (new .id)) (badId (new .thread)) (o .0)))
+      (or-fst-false (liveProcess (view st) (new .id)) _ live) (or-snd-false (liveProcess (view st) (new .id)) _ live)
+      (process-place st (or-fst-false (noProcessPlace (view st)) _ full))
+      (thread-place st (or-snd-false (noProcessPlace (view st)) _ full))
+      (and-fst (isU32 (new .real)) _ u1) (and-fst (isU32 (new .effective)) _ u2) (and-fst (isU32 (new .saved)) _ u3)
+      (and-fst (isU32 (new .session)) _ u4)
 
 -- a call other than clearing and adding a process
 fitting-sound : (c : Call) (st : Store) → isClear c ≡ false → isAddProcess c ≡ false → refusalOf st c ≡ 0 → sound (applyAll (changes (view st) c) st) ≡ true
@@ -132,7 +136,7 @@ fitting-sound c st k a e = fits-all-keep (changes (view st) c) st (accepted-soun
 changes-sound : (c : Call) (st : Store) → machine c ≡ true → refusalOf st c ≡ 0 → sound (applyAll (changes (view st) c) st) ≡ true
 unfolding isAddProcess isClear
 changes-sound clear st u e = unfold changes applyAll in forget-sound st
-changes-sound (addProcess id real effective saved session thread m) st u e = unfold changes in add-process-sound id real effective saved session thread m st u e
+changes-sound (addProcess new) st u e = unfold changes in add-process-sound new st u e
 changes-sound (addThread creator id) st u e = fitting-sound (addThread creator id) st refl refl e
 changes-sound (endProcess id) st u e = fitting-sound (endProcess id) st refl refl e
 changes-sound (endThread id) st u e = fitting-sound (endThread id) st refl refl e

@@ -295,8 +295,8 @@ module _ (v : View) (h : CleanView v) where
   pub changes-clean : (c : Call) → all cleanChange (changes v c) ≡ true
   unfolding changes send infoOf addProcessChanges addedProcess addThreadChanges endThreadChanges all
   changes-clean clear = refl
-  changes-clean (addProcess id real effective saved session thread m) =
-      and-both (all-replicate actionUnmasked defaultAction default-clean signals) (and-both (unmasked-maskable m) refl)
+  changes-clean (addProcess new) =
+      and-both (all-replicate actionUnmasked defaultAction default-clean signals) (and-both (unmasked-maskable (new .mask)) refl)
   changes-clean (addThread creator id) = and-both (clean-mask v h creator) refl
   changes-clean (endProcess id) = refl
   changes-clean (endThread id) = one-clean (any (otherThread v (theThread v id)) (v .threads)) (removeThread (theThread v id .id)) (removeProcess (theThread v id .process)) refl refl
@@ -387,7 +387,7 @@ module _ (t : Thread) (e : unmasked (t .mask) ≡ true) where
 reply-clean : (v : View) (c : Call) → (isClear c ≡ false → CleanView v) → cleanReply (reply v c) ≡ true
 unfolding reply taker isClear cleanReply
 reply-clean v clear h = refl
-reply-clean v (addProcess id real effective saved session thread m) h = refl
+reply-clean v (addProcess new) h = refl
 reply-clean v (addThread creator id) h = refl
 reply-clean v (endProcess id) h = refl
 reply-clean v (endThread id) h = refl

@@ -75,7 +75,7 @@ yieldsOne = onAccepted (λ _. false) isTaken
 -- what is next for the thread of a take; for another call nothing
 unfoldable pub takenBy : View → Call → Next
 takenBy v clear = noNext
-takenBy v (addProcess id real effective saved session thread m) = noNext
+takenBy v (addProcess new) = noNext
 takenBy v (addThread creator id) = noNext
 takenBy v (endProcess id) = noNext
 takenBy v (endThread id) = noNext

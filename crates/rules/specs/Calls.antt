@@ -26,7 +26,7 @@ module _ (v : View) where
 
   unfoldable pub changes : Call → List Change
   changes clear = forget ∷ []
-  changes (addProcess id real effective saved session thread m) = addProcessChanges id real effective saved session thread m
+  changes (addProcess new) = addProcessChanges new
   changes (addThread creator id) = addThreadChanges v creator id
   changes (endProcess id) = removeProcess id ∷ []
   changes (endThread id) = endThreadChanges v (theThread v id)
@@ -43,7 +43,7 @@ module _ (v : View) where
 
   unfoldable pub reply : Call → Reply
   reply clear = Done
-  reply (addProcess id real effective saved session thread m) = Done
+  reply (addProcess new) = Done
   reply (addThread creator id) = Done
   reply (endProcess id) = Done
   reply (endThread id) = Done

@@ -24,8 +24,11 @@ machineSet (some m) = isU64 (m .0)
 
 unfoldable pub machine : Call → Bool
 machine clear = true
-machine (addProcess id real effective saved session thread m) =
-    isU32 id && (isU32 real && (isU32 effective && (isU32 saved && (isU32 session && (isU32 thread && isU64 (m .0))))))
+machine (addProcess new) =
+    isU32 (new .id)
+    && (isU32 (new .real)
+    && (isU32 (new .effective)
+    && (isU32 (new .saved) && (isU32 (new .session) && (isU32 (new .thread) && isU64 (new .mask .0))))))
 machine (addThread creator id) = isU32 creator && isU32 id
 machine (endProcess id) = isU32 id
 machine (endThread id) = isU32 id

@@ -98,8 +98,11 @@ module _ (v : View) where
 
   unfoldable pub rows : Call → List Row
   rows clear = []
-  rows (addProcess id real effective saved session thread m) =
-      einval (badId id || badId thread) ∷ eexist (liveProcess v id || liveThread v thread) ∷ eagain (noProcessPlace || noThreadPlace) ∷ []
+  rows (addProcess new) =
+      einval (badId (new .id) || badId (new .thread))
+      ∷ eexist (liveProcess v (new .id) || liveThread v (new .thread))
+      ∷ eagain (noProcessPlace || noThreadPlace)
+      ∷ []
   rows (addThread creator id) = einval (badId id) ∷ esrch (noThreadLive creator) ∷ eexist (liveThread v id) ∷ eagain noThreadPlace ∷ []
   rows (endProcess id) = esrch (noProcessLive id) ∷ []
   rows (endThread id) = esrch (noThreadLive id) ∷ []
@@ -117,7 +120,7 @@ module _ (v : View) where
 
 unfoldable pub isClear : Call → Bool
 isClear clear = true
-isClear (addProcess id real effective saved session thread m) = false
+isClear (addProcess new) = false
 isClear (addThread creator id) = false
 isClear (endProcess id) = false
 isClear (endThread id) = false

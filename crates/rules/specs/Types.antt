@@ -8,6 +8,7 @@ use Rattle.sigset.specs.declared.SigSet.{SigSet}
 use Rattle.sigset.specs.Set.{empty}
 use Rattle.types.specs.declared.Action.{Action}
 use Rattle.types.specs.declared.Siginfo.{Siginfo}
+use Rattle.types.specs.declared.NewProcess.{NewProcess}
 use Rattle.types.specs.declared.Next as declared
 use Rattle.types.specs.declared.Next.the-variants as next
 use Rattle.types.specs.Values.{defaultAction}
@@ -47,7 +48,7 @@ noThread = record { id = 0; process = 0; mask = empty }
 
 pub data Call : Type 0 where
   clear : Call
-  addProcess : (id real effective saved session thread : ℕ) (mask : SigSet) → Call
+  addProcess : (new : NewProcess) → Call
   addThread : (creator id : ℕ) → Call
   endProcess : (id : ℕ) → Call
   endThread : (id : ℕ) → Call
