@@ -56,7 +56,7 @@ fn action_refusal(
     signal: u32,
     new: GivenAction,
 ) -> u32
-    ensures { λ r. ⌜ r ≡ refusalOn (call.action process signal (newAction new)) (lent (now (ps .entry)) (now (ts .entry)) (now (tb .entry)) (now (pb .entry))) ⌝ }
+    ensures { λ r. ⌜ r ≡ refusalOn (call.sigaction process signal (newAction new)) (lent (now (ps .entry)) (now (ts .entry)) (now (tb .entry)) (now (pb .entry))) ⌝ }
 {
     if !sound::sound(ps, ts, tb, pb) {
         return EFAULT;
@@ -80,8 +80,8 @@ pub fn sigaction(
     signal: u32,
     new: GivenAction,
 ) -> Answer
-    ensures answer { λ r. ⌜ r ≡ stepOn (call.action process signal (newAction new)) (lent (now (ps .entry)) (now (ts .entry)) (now (tb .entry)) (now (pb .entry))) .1 ⌝ }
-    ensures tables { λ r. ⌜ lent (now (ps .exit)) (now (ts .exit)) (now (tb .exit)) (now (pb .exit)) ≡ stepOn (call.action process signal (newAction new)) (lent (now (ps .entry)) (now (ts .entry)) (now (tb .entry)) (now (pb .entry))) .0 ⌝ }
+    ensures answer { λ r. ⌜ r ≡ stepOn (call.sigaction process signal (newAction new)) (lent (now (ps .entry)) (now (ts .entry)) (now (tb .entry)) (now (pb .entry))) .1 ⌝ }
+    ensures tables { λ r. ⌜ lent (now (ps .exit)) (now (ts .exit)) (now (tb .exit)) (now (pb .exit)) ≡ stepOn (call.sigaction process signal (newAction new)) (lent (now (ps .entry)) (now (ts .entry)) (now (tb .entry)) (now (pb .entry))) .0 ⌝ }
 {
     let n = action_refusal(ps, ts, tb, pb, process, signal, new);
     if n != 0 {

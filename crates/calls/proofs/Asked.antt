@@ -1,6 +1,6 @@
 -- A call by its value ends as the call itself; one that changes nothing leaves every table as it was, refused or not. Assumes nothing.
 use Prim.Native.Nat.{ℕ}
-use mathlib.Core.Path.{_≡_, sym, ap, subst, _∙_}
+use mathlib.Core.Path.{_≡_, refl, sym, ap, _∙_}
 use mathlib.Core.List.{[]}
 use lib.Dec.{eqb}
 use borrow.Author.Tests.{eqb-true, eqb-false}
@@ -8,10 +8,12 @@ use Rattle.lists.proofs.Bools.{split}
 use Rattle.siginfo.specs.Bytes.{Bytes}
 use Rattle.types.specs.declared.Answer.{Answer}
 use Rattle.rules.specs.Types.{Call}
+use Rattle.rules.specs.View.{View}
 use Rattle.rules.specs.Store.{view}
 use Rattle.rules.specs.Calls.{changes}
-use Rattle.calls.specs.declared.Call as declared
-use Rattle.calls.specs.Calls.{callOf}
+use Rattle.calls.specs.declared.Asking.{Asking}
+use Rattle.calls.specs.declared.Asking.the-variants.{Sigpending, Look, Who}
+use Rattle.calls.specs.Calls.{askingOf}
 use Rattle.answers.specs.Step.{Lent, decoded, refusalOn, stepOn}
 use Rattle.answers.proofs.Endings.{refused-tables, tables-same}
 
@@ -21,7 +23,18 @@ asked c l bt bp h =
     (λ e. tables-same c l (eqb-true (refusalOn c l) 0 e) bt bp h)
     (λ e. refused-tables c l (eqb-false (refusalOn c l) 0 e))
 
--- the call is this case of the enum
-module _ (c k : declared.Call) (e : c ≡ k) (l m : Lent) (r : Answer) where
-  pub by-case : r ≡ stepOn (callOf k) l .1 → m ≡ stepOn (callOf k) l .0 → (r ≡ stepOn (callOf c) l .1) × (m ≡ stepOn (callOf c) l .0)
-  by-case a t = subst (λ (x : declared.Call). (r ≡ stepOn (callOf x) l .1) × (m ≡ stepOn (callOf x) l .0)) (sym e) (a, t)
+-- a call of the family that asks changes nothing
+pub nothing-changed : (v : View) (c : Asking) → changes v (askingOf c) ≡ []
+unfolding askingOf changes
+nothing-changed v (Sigpending t) = refl
+nothing-changed v (Look t) = refl
+nothing-changed v (Who p) = refl
+
+-- the value is this case of its enum, whose rules' call is of c
+module _ {A : Type 0} (of : A → Call) (c k : A) (e : c ≡ k) (l : Lent) (r : Answer) where
+  pub answer-case : r ≡ stepOn (of k) l .1 → r ≡ stepOn (of c) l .1
+  answer-case a = a ∙ ap (λ (x : A). stepOn (of x) l .1) (sym e)
+
+  pub by-case : (m : Lent) → r ≡ stepOn (of k) l .1 → m ≡ stepOn (of k) l .0
+      → (r ≡ stepOn (of c) l .1) × (m ≡ stepOn (of c) l .0)
+  by-case m a t = (answer-case a, t ∙ ap (λ (x : A). stepOn (of x) l .0) (sym e))

@@ -8,7 +8,7 @@ use Rattle.sigset.specs.Set.{has, setOf, union, intersect}
 use Rattle.sigset.proofs.Laws.{set-cong}
 use Rattle.types.specs.declared.Reply.the-variants.{PendingSet}
 use Rattle.types.specs.declared.Answer.the-variants.{Accepted}
-use Rattle.rules.specs.Types.{Thread, pending}
+use Rattle.rules.specs.Types.{Thread, sigpending}
 use Rattle.rules.specs.View.{targetQueue, liveThread, theThread, pendingIn, pendingFor}
 use Rattle.rules.specs.Store.{view}
 use Rattle.rules.specs.Actions.{blockedPending}
@@ -39,10 +39,10 @@ module _ (ps ts tb pb : List ℕ) (t : ℕ) (l : liveThread (view (storeOf ps ts
 -- ---- the call
 
 module _ (l : Lent) (t n : ℕ) (h : n ≡ rowsOn (esrch (noThreadLive (view (decoded l)) t) ∷ []) l) where
-  pub pending-refusal : n ≡ refusalOn (pending t) l
+  pub pending-refusal : n ≡ refusalOn (sigpending t) l
   unfolding rows isClear
-  pending-refusal = h ∙ sym (rows-given (pending t) l refl)
+  pending-refusal = h ∙ sym (rows-given (sigpending t) l refl)
 
-  pub pending-answered : n ≡ 0 → (m : SigSet) → m ≡ blockedPending (view (decoded l)) (theThread (view (decoded l)) t) → Accepted (PendingSet m) ≡ stepOn (pending t) l .1
+  pub pending-answered : n ≡ 0 → (m : SigSet) → m ≡ blockedPending (view (decoded l)) (theThread (view (decoded l)) t) → Accepted (PendingSet m) ≡ stepOn (sigpending t) l .1
   unfolding reply
-  pending-answered z m b = answer-after (pending t) l (sym pending-refusal ∙ z) (PendingSet m) (ap PendingSet b)
+  pending-answered z m b = answer-after (sigpending t) l (sym pending-refusal ∙ z) (PendingSet m) (ap PendingSet b)

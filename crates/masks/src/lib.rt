@@ -58,7 +58,7 @@ fn mask_refusal(
     way: u32,
     set: GivenSet,
 ) -> u32
-    ensures { λ r. ⌜ r ≡ refusalOn (call.mask thread way (newSet set)) (lent (now (ps .entry)) (now (ts .entry)) (now (tb .entry)) (now (pb .entry))) ⌝ }
+    ensures { λ r. ⌜ r ≡ refusalOn (call.sigmask thread way (newSet set)) (lent (now (ps .entry)) (now (ts .entry)) (now (tb .entry)) (now (pb .entry))) ⌝ }
 {
     if !sound::sound(ps, ts, tb, pb) {
         return EFAULT;
@@ -82,8 +82,8 @@ pub fn sigmask(
     way: u32,
     set: GivenSet,
 ) -> Answer
-    ensures answer { λ r. ⌜ r ≡ stepOn (call.mask thread way (newSet set)) (lent (now (ps .entry)) (now (ts .entry)) (now (tb .entry)) (now (pb .entry))) .1 ⌝ }
-    ensures tables { λ r. ⌜ lent (now (ps .exit)) (now (ts .exit)) (now (tb .exit)) (now (pb .exit)) ≡ stepOn (call.mask thread way (newSet set)) (lent (now (ps .entry)) (now (ts .entry)) (now (tb .entry)) (now (pb .entry))) .0 ⌝ }
+    ensures answer { λ r. ⌜ r ≡ stepOn (call.sigmask thread way (newSet set)) (lent (now (ps .entry)) (now (ts .entry)) (now (tb .entry)) (now (pb .entry))) .1 ⌝ }
+    ensures tables { λ r. ⌜ lent (now (ps .exit)) (now (ts .exit)) (now (tb .exit)) (now (pb .exit)) ≡ stepOn (call.sigmask thread way (newSet set)) (lent (now (ps .entry)) (now (ts .entry)) (now (tb .entry)) (now (pb .entry))) .0 ⌝ }
 {
     let n = mask_refusal(ps, ts, tb, pb, thread, way, set);
     if n != 0 {
@@ -108,8 +108,8 @@ pub fn sigreturn(
     thread: u32,
     saved: SigSet,
 ) -> Answer
-    ensures answer { λ r. ⌜ r ≡ stepOn (call.return thread saved) (lent (now (ps .entry)) (now (ts .entry)) (now (tb .entry)) (now (pb .entry))) .1 ⌝ }
-    ensures tables { λ r. ⌜ lent (now (ps .exit)) (now (ts .exit)) (now (tb .exit)) (now (pb .exit)) ≡ stepOn (call.return thread saved) (lent (now (ps .entry)) (now (ts .entry)) (now (tb .entry)) (now (pb .entry))) .0 ⌝ }
+    ensures answer { λ r. ⌜ r ≡ stepOn (call.sigreturn thread saved) (lent (now (ps .entry)) (now (ts .entry)) (now (tb .entry)) (now (pb .entry))) .1 ⌝ }
+    ensures tables { λ r. ⌜ lent (now (ps .exit)) (now (ts .exit)) (now (tb .exit)) (now (pb .exit)) ≡ stepOn (call.sigreturn thread saved) (lent (now (ps .entry)) (now (ts .entry)) (now (tb .entry)) (now (pb .entry))) .0 ⌝ }
 {
     sigmask(ps, ts, tb, pb, thread, SIG_SETMASK, GivenSet::Set(saved))
 }
@@ -129,7 +129,7 @@ fn blocked(ps: &[u64], ts: &[u64], tb: &[u8], pb: &[u8], thread: u32) -> SigSet
 }
 
 pub fn sigpending(ps: &[u64], ts: &[u64], tb: &[u8], pb: &[u8], thread: u32) -> Answer
-    ensures { λ r. ⌜ r ≡ stepOn (call.pending thread) (lent (now (ps .entry)) (now (ts .entry)) (now (tb .entry)) (now (pb .entry))) .1 ⌝ }
+    ensures { λ r. ⌜ r ≡ stepOn (call.sigpending thread) (lent (now (ps .entry)) (now (ts .entry)) (now (tb .entry)) (now (pb .entry))) .1 ⌝ }
 {
     let n = view::thread_refusal(ps, ts, tb, pb, thread);
     if n != 0 {

@@ -10,7 +10,7 @@ use Rattle.sigset.specs.declared.SigSet.{SigSet}
 use Rattle.sigset.specs.Set.{bits}
 use Rattle.types.specs.declared.Answer.{Answer}
 use Rattle.types.specs.declared.Answer.the-variants.{Refused}
-use Rattle.rules.specs.Types.{mask}
+use Rattle.rules.specs.Types.{sigmask}
 use Rattle.answers.specs.Step.{Lent, lent, stepOn}
 use Rattle.boundary.specs.Boundary.{arguments, whereGiven, callsOf, numbered, errnoOf, written, usable, accepted, serveOn}
 use Rattle.threads.specs.declared.Thread.{Thread}
@@ -72,7 +72,7 @@ module _ (ps tb pb out : List ℕ) (ts : List Thread) (thread way given set : �
   after = served ps tb pb out ts callSigmask thread way given 0 0 0 set 0 0
 
   abbrev answered : Lent × Answer
-  answered = stepOn (mask thread way (whereGiven given (bits set))) before
+  answered = stepOn (sigmask thread way (whereGiven given (bits set))) before
 
   abbrev turned : Lent × Answer
   turned = (before, Refused (cond (usable callSigmask before) EINVAL EFAULT))

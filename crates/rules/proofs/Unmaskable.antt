@@ -25,7 +25,7 @@ use Rattle.types.specs.declared.Reply.{Reply}
 use Rattle.types.specs.declared.Reply.the-variants as reply
 use Rattle.types.specs.declared.Answer.{Answer}
 use Rattle.types.specs.declared.Answer.the-variants.{Refused, Accepted}
-use Rattle.rules.specs.Types.{Process, Thread, Queue, noProcess, noThread, Call, clear, addProcess, addThread, endProcess, endThread, kill, queue, action, mask, pending, look, who, take, return, Next, noNext, nextMark, nextRecord}
+use Rattle.rules.specs.Types.{Process, Thread, Queue, noProcess, noThread, Call, clear, addProcess, addThread, endProcess, endThread, kill, sigqueue, sigaction, sigmask, sigpending, look, who, take, sigreturn, Next, noNext, nextMark, nextRecord}
 use Rattle.rules.specs.Signals.{Outcome, ignores, stops, continues, ends, outcome, ignored, stopSignal}
 use Rattle.rules.specs.View.{View, Change, forget, newProcess, newThread, removeProcess, removeThread, setStopped, setAction, setMask, setMark, clearMark, append, dropOldest, discard, isProcess, isThread, sameQueue, processQueue, threadQueue, actionOf, theProcess, theThread, threadAction, pendingFor}
 use Rattle.rules.specs.Store.{Place, Store, held, freeProcess, freeThread, cleared, view, apply, applyAll, onMarks}
@@ -301,14 +301,14 @@ module _ (v : View) (h : CleanView v) where
   changes-clean (endProcess id) = refl
   changes-clean (endThread id) = one-clean (any (otherThread v (theThread v id)) (v .threads)) (removeThread (theThread v id .id)) (removeProcess (theThread v id .process)) refl refl
   changes-clean (kill by to t s) = generation-clean (generation v false _ s) _ (acted-on v false _ s)
-  changes-clean (queue by to t s value) = generation-clean (generation v true _ s) _ (acted-on v true _ s)
-  changes-clean (action p s new) = action-clean p s new
-  changes-clean (mask t way set) = set-mask-clean v t way set
-  changes-clean (pending t) = refl
+  changes-clean (sigqueue by to t s value) = generation-clean (generation v true _ s) _ (acted-on v true _ s)
+  changes-clean (sigaction p s new) = action-clean p s new
+  changes-clean (sigmask t way set) = set-mask-clean v t way set
+  changes-clean (sigpending t) = refl
   changes-clean (look t) = refl
   changes-clean (who p) = refl
   changes-clean (take t) = take-clean (theThread v t) (next v (theThread v t))
-  changes-clean (return t saved) = set-mask-clean v t sigSetmask (some saved)
+  changes-clean (sigreturn t saved) = set-mask-clean v t sigSetmask (some saved)
 
 -- ---- the theorems
 
@@ -392,14 +392,14 @@ reply-clean v (addThread creator id) h = refl
 reply-clean v (endProcess id) h = refl
 reply-clean v (endThread id) h = refl
 reply-clean v (kill by to t s) h = refl
-reply-clean v (queue by to t s value) h = refl
-reply-clean v (action p s new) h = clean-action v (h refl) p s
-reply-clean v (mask t way set) h = clean-mask v (h refl) t
-reply-clean v (pending t) h = pending-answer v (theThread v t) (clean-mask v (h refl) t)
+reply-clean v (sigqueue by to t s value) h = refl
+reply-clean v (sigaction p s new) h = clean-action v (h refl) p s
+reply-clean v (sigmask t way set) h = clean-mask v (h refl) t
+reply-clean v (sigpending t) h = pending-answer v (theThread v t) (clean-mask v (h refl) t)
 reply-clean v (look t) h = refl
 reply-clean v (who p) h = who-clean v _
 reply-clean v (take t) h = take-answer (theThread v t) (clean-mask v (h refl) t) v _
-reply-clean v (return t saved) h = clean-mask v (h refl) t
+reply-clean v (sigreturn t saved) h = clean-mask v (h refl) t
 
 -- whatever the store is, no call answers 9 or 19 in a set: a store that has one is not sound
 pub answers-clean : (c : Call) (st : Store) → cleanAnswer (step c st .1) ≡ true

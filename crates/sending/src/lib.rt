@@ -370,8 +370,8 @@ pub fn sigqueue(
     signal: u32,
     value: u64,
 ) -> Answer
-    ensures answer { λ r. ⌜ r ≡ stepOn (call.queue by to thread signal value) (lent (now (ps .entry)) (now (ts .entry)) (now (tb .entry)) (now (pb .entry))) .1 ⌝ }
-    ensures tables { λ r. ⌜ lent (now (ps .exit)) (now (ts .exit)) (now (tb .exit)) (now (pb .exit)) ≡ stepOn (call.queue by to thread signal value) (lent (now (ps .entry)) (now (ts .entry)) (now (tb .entry)) (now (pb .entry))) .0 ⌝ }
+    ensures answer { λ r. ⌜ r ≡ stepOn (call.sigqueue by to thread signal value) (lent (now (ps .entry)) (now (ts .entry)) (now (tb .entry)) (now (pb .entry))) .1 ⌝ }
+    ensures tables { λ r. ⌜ lent (now (ps .exit)) (now (ts .exit)) (now (tb .exit)) (now (pb .exit)) ≡ stepOn (call.sigqueue by to thread signal value) (lent (now (ps .entry)) (now (ts .entry)) (now (tb .entry)) (now (pb .entry))) .0 ⌝ }
 {
     send(ps, ts, tb, pb, true, by, to, thread, signal, value)
 }

@@ -1,5 +1,5 @@
 -- `sigpending` meets its contract: refused, or the pending set. Assumes nothing.
-use Rattle.rules.specs.Types.{pending}
+use Rattle.rules.specs.Types.{sigpending}
 use Rattle.answers.specs.Step.{lent}
 use Rattle.answers.proofs.Endings.{refused-ends}
 use Rattle.answers.proofs.Rows.{live-thread}
@@ -16,7 +16,7 @@ returns c =
     let tb = a .args .tb .now in
     let pb = a .args .pb .now in
     let n = c .before .thread-refusal .result in
-    refused-ends (pending (a .args .thread)) (lent ps ts tb pb) n (pending-refusal (lent ps ts tb pb) (a .args .thread) n (c .before .thread-refusal .ensures)) (c .if1 .taken) .0
+    refused-ends (sigpending (a .args .thread)) (lent ps ts tb pb) n (pending-refusal (lent ps ts tb pb) (a .args .thread) n (c .before .thread-refusal .ensures)) (c .if1 .taken) .0
 
 blocked-requires : tie.Need-blocked-requires
 blocked-requires c κs =
