@@ -68,13 +68,16 @@ module _ (n : ℕ) (g : Arguments) (room : ℕ) (l : Lent) (out : List ℕ) wher
   pub turned-away : accepted n room ≡ false → (r : ℕ) → r ≡ cond (usable n l) EINVAL EFAULT → Ends r l out
   unfolding serveOn errnoOf
   turned-away f r e =
-      ends (l, Refused (cond (usable n l) EINVAL EFAULT)) (cond-false (stepOn (numbered n g) l) (l, Refused (cond (usable n l) EINVAL EFAULT)) f) r l out e refl
+      ends (l, Refused (cond (usable n l) EINVAL EFAULT))
+      (cond-false (stepOn (numbered n g) l) (l, Refused (cond (usable n l) EINVAL EFAULT)) f) r l out e refl
       (kept-words (Refused (cond (usable n l) EINVAL EFAULT)) out (no-errno (usable n l)))
 
   module _ (t : accepted n room ≡ true) (c : Call) (e : c ≡ numbered n g) (a : Answer) (m : Lent) (h : a ≡ stepOn c l .1) (k : m ≡ stepOn c l .0) where
     is-step : serveOn n g room l ≡ stepOn c l
     unfolding serveOn
-    is-step = cond-true (stepOn (numbered n g) l) (l, Refused (cond (usable n l) EINVAL EFAULT)) t ∙ ap (λ (x : Call). stepOn x l) (sym e)
+    is-step =
+        cond-true (stepOn (numbered n g) l) (l, Refused (cond (usable n l) EINVAL EFAULT)) t
+        ∙ ap (λ (x : Call). stepOn x l) (sym e)
 
     pub step-refused : (r : ℕ) → r ≡ errnoOf a → (r ≡ 0 → ⊥) → Ends r m out
     step-refused r i f =

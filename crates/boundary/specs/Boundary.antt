@@ -20,7 +20,8 @@ use Rattle.types.specs.declared.Reply.the-variants as reply
 use Rattle.types.specs.declared.Answer.{Answer}
 use Rattle.types.specs.declared.Answer.the-variants.{Refused, Accepted}
 use Rattle.types.specs.Values.{newOf}
-use Rattle.rules.specs.Types.{Call, clear, addProcess, addThread, endProcess, endThread, kill, sigqueue, sigaction, sigmask, sigpending, look, who, take, sigreturn}
+use Rattle.rules.specs.Types.{Call, clear, addProcess, addThread, endProcess, endThread, kill, sigqueue, sigaction}
+use Rattle.rules.specs.Types.{sigmask, sigpending, look, who, take, sigreturn}
 use Rattle.sound.specs.Lent.{lengthsAre, soundTables}
 use Rattle.answers.specs.Step.{Lent, stepOn}
 

@@ -13,14 +13,16 @@ use Rattle.types.specs.declared.Action.{Action}
 use Rattle.types.specs.declared.Siginfo.{Siginfo}
 use Rattle.types.specs.Values.{defaultAction}
 use Rattle.types.specs.declared.Answer.{Answer}
-use Rattle.rules.specs.Types.{Call, addThread, endProcess, endThread, kill, sigqueue, sigaction, sigmask, sigpending, look, who, take, sigreturn}
+use Rattle.rules.specs.Types.{Call, addThread, endProcess, endThread, kill, sigqueue, sigaction, sigmask, sigpending}
+use Rattle.rules.specs.Types.{look, who, take, sigreturn}
 use Rattle.rules.specs.Store.{Store, cleared}
 use Rattle.rules.specs.Calls.{run}
 use Rattle.rules.specs.Machine.{machine}
 use Rattle.rules.specs.Computing.{computing}
 use Rattle.rules.proofs.Cleared.{sound-cleared}
 use Rattle.rules.proofs.QuickRuns.{quickComputing, quickRun, same-run}
-use Rattle.examples.specs.Words.{adds, refused, done, tested, acted, dropped, marked, kept, oldAction, oldMask, pendingSet, nothing, handler}
+use Rattle.examples.specs.Words.{adds, refused, done, tested, acted, dropped, marked, kept, oldAction, oldMask}
+use Rattle.examples.specs.Words.{pendingSet, nothing, handler}
 
 pub answers : List Call → List Answer
 answers cs = run cs cleared .1
@@ -75,7 +77,9 @@ times (suc n) l = l ++ times n l
 abbrev handlerCase : (flags m after : ℕ) → Case
 handlerCase flags m after =
     record {
-      calls = one empty ∷ sigaction 100 10 (some (handling flags m)) ∷ kill 100 100 0 10 ∷ take 200 ∷ maskNow ∷ sigreturn 200 empty ∷ [];
+      calls =
+          one empty ∷ sigaction 100 10 (some (handling flags m)) ∷ kill 100 100 0 10 ∷ take 200 ∷ maskNow
+          ∷ sigreturn 200 empty ∷ [];
       expected =
           done ∷ oldAction defaultAction ∷ marked ∷ handler 5000 10 (ofMark 10) flags empty ∷ oldMask (bits after) ∷ oldMask (bits after) ∷ [];
     }
@@ -121,7 +125,8 @@ abbrev case5 : Case
 case5 =
     record {
       calls =
-          one (ofSignal 40) ∷ handles 40 ∷ sigqueue 100 100 0 40 1 ∷ sigqueue 100 100 0 40 2 ∷ sigqueue 100 100 0 40 3 ∷ take 200
+          one (ofSignal 40) ∷ handles 40 ∷ sigqueue 100 100 0 40 1 ∷ sigqueue 100 100 0 40 2 ∷ sigqueue 100 100 0 40 3
+          ∷ take 200
           ∷ sigmask 200 1 (some (ofSignal 40)) ∷ (times 3 taken ++ (take 200 ∷ []));
       expected =
           done ∷ oldAction defaultAction ∷ kept ∷ kept ∷ kept ∷ nothing
@@ -153,7 +158,10 @@ case6Queues =
 abbrev case8 : Case
 case8 =
     record {
-      calls = one empty ∷ handles 34 ∷ (times (suc recordLimit) (sigqueue 100 100 0 34 7 ∷ []) ++ (taken ++ (sigqueue 100 100 0 34 8 ∷ sigqueue 100 100 0 34 9 ∷ [])));
+      calls =
+          one empty ∷ handles 34
+          ∷ (times (suc recordLimit) (sigqueue 100 100 0 34 7 ∷ [])
+          ++ (taken ++ (sigqueue 100 100 0 34 8 ∷ sigqueue 100 100 0 34 9 ∷ [])));
       expected =
           done ∷ oldAction defaultAction
           ∷ (times recordLimit (kept ∷ []) ++ (refused EAGAIN ∷ runs (sent 0 34 7) ∷ oldMask (bits 8589934592) ∷ kept ∷ refused EAGAIN ∷ []));
@@ -163,7 +171,9 @@ case8 =
 abbrev case10 : Case
 case10 =
     record {
-      calls = one empty ∷ kill 100 100 0 SIGCHLD ∷ sigaction 100 SIGKILL none ∷ sigaction 100 SIGKILL (some (handling 0 0)) ∷ [];
+      calls =
+          one empty ∷ kill 100 100 0 SIGCHLD ∷ sigaction 100 SIGKILL none
+          ∷ sigaction 100 SIGKILL (some (handling 0 0)) ∷ [];
       expected = done ∷ dropped ∷ oldAction defaultAction ∷ refused EINVAL ∷ [];
     }
 
@@ -189,7 +199,8 @@ abbrev blockedCont : Case
 blockedCont =
     record {
       calls =
-          one (ofSignal SIGCONT) ∷ handles SIGCONT ∷ handles 10 ∷ kill 100 100 0 10 ∷ kill 100 100 0 SIGSTOP ∷ take 200 ∷ kill 100 100 0 SIGCONT ∷ sigpending 200
+          one (ofSignal SIGCONT) ∷ handles SIGCONT ∷ handles 10 ∷ kill 100 100 0 10 ∷ kill 100 100 0 SIGSTOP
+          ∷ take 200 ∷ kill 100 100 0 SIGCONT ∷ sigpending 200
           ∷ take 200 ∷ sigreturn 200 (ofSignal SIGCONT) ∷ take 200 ∷ sigmask 200 1 (some (ofSignal SIGCONT)) ∷ taken;
       expected =
           done ∷ oldAction defaultAction ∷ oldAction defaultAction ∷ marked ∷ acted ∷ nothing ∷ marked ∷ pendingSet (bits 131072)
@@ -200,7 +211,9 @@ blockedCont =
 abbrev resetHandler : Case
 resetHandler =
     record {
-      calls = one empty ∷ sigaction 100 10 (some (handling saResethand 2048)) ∷ kill 100 100 0 10 ∷ take 200 ∷ maskNow ∷ sigaction 100 10 none ∷ [];
+      calls =
+          one empty ∷ sigaction 100 10 (some (handling saResethand 2048)) ∷ kill 100 100 0 10 ∷ take 200 ∷ maskNow
+          ∷ sigaction 100 10 none ∷ [];
       expected =
           done ∷ oldAction defaultAction ∷ marked ∷ handler 5000 10 (ofMark 10) saResethand empty ∷ oldMask (bits 2560)
           ∷ oldAction (record { handler = 0; flags = saResethand; mask = bits 2048 }) ∷ [];
@@ -219,7 +232,8 @@ abbrev noSignal : Case
 noSignal =
     record {
       calls =
-          one empty ∷ kill 100 100 0 4294967295 ∷ sigqueue 100 100 0 4294967295 1 ∷ sigaction 100 4294967295 none ∷ sigaction 100 0 none ∷ kill 100 100 0 65 ∷ kill 100 100 0 0 ∷ [];
+          one empty ∷ kill 100 100 0 4294967295 ∷ sigqueue 100 100 0 4294967295 1 ∷ sigaction 100 4294967295 none
+          ∷ sigaction 100 0 none ∷ kill 100 100 0 65 ∷ kill 100 100 0 0 ∷ [];
       expected = done ∷ refused EINVAL ∷ refused EINVAL ∷ refused EINVAL ∷ refused EINVAL ∷ refused EINVAL ∷ tested ∷ [];
     }
 
@@ -227,8 +241,10 @@ abbrev noId : Case
 noId =
     record {
       calls =
-          adds 0 0 0 0 0 200 empty ∷ adds 100 0 0 0 0 0 empty ∷ adds 2147483648 0 0 0 0 200 empty ∷ one empty ∷ addThread 0 201 ∷ addThread 200 0
-          ∷ endProcess 0 ∷ endThread 0 ∷ kill 0 100 0 10 ∷ kill 100 0 0 10 ∷ kill 100 100 4294967295 10 ∷ take 0 ∷ look 0 ∷ who 0 ∷ sigpending 0 ∷ sigreturn 0 empty ∷ [];
+          adds 0 0 0 0 0 200 empty ∷ adds 100 0 0 0 0 0 empty ∷ adds 2147483648 0 0 0 0 200 empty ∷ one empty
+          ∷ addThread 0 201 ∷ addThread 200 0
+          ∷ endProcess 0 ∷ endThread 0 ∷ kill 0 100 0 10 ∷ kill 100 0 0 10 ∷ kill 100 100 4294967295 10 ∷ take 0
+          ∷ look 0 ∷ who 0 ∷ sigpending 0 ∷ sigreturn 0 empty ∷ [];
       expected =
           refused EINVAL ∷ refused EINVAL ∷ refused EINVAL ∷ done ∷ refused ESRCH ∷ refused EINVAL
           ∷ refused ESRCH ∷ refused ESRCH ∷ refused ESRCH ∷ refused ESRCH ∷ refused ESRCH ∷ refused ESRCH ∷ refused ESRCH ∷ refused ESRCH ∷ refused ESRCH ∷ refused ESRCH ∷ [];

@@ -41,7 +41,8 @@ onlyFails k = map (λ n. not (eqb n k)) (range 0 clauseCount)
 unfoldable pub sample : Store
 sample =
     run
-    (adds 100 1000 1000 1000 7 200 empty ∷ adds 1 0 0 0 1 2 empty ∷ kill 100 100 0 2 ∷ sigqueue 100 100 200 3 1 ∷ sigqueue 100 100 0 40 1 ∷ [])
+    (adds 100 1000 1000 1000 7 200 empty ∷ adds 1 0 0 0 1 2 empty ∷ kill 100 100 0 2 ∷ sigqueue 100 100 200 3 1
+    ∷ sigqueue 100 100 0 40 1 ∷ [])
     cleared .0
 
 unfoldable pub changed : List Change → Store

@@ -10,7 +10,8 @@ use Rattle.lists.specs.Lists.{All, all}
 use Rattle.sigset.specs.Set.{bits, empty}
 use Rattle.types.specs.Values.{defaultAction}
 use Rattle.types.specs.declared.Answer.{Answer}
-use Rattle.rules.specs.Types.{Call, clear, addThread, endProcess, endThread, kill, sigqueue, sigaction, sigmask, sigpending, look, who, take, sigreturn}
+use Rattle.rules.specs.Types.{Call, clear, addThread, endProcess, endThread, kill, sigqueue, sigaction, sigmask}
+use Rattle.rules.specs.Types.{sigpending, look, who, take, sigreturn}
 use Rattle.rules.specs.Store.{Store, cleared}
 use Rattle.rules.specs.Calls.{run, Part, emptyPart, processSlot, lookPart}
 use Rattle.rules.specs.Machine.{machine}
@@ -19,7 +20,9 @@ use Rattle.rules.proofs.Cleared.{sound-cleared}
 use Rattle.rules.proofs.StaysSound.{run-sound}
 use Rattle.rules.proofs.QuickRuns.{quickComputing, quickRun, same-run, quickPart, same-part}
 use Rattle.examples.specs.Cases.{Case, Holds, holds, times}
-use Rattle.examples.specs.Words.{adds, refused, done, tested, acted, dropped, absorbed, marked, kept, oldAction, oldMask, pendingSet, canTake, noneCan, nothing, handler, end, stop, noAction, lookedNothing, lookedMark, lookedRecord}
+use Rattle.examples.specs.Words.{adds, refused, done, tested, acted, dropped, absorbed, marked, kept, oldAction}
+use Rattle.examples.specs.Words.{oldMask, pendingSet, canTake, noneCan, nothing, handler, end, stop, noAction}
+use Rattle.examples.specs.Words.{lookedNothing, lookedMark, lookedRecord}
 
 abbrev called : Call × Answer → Call
 called x = x .0
@@ -131,7 +134,8 @@ story =
     -- look thread=200 → looked nothing
     ∷ (look 200, lookedNothing)
     -- look thread=201 → looked record (100 0 40 -1 100 1000 7)
-    ∷ (look 201, lookedRecord (record { process = 100; thread = 0; signal = 40; code = 4294967295; sender = 100; uid = 1000; value = 7 }))
+    ∷ (look 201, lookedRecord
+    (record { process = 100; thread = 0; signal = 40; code = 4294967295; sender = 100; uid = 1000; value = 7 }))
     -- look thread=202 → refused 3
     ∷ (look 202, refused 3)
     -- who process=100 → can take 201

@@ -7,7 +7,8 @@ use Rattle.types.specs.declared.Sent.the-variants as sends
 use Rattle.types.specs.declared.Next.the-variants as nexts
 use Rattle.types.specs.declared.Taken as takes
 use Rattle.types.specs.declared.Taken.the-variants.{Nothing, Handler, End, Stop, NoAction}
-use Rattle.types.specs.declared.Reply.the-variants.{Done, Sent, OldAction, OldMask, PendingSet, Looked, CanTake, NoneCan, Taken}
+use Rattle.types.specs.declared.Reply.the-variants.{Done, Sent, OldAction, OldMask, PendingSet, Looked, CanTake}
+use Rattle.types.specs.declared.Reply.the-variants.{NoneCan, Taken}
 use Rattle.types.specs.declared.Answer.{Answer}
 use Rattle.types.specs.declared.Answer.the-variants.{Refused, Accepted}
 use Rattle.types.specs.Values.{newOf}

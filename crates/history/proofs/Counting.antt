@@ -209,7 +209,8 @@ module _ (k : Ledger) (v : View) (by to t s value : ℕ) (e : generation v true 
   controlled-kept : Steady kept k controlled
   controlled-kept = fades-kept k controlled (fades-all (jobControl to s) k (job-made Fading discard-pending to s))
 
-  pub kept-one : (q : Queue) (n : ℕ) → noteAll (changes v (sigqueue by to t s value)) k .lines q n .counts .kept ≡ k .lines q n .counts .kept + cond (isAt (targetQueue to t) s q n) 1 0
+  pub kept-one : (q : Queue) (n : ℕ) → noteAll (changes v (sigqueue by to t s value)) k .lines q n .counts .kept
+      ≡ k .lines q n .counts .kept + cond (isAt (targetQueue to t) s q n) 1 0
   unfolding note infoOf inQueue
   kept-one q n =
       ap (λ (x : Ledger). x .lines q n .counts .kept) kept-last

@@ -131,7 +131,9 @@ module _ (l : Lent) (k : Ledger) (r : Reached l k) where
             ap (λ (x : Ledger). x .total .taken) (told l k r c)
             ∙ taken-in-total k c
             ∙ ap (λ (x : Answer). k .total .taken + cond (yieldsOne x && takesOne k c) 1 0) (sym (answers l k r c));
-        room = λ by to t s value. ap (isRefusedWith EAGAIN) (answers l k r (sigqueue by to t s value)) ∙ room-counted (decoded l) k (r .holds) by to t s value;
+        room =
+            λ by to t s value. ap (isRefusedWith EAGAIN) (answers l k r (sigqueue by to t s value))
+            ∙ room-counted (decoded l) k (r .holds) by to t s value;
         limit = pending-limit (decoded l) k (r .holds);
       }
 

@@ -8,7 +8,8 @@ use borrow.Author.Tests.{eqb-true}
 use Rattle.lists.specs.Lists.{first}
 use Rattle.lists.proofs.Bools.{and-fst, and-snd, cond-true, split}
 use Rattle.lists.proofs.Lists.{first-keep}
-use Rattle.rules.specs.Types.{Queue, Process, Thread, Call, clear, addProcess, sigqueue, take, Kind, clearing, adding, queueing, taking, other, kindOf}
+use Rattle.rules.specs.Types.{Queue, Process, Thread, Call, clear, addProcess, sigqueue, take, Kind, clearing, adding}
+use Rattle.rules.specs.Types.{queueing, taking, other, kindOf}
 use Rattle.rules.specs.View.{View, Change, newProcess, newThread, inQueue}
 use Rattle.rules.specs.Store.{Store, cleared, view, recordsFor, apply, applyAll}
 use Rattle.rules.specs.Sound.{freeZero, sound}

@@ -13,7 +13,9 @@ use Rattle.types.specs.declared.Siginfo.{Siginfo}
 use Rattle.types.specs.declared.Reply.the-variants.{Taken}
 use Rattle.types.specs.declared.Answer.{Answer}
 use Rattle.types.specs.declared.Answer.the-variants.{Refused, Accepted}
-use Rattle.rules.specs.Types.{Thread, Queue, Next, noNext, nextMark, nextRecord, Call, clear, addProcess, addThread, endProcess, endThread, kill, sigqueue, sigaction, sigmask, sigpending, look, who, take, sigreturn, Kind, clearing, adding, queueing, taking, other, kindOf}
+use Rattle.rules.specs.Types.{Thread, Queue, Next, noNext, nextMark, nextRecord, Call, clear, addProcess, addThread}
+use Rattle.rules.specs.Types.{endProcess, endThread, kill, sigqueue, sigaction, sigmask, sigpending, look, who, take}
+use Rattle.rules.specs.Types.{sigreturn, Kind, clearing, adding, queueing, taking, other, kindOf}
 use Rattle.rules.specs.View.{View, targetQueue, liveThread, theThread, threadAction}
 use Rattle.rules.specs.Signals.{Outcome, ignores, stops, continues, ends, outcome}
 use Rattle.rules.specs.Sending.{Generation, testing, killing, stopping, dropping, absorbing, marking, keeping, generation, sendAnswer, needsRecord}
@@ -53,11 +55,14 @@ module _ (k : Ledger) (c : Call) where
     refused-then = cond-true k _ (ap isRefused refused-answer)
 
   -- what holds of an accepted call, and of a refusal that leaves the ledger alone
-  by-answer : (P : Answer → Ledger → Type 0) → P (Accepted (reply (ledgerView k) c)) (noteAll (changes (ledgerView k) c) k) → ((n : ℕ) → P (Refused n) k) → P (ledgerAnswer k c) then
+  by-answer : (P : Answer → Ledger → Type 0) → P (Accepted (reply (ledgerView k) c))
+      (noteAll (changes (ledgerView k) c) k) → ((n : ℕ) → P (Refused n) k) → P (ledgerAnswer k c) then
   by-answer P h g =
       split (eqb (ledgerRefusal k c) 0)
-      (λ e. subst (λ (a : Answer). P a then) (sym (accepted-answer e)) (subst (P (Accepted (reply (ledgerView k) c))) (sym (accepted-then e)) h))
-      (λ e. subst (λ (a : Answer). P a then) (sym (refused-answer e)) (subst (P (Refused (ledgerRefusal k c))) (sym (refused-then e)) (g (ledgerRefusal k c))))
+      (λ e. subst (λ (a : Answer). P a then) (sym (accepted-answer e))
+      (subst (P (Accepted (reply (ledgerView k) c))) (sym (accepted-then e)) h))
+      (λ e. subst (λ (a : Answer). P a then) (sym (refused-answer e))
+      (subst (P (Refused (ledgerRefusal k c))) (sym (refused-then e)) (g (ledgerRefusal k c))))
 
 -- ---- which call is answered "kept"
 
@@ -119,7 +124,8 @@ module _ (k : Ledger) (v : View) where
       → {c : Call} (x : Kind c) → keepsOf v x ≡ true → P c
   keeps-kind P h clearing e = clash e refl
   keeps-kind P h (adding new) e = clash e refl
-  keeps-kind P h (queueing by to t s value) e = h by to t s value (keeping-needs (generation v true (targetQueue to t) s) e)
+  keeps-kind P h (queueing by to t s value) e =
+      h by to t s value (keeping-needs (generation v true (targetQueue to t) s) e)
   keeps-kind P h (taking t) e = clash e refl
   keeps-kind P h other e = clash e refl
 
@@ -133,7 +139,8 @@ module _ (k : Ledger) (v : View) where
   kept-none c z = kept-steady k v c (no c z)
     where
       no : (c : Call) → keepsOne v c ≡ false → (r : Siginfo) → Keeps v c r → ⊥
-      no (sigqueue by to t s value) z r (queued e) = unfold keepsOne in clash (needs-keeping (generation v true (targetQueue to t) s) e) z
+      no (sigqueue by to t s value) z r (queued e) =
+          unfold keepsOne in clash (needs-keeping (generation v true (targetQueue to t) s) e) z
 
   abbrev KeptAt : Queue → ℕ → Call → Type 0
   KeptAt q s c = noteAll (changes v c) k .lines q s .counts .kept ≡ k .lines q s .counts .kept + cond (keepsOne v c && keepsAt c q s) 1 0
@@ -225,10 +232,12 @@ module _ (k : Ledger) (t : ℕ) (q : Queue) (s : ℕ) (r : Siginfo) (e : next (l
   unfolding onAccepted onReply
   taken-yields = ap yieldsOne taken-answer ∙ delivered-yields v (theThread v t) (threadAction v (theThread v t) s) r
 
-  took-at : (q′ : Queue) (s′ : ℕ) → noteAll (changes v (take t)) k .lines q′ s′ .counts .taken ≡ k .lines q′ s′ .counts .taken + cond (yieldsOne (Accepted (reply v (take t))) && isAt q s q′ s′) 1 0
+  took-at : (q′ : Queue) (s′ : ℕ) → noteAll (changes v (take t)) k .lines q′ s′ .counts .taken
+      ≡ k .lines q′ s′ .counts .taken + cond (yieldsOne (Accepted (reply v (take t))) && isAt q s q′ s′) 1 0
   took-at q′ s′ = taken-one k v t q s r e one-there q′ s′ ∙ ap (λ (b : Bool). k .lines q′ s′ .counts .taken + cond (b && isAt q s q′ s′) 1 0) (sym taken-yields)
 
-  took-in-all : noteAll (changes v (take t)) k .total .taken ≡ k .total .taken + cond (yieldsOne (Accepted (reply v (take t))) && true) 1 0
+  took-in-all : noteAll (changes v (take t)) k .total .taken
+      ≡ k .total .taken + cond (yieldsOne (Accepted (reply v (take t))) && true) 1 0
   took-in-all = taken-total k v t q s r e one-there ∙ ap (λ (b : Bool). k .total .taken + cond (b && true) 1 0) (sym taken-yields)
 
 module _ (k : Ledger) (c : Call) where
@@ -236,17 +245,27 @@ module _ (k : Ledger) (c : Call) where
   seen = ledgerView k
 
   TakenAt : Queue → ℕ → Next → Call → Type 0
-  TakenAt q s n x = noteAll (changes seen x) k .lines q s .counts .taken ≡ k .lines q s .counts .taken + cond (yieldsOne (Accepted (reply seen x)) && isSendAt n q s) 1 0
+  TakenAt q s n x =
+      noteAll (changes seen x) k .lines q s .counts .taken
+      ≡ k .lines q s .counts .taken + cond (yieldsOne (Accepted (reply seen x)) && isSendAt n q s) 1 0
 
   TakenInAll : Next → Call → Type 0
-  TakenInAll n x = noteAll (changes seen x) k .total .taken ≡ k .total .taken + cond (yieldsOne (Accepted (reply seen x)) && isSend n) 1 0
+  TakenInAll n x =
+      noteAll (changes seen x) k .total .taken ≡ k .total .taken + cond
+      (yieldsOne (Accepted (reply seen x)) && isSend n) 1 0
 
   module _ (no : (q : Queue) (s : ℕ) (r : Siginfo) → takenBy seen c ≡ nextRecord q s r → ⊥) (b : Bool) (z : b ≡ false) where
-    none-at : (q : Queue) (s : ℕ) → noteAll (changes seen c) k .lines q s .counts .taken ≡ k .lines q s .counts .taken + cond (yieldsOne (Accepted (reply seen c)) && b) 1 0
-    none-at q s = more _ _ (yieldsOne (Accepted (reply seen c)) && b) (λ y. clash y (and-right (yieldsOne (Accepted (reply seen c))) z)) (λ _. taken-steady k seen c no .lines q s)
+    none-at : (q : Queue) (s : ℕ) → noteAll (changes seen c) k .lines q s .counts .taken
+        ≡ k .lines q s .counts .taken + cond (yieldsOne (Accepted (reply seen c)) && b) 1 0
+    none-at q s =
+        more _ _ (yieldsOne (Accepted (reply seen c)) && b)
+        (λ y. clash y (and-right (yieldsOne (Accepted (reply seen c))) z)) (λ _. taken-steady k seen c no .lines q s)
 
-    none-in-all : noteAll (changes seen c) k .total .taken ≡ k .total .taken + cond (yieldsOne (Accepted (reply seen c)) && b) 1 0
-    none-in-all = more _ _ (yieldsOne (Accepted (reply seen c)) && b) (λ y. clash y (and-right (yieldsOne (Accepted (reply seen c))) z)) (λ _. taken-steady k seen c no .total)
+    none-in-all : noteAll (changes seen c) k .total .taken
+        ≡ k .total .taken + cond (yieldsOne (Accepted (reply seen c)) && b) 1 0
+    none-in-all =
+        more _ _ (yieldsOne (Accepted (reply seen c)) && b)
+        (λ y. clash y (and-right (yieldsOne (Accepted (reply seen c))) z)) (λ _. taken-steady k seen c no .total)
 
   taken-at : (q : Queue) (s : ℕ) (n : Next) → takenBy seen c ≡ n → TakenAt q s n c
   unfolding TakenAt isSendAt

@@ -10,7 +10,8 @@ use Rattle.types.specs.declared.Sent.{Sent}
 use Rattle.types.specs.declared.Sent.the-variants.{Tested, Acted, Dropped, Absorbed, Marked, Kept}
 use Rattle.types.specs.declared.Answer.{Answer}
 use Rattle.types.specs.declared.Answer.the-variants.{Refused, Accepted}
-use Rattle.rules.specs.Types.{Queue, Next, noNext, nextMark, nextRecord, Call, look, Kind, clearing, adding, queueing, taking, other, kindOf}
+use Rattle.rules.specs.Types.{Queue, Next, noNext, nextMark, nextRecord, Call, look, Kind, clearing, adding, queueing}
+use Rattle.rules.specs.Types.{taking, other, kindOf}
 use Rattle.rules.specs.View.{targetQueue, theThread}
 use Rattle.rules.specs.Taking.{next}
 use Rattle.rules.specs.Asking.{onAccepted, takenBy}

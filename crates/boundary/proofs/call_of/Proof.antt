@@ -20,7 +20,8 @@ returns-2 : tie.Need-returns-2
 unfolding callOf placingOf sendingOf settingOf askingOf numbered callsOf
 returns-2 c =
     let a = c .before .before .args in
-    ap addProcess (c .new-process .ensures) ∙ at-number (a .number) callAddProcess (arguments (a .a) (a .b) (a .c) (a .d) (a .e) (a .f) (a .x) (a .y) (a .z)) (c .before .match .keys2)
+    ap addProcess (c .new-process .ensures) ∙ at-number (a .number) callAddProcess
+    (arguments (a .a) (a .b) (a .c) (a .d) (a .e) (a .f) (a .x) (a .y) (a .z)) (c .before .match .keys2)
 
 returns-3 : tie.Need-returns-3
 unfolding callOf placingOf sendingOf settingOf askingOf numbered callsOf
@@ -56,13 +57,17 @@ returns-8 : tie.Need-returns-8
 unfolding callOf placingOf sendingOf settingOf askingOf numbered callsOf
 returns-8 c =
     let a = c .before .before .args in
-    ap (sigaction (a .a) (a .b)) (c .given-action .ensures) ∙ at-number (a .number) callSigaction (arguments (a .a) (a .b) (a .c) (a .d) (a .e) (a .f) (a .x) (a .y) (a .z)) (c .before .match .keys8)
+    ap (sigaction (a .a) (a .b)) (c .given-action .ensures)
+    ∙ at-number (a .number) callSigaction (arguments (a .a) (a .b) (a .c) (a .d) (a .e) (a .f) (a .x) (a .y) (a .z))
+    (c .before .match .keys8)
 
 returns-9 : tie.Need-returns-9
 unfolding callOf placingOf sendingOf settingOf askingOf numbered callsOf
 returns-9 c =
     let a = c .before .before .args in
-    ap (sigmask (a .a) (a .b)) (c .given-set .ensures) ∙ at-number (a .number) callSigmask (arguments (a .a) (a .b) (a .c) (a .d) (a .e) (a .f) (a .x) (a .y) (a .z)) (c .before .match .keys9)
+    ap (sigmask (a .a) (a .b)) (c .given-set .ensures)
+    ∙ at-number (a .number) callSigmask (arguments (a .a) (a .b) (a .c) (a .d) (a .e) (a .f) (a .x) (a .y) (a .z))
+    (c .before .match .keys9)
 
 returns-10 : tie.Need-returns-10
 unfolding callOf placingOf sendingOf settingOf askingOf numbered callsOf
@@ -100,6 +105,7 @@ pub call-of-spec : {M : Type 1} → statement M
 call-of-spec =
     tie.close
     (tie.spec
+    (λ c κs. search needs)
     (λ c κs. search needs)
     (λ c κs. search needs)
     returns

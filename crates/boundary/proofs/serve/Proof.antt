@@ -26,7 +26,9 @@ returns-2 c =
     let s = c .before .before .before .before .before .before .before .before .before .before in
     let a = s .before .before .before .before .before .before .before .before .before .before .before .before .before in
     step-refused (a .args .number) (arguments (a .args .a) (a .args .b) (a .args .c) (a .args .d) (a .args .e) (a .args .f) (a .args .x) (a .args .y) (a .args .z)) (length (a .args .out .now)) (lent (a .args .ps .now) (a .args .ts .now) (a .args .tb .now) (a .args .pb .now)) (a .args .out .now)
-    (sym (s .before .before .before .before .before .before .before .is-accepted .ensures) ∙ not-false _ (s .before .before .before .before .before .before .if1 .left)) (callOf (s .before .call-of .result)) (s .before .call-of .ensures) (s .step .result)
+    (sym (s .before .before .before .before .before .before .before .is-accepted .ensures)
+    ∙ not-false _ (s .before .before .before .before .before .before .if1 .left))
+    (callOf (s .before .call-of .result)) (s .before .call-of .ensures) (s .step .result)
     (lent (s .step .last .0) (s .step .last .1 .0) (s .step .last .1 .1 .0) (s .step .last .1 .1 .1 .0)) (s .step .ensures .0) (s .step .ensures .1)
     (c .before .errno-of .result) (c .before .errno-of .ensures) (c .if2 .taken)
 
@@ -41,7 +43,9 @@ returns-3 c =
     let s = c .before .before .before .before .before .before .before .before .before .before .before .before .before .before .before in
     let a = s .before .before .before .before .before .before .before .before .before .before .before .before .before in
     step-answered (a .args .number) (arguments (a .args .a) (a .args .b) (a .args .c) (a .args .d) (a .args .e) (a .args .f) (a .args .x) (a .args .y) (a .args .z)) (length (a .args .out .now)) (lent (a .args .ps .now) (a .args .ts .now) (a .args .tb .now) (a .args .pb .now)) (a .args .out .now)
-    (sym (s .before .before .before .before .before .before .before .is-accepted .ensures) ∙ not-false _ (s .before .before .before .before .before .before .if1 .left)) (callOf (s .before .call-of .result)) (s .before .call-of .ensures) (s .step .result)
+    (sym (s .before .before .before .before .before .before .before .is-accepted .ensures)
+    ∙ not-false _ (s .before .before .before .before .before .before .if1 .left))
+    (callOf (s .before .call-of .result)) (s .before .call-of .ensures) (s .step .result)
     (lent (s .step .last .0) (s .step .last .1 .0) (s .step .last .1 .1 .0) (s .step .last .1 .1 .1 .0)) (s .step .ensures .0) (s .step .ensures .1)
     (c .before .before .before .before .before .before .errno-of .result) (c .before .before .before .before .before .before .errno-of .ensures) (c .before .before .before .before .before .if2 .left) (c .before .before .before .words-of .result) (c .before .before .write .last .0) (c .before .before .before .words-of .ensures) (c .before .before .write .ensures)
 

@@ -1,0 +1,44 @@
+-- `send` meets its contract. Assumes nothing.
+use borrow.Author.Needs.{needs}
+use Rattle.answers.specs.Step.{lent}
+use Rattle.calls.specs.Calls.{sendingOf}
+use Rattle.calls.proofs.Asked.{by-case}
+use Rattle.calls.proofs.send.Statement.{statement}
+use Rattle.calls.proofs.send.Tie as tie
+
+returns : tie.Need-returns
+unfolding sendingOf
+returns c =
+    let k = c .before .before .before .before .before .before .before .before .before .before .before .before .before .before in
+    let a = k .before .before .before .before .before .before in
+    let r = c .before .before .before .before .before .before .before .before .kill in
+    by-case sendingOf (a .args .c) _ (k .c .given .1) (lent (a .args .ps .now) (a .args .ts .now) (a .args .tb .now) (a .args .pb .now)) (r .result)
+    (lent (r .last .0) (r .last .1 .0) (r .last .1 .1 .0) (r .last .1 .1 .1 .0)) (r .ensures .0) (r .ensures .1)
+
+returns-2 : tie.Need-returns-2
+unfolding sendingOf
+returns-2 c =
+    let k = c .before .before .before .before .before .before .before .before .before .before .before .before .before .before in
+    let a = k .before .before .before .before .before .before in
+    let r = c .before .before .before .before .before .before .before .before .sigqueue in
+    by-case sendingOf (a .args .c) _ (k .c2 .given .1) (lent (a .args .ps .now) (a .args .ts .now) (a .args .tb .now) (a .args .pb .now)) (r .result)
+    (lent (r .last .0) (r .last .1 .0) (r .last .1 .1 .0) (r .last .1 .1 .1 .0)) (r .ensures .0) (r .ensures .1)
+
+pub send-spec : {M : Type 1} → statement M
+send-spec =
+    tie.close
+    (tie.spec
+    (λ c. search needs)
+    (λ c κs. search needs)
+    (λ c. search needs)
+    (λ c κs. search needs)
+    (λ c. search needs)
+    (λ c. search needs)
+    (λ c. search needs)
+    (λ c. search needs)
+    returns
+    (λ c. search needs)
+    (λ c. search needs)
+    (λ c. search needs)
+    (λ c. search needs)
+    returns-2)

@@ -1,0 +1,60 @@
+-- `set` meets its contract. Assumes nothing.
+use borrow.Author.Needs.{needs}
+use Rattle.answers.specs.Step.{lent}
+use Rattle.calls.specs.Calls.{settingOf}
+use Rattle.calls.proofs.Asked.{by-case}
+use Rattle.calls.proofs.set.Statement.{statement}
+use Rattle.calls.proofs.set.Tie as tie
+
+returns : tie.Need-returns
+unfolding settingOf
+returns c =
+    let k = c .before .before .before .before .before .before .before .before .before .before .before .before .before .before in
+    let a = k .before .before .before .before .before .before in
+    let r = c .before .before .before .before .before .before .before .before .sigaction in
+    by-case settingOf (a .args .c) _ (k .c .given .1) (lent (a .args .ps .now) (a .args .ts .now) (a .args .tb .now) (a .args .pb .now)) (r .result)
+    (lent (r .last .0) (r .last .1 .0) (r .last .1 .1 .0) (r .last .1 .1 .1 .0)) (r .ensures .0) (r .ensures .1)
+
+returns-2 : tie.Need-returns-2
+unfolding settingOf
+returns-2 c =
+    let k = c .before .before .before .before .before .before .before .before .before .before .before .before .before .before in
+    let a = k .before .before .before .before .before .before in
+    let r = c .before .before .before .before .before .before .before .before .sigmask in
+    by-case settingOf (a .args .c) _ (k .c2 .given .1) (lent (a .args .ps .now) (a .args .ts .now) (a .args .tb .now) (a .args .pb .now)) (r .result)
+    (lent (r .last .0) (r .last .1 .0) (r .last .1 .1 .0) (r .last .1 .1 .1 .0)) (r .ensures .0) (r .ensures .1)
+
+returns-3 : tie.Need-returns-3
+unfolding settingOf
+returns-3 c =
+    let k = c .before .before .before .before .before .before .before .before .before .before .before .before .before .before in
+    let a = k .before .before .before .before .before .before in
+    let r = c .before .before .before .before .before .before .before .before .sigreturn in
+    by-case settingOf (a .args .c) _ (k .c3 .given .1) (lent (a .args .ps .now) (a .args .ts .now) (a .args .tb .now) (a .args .pb .now)) (r .result)
+    (lent (r .last .0) (r .last .1 .0) (r .last .1 .1 .0) (r .last .1 .1 .1 .0)) (r .ensures .0) (r .ensures .1)
+
+pub set-spec : {M : Type 1} → statement M
+set-spec =
+    tie.close
+    (tie.spec
+    (λ c. search needs)
+    (λ c κs. search needs)
+    (λ c. search needs)
+    (λ c κs. search needs)
+    (λ c. search needs)
+    (λ c κs. search needs)
+    (λ c. search needs)
+    (λ c. search needs)
+    (λ c. search needs)
+    (λ c. search needs)
+    returns
+    (λ c. search needs)
+    (λ c. search needs)
+    (λ c. search needs)
+    (λ c. search needs)
+    returns-2
+    (λ c. search needs)
+    (λ c. search needs)
+    (λ c. search needs)
+    (λ c. search needs)
+    returns-3)
