@@ -34,7 +34,13 @@ fn add_process_refusal(ps: &[u64], ts: &[u64], tb: &[u8], pb: &[u8], new: NewPro
 }
 
 // Adds a process, running, with its first thread.
-pub fn add_process(ps: &mut [u64], ts: &mut [u64], tb: &mut [u8], pb: &mut [u8], new: NewProcess) -> Answer
+pub fn add_process(
+    ps: &mut [u64],
+    ts: &mut [u64],
+    tb: &mut [u8],
+    pb: &mut [u8],
+    new: NewProcess,
+) -> Answer
     ensures answer { λ r. ⌜ r ≡ stepOn (call.addProcess new) (lent (now (ps .entry)) (now (ts .entry)) (now (tb .entry)) (now (pb .entry))) .1 ⌝ }
     ensures tables { λ r. ⌜ lent (now (ps .exit)) (now (ts .exit)) (now (tb .exit)) (now (pb .exit)) ≡ stepOn (call.addProcess new) (lent (now (ps .entry)) (now (ts .entry)) (now (tb .entry)) (now (pb .entry))) .0 ⌝ }
 {

@@ -134,8 +134,11 @@ story =
     -- look thread=200 → looked nothing
     ∷ (look 200, lookedNothing)
     -- look thread=201 → looked record (100 0 40 -1 100 1000 7)
-    ∷ (look 201, lookedRecord
-    (record { process = 100; thread = 0; signal = 40; code = 4294967295; sender = 100; uid = 1000; value = 7 }))
+    ∷ (
+      look 201,
+      lookedRecord
+          (record { process = 100; thread = 0; signal = 40; code = 4294967295; sender = 100; uid = 1000; value = 7 }),
+    )
     -- look thread=202 → refused 3
     ∷ (look 202, refused 3)
     -- who process=100 → can take 201
