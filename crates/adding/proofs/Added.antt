@@ -48,14 +48,16 @@ module _ (ps ts tb pb : List ℕ) (new : NewProcess) (n : ℕ) (r : n ≡ refusa
     unfolding noProcessPlace view storeOf
     process-room = (
       right-processes ps ts tb pb process-long,
-      not-false (any isFreeProcess (heldProcesses ps)) (or-fst-false (not (any isFreeProcess (heldProcesses ps))) _ places),
+      not-false (any isFreeProcess (heldProcesses ps))
+          (or-fst-false (not (any isFreeProcess (heldProcesses ps))) _ places),
     )
 
     pub first-thread-room : (length ts ≡ threadTable) × (any isFreeThread (heldThreads ts) ≡ true)
     unfolding noThreadPlace noProcessPlace view storeOf
     first-thread-room = (
       right-threads ps ts tb pb process-long,
-      not-false (any isFreeThread (heldThreads ts)) (or-snd-false (not (any isFreeProcess (heldProcesses ps))) _ places),
+      not-false (any isFreeThread (heldThreads ts))
+          (or-snd-false (not (any isFreeProcess (heldProcesses ps))) _ places),
     )
 
   abbrev Ends : Answer → Lent → Type 0
@@ -67,10 +69,12 @@ module _ (ps ts tb pb : List ℕ) (new : NewProcess) (n : ℕ) (r : n ≡ refusa
   module _ (ps′ ts′ : List ℕ) (given : SigSet) (g : given ≡ maskable (new .mask))
       (p : processesOf ps′ ≡ fill isFreeProcess (addedProcess new) (processesOf ps))
       (t : threadsOf ts′ ≡ fill isFreeThread (threadOf (new .thread) (new .id) given) (threadsOf ts)) where
-    process-made : storeOf ps′ ts′ tb pb ≡ applyAll (changes (view (storeOf ps ts tb pb)) (addProcess new)) (storeOf ps ts tb pb)
+    process-made : storeOf ps′ ts′ tb pb ≡ applyAll (changes (view (storeOf ps ts tb pb)) (addProcess new))
+        (storeOf ps ts tb pb)
     unfolding storeOf changes addProcessChanges applyAll apply
     process-made =
-        let f : threadsOf ts′ ≡ fill isFreeThread (threadOf (new .thread) (new .id) (maskable (new .mask))) (threadsOf ts) =
+        let f : threadsOf ts′ ≡ fill isFreeThread (threadOf (new .thread) (new .id) (maskable (new .mask)))
+        (threadsOf ts) =
         t ∙ ap (λ (m : SigSet). fill isFreeThread (threadOf (new .thread) (new .id) m) (threadsOf ts)) g in
         with-all ps′ ts′ tb pb p f refl refl
 
@@ -85,7 +89,8 @@ module _ (ps ts tb pb : List ℕ) (new : NewProcess) (n : ℕ) (r : n ≡ refusa
 
 module _ (ps ts tb pb : List ℕ) (creator id n : ℕ) (r : n ≡ refusalOn (addThread creator id) (lent ps ts tb pb)) where
   pub thread-refused : (n ≡ 0 → ⊥)
-      → (Refused n ≡ stepOn (addThread creator id) (lent ps ts tb pb) .1) × (lent ps ts tb pb ≡ stepOn (addThread creator id) (lent ps ts tb pb) .0)
+      → (Refused n ≡ stepOn (addThread creator id) (lent ps ts tb pb) .1)
+      × (lent ps ts tb pb ≡ stepOn (addThread creator id) (lent ps ts tb pb) .0)
   thread-refused = refused-ends (addThread creator id) (lent ps ts tb pb) n r
 
   module _ (z : n ≡ 0) where
@@ -117,7 +122,8 @@ module _ (ps ts tb pb : List ℕ) (creator id n : ℕ) (r : n ≡ refusalOn (add
           with-all ps ts′ tb pb refl f refl refl
 
       pub thread-added : length ts′ ≡ length ts → Bytes tb → Bytes pb
-          → (Accepted Done ≡ stepOn (addThread creator id) (lent ps ts tb pb) .1) × (lent ps ts′ tb pb ≡ stepOn (addThread creator id) (lent ps ts tb pb) .0)
+          → (Accepted Done ≡ stepOn (addThread creator id) (lent ps ts tb pb) .1)
+          × (lent ps ts′ tb pb ≡ stepOn (addThread creator id) (lent ps ts tb pb) .0)
       unfolding reply
       thread-added lt bt bp =
           accepted-ends (addThread creator id) (lent ps ts tb pb) (sym r ∙ z) Done refl (lent ps ts′ tb pb)

@@ -53,7 +53,8 @@ module _ (ps ts tb pb : List ℕ) (new : NewProcess) where
       unfolding rows isClear
       process-bad q = refuses-at call (lent ps ts tb pb) refl sound-so [] bad (there ∷ full ∷ []) refl tt (bad-is true q)
 
-      module _ (q : (not g || not h) ≡ false) (p t : Bool) (ep : p ≡ any (isProcess (new .id)) (heldProcesses ps)) (et : t ≡ any (isThread (new .thread)) (heldThreads ts)) where
+      module _ (q : (not g || not h) ≡ false) (p t : Bool) (ep : p ≡ any (isProcess (new .id)) (heldProcesses ps))
+          (et : t ≡ any (isThread (new .thread)) (heldThreads ts)) where
         there-is : (b : Bool) → (p || t) ≡ b → there .applies ≡ b
         unfolding liveProcess liveThread view storeOf
         there-is b w = ap₂ (λ (x y : Bool). x || y) (sym ep) (sym et) ∙ w

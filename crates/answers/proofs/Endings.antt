@@ -103,7 +103,8 @@ module _ (c : Call) (l : Lent) where
         split (longAs l)
         (λ a.
         let r : refusalOn c l ≡ refusalOf (decoded l) c = ap (λ (b : Bool). cond b (refusalOf (decoded l) c) EFAULT) a in
-        let s : step c (decoded l) .1 ≡ Refused (refusalOf (decoded l) c) = refused-number c (decoded l) (λ z. n (r ∙ z)) in
+        let s : step c (decoded l) .1 ≡ Refused (refusalOf (decoded l) c) = refused-number c (decoded l)
+        (λ z. n (r ∙ z)) in
         rw (a, s))
         (λ a. rw a)
 
@@ -116,11 +117,13 @@ module _ (c : Call) (l : Lent) where
   -- ---- accepted
 
   module _ (e : refusalOn c l ≡ 0) where
-    step-is : step c (decoded l) ≡ (applyAll (changes (view (decoded l)) c) (decoded l), Accepted (reply (view (decoded l)) c))
+    step-is : step c (decoded l)
+        ≡ (applyAll (changes (view (decoded l)) c) (decoded l), Accepted (reply (view (decoded l)) c))
     unfolding step finish stages runStages
     step-is = ap (λ (n : ℕ). finish n c (decoded l)) (accepted-rules e)
 
-    pub accepted-step : stepOn c l ≡ (encoded (applyAll (changes (view (decoded l)) c) (decoded l)), Accepted (reply (view (decoded l)) c))
+    pub accepted-step : stepOn c l
+        ≡ (encoded (applyAll (changes (view (decoded l)) c) (decoded l)), Accepted (reply (view (decoded l)) c))
     unfolding stepOn committed isRefused
     accepted-step = rw (accepted-long e, step-is)
 
@@ -160,9 +163,11 @@ module _ (c : Call) (l : Lent) where
       (ap Refused r ∙ refused-answer c l k, refused-tables c l k)
 
   module _ (e : refusalOn c l ≡ 0) (a : Reply) (h : a ≡ reply (view (decoded l)) c) where
-    pub same-ends : Bytes (l .threadBuffer) → Bytes (l .processBuffer) → changes (view (decoded l)) c ≡ [] → (Accepted a ≡ stepOn c l .1) × (l ≡ stepOn c l .0)
+    pub same-ends : Bytes (l .threadBuffer) → Bytes (l .processBuffer) → changes (view (decoded l)) c ≡ []
+        → (Accepted a ≡ stepOn c l .1) × (l ≡ stepOn c l .0)
     same-ends bt bp k = (answer-after c l e a h, tables-same c l e bt bp k)
 
     pub accepted-ends : (m : Lent) → AsLong l m → Bytes (m .threadBuffer) → Bytes (m .processBuffer)
-        → decoded m ≡ applyAll (changes (view (decoded l)) c) (decoded l) → (Accepted a ≡ stepOn c l .1) × (m ≡ stepOn c l .0)
+        → decoded m ≡ applyAll (changes (view (decoded l)) c) (decoded l) → (Accepted a ≡ stepOn c l .1)
+        × (m ≡ stepOn c l .0)
     accepted-ends m s bt bp k = (answer-after c l e a h, tables-after c l e m (long-after l m s (accepted-long c l e)) bt bp k)

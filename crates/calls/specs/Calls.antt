@@ -1,6 +1,6 @@
 -- The rules' call for each case of the enums.
-use Rattle.rules.specs.Types.{Call, clear, addProcess, addThread, endProcess, endThread, kill, sigqueue, sigaction, sigmask}
-use Rattle.rules.specs.Types.{sigpending, look, who, take, sigreturn}
+use Rattle.rules.specs.Types.{Call, clear, addProcess, addThread, endProcess, endThread, kill, sigqueue, sigaction}
+use Rattle.rules.specs.Types.{sigmask, sigpending, look, who, take, sigreturn}
 use Rattle.actions.specs.Given.{newAction}
 use Rattle.masks.specs.Given.{newSet}
 use Rattle.calls.specs.declared.Placing.{Placing}

@@ -35,4 +35,5 @@ module _ (l : Lent) (b : Bool) (e : b ≡ longAs l) where
       → (Accepted Done ≡ stepOn clear l .1) × (m ≡ stepOn clear l .0)
   unfolding reply changes applyAll
   clear-done f m s bt bp h =
-      accepted-ends clear l (sym (clear-refusal l) ∙ ap (λ (x : Bool). cond x 0 EFAULT) (clear-long f)) Done refl m s bt bp h
+      accepted-ends clear l (sym (clear-refusal l) ∙ ap (λ (x : Bool). cond x 0 EFAULT) (clear-long f)) Done refl m s
+      bt bp h

@@ -1,21 +1,20 @@
 -- A call's refusal and answer are what is read in the ledger; none is 14; room is what the ledger counts. Assumes nothing.
 use Prim.Native.Nat.{ℕ, zero, suc, _≤_}
 use mathlib.Core.Path.{_≡_, refl, sym, ap, ap₂, _∙_}
-use mathlib.Core.Bool.{Bool, true, false, not, _&&_, cond}
+use mathlib.Core.Bool.{Bool, true, false, _&&_, cond}
 use mathlib.Core.List.{[], _∷_}
 use native.Mathlib.Omega.{arith}
 use lib.Dec.{eqb, leb, eqb·suc-zero}
 use borrow.Author.Tests.{eqb-true, eq-eqb, leb-true, le-leb, not-true}
 use Rattle.limits.specs.Limits.{recordLimit, EAGAIN, EFAULT}
-use Rattle.lists.specs.Lists.{All}
-use Rattle.lists.proofs.Bools.{split, clash, same-test, cond-false}
+use Rattle.lists.proofs.Bools.{split, same-test, cond-false}
 use Rattle.types.specs.declared.Answer.the-variants.{Refused, Accepted}
 use Rattle.rules.specs.Types.{Call, kill, sigqueue}
 use Rattle.rules.specs.View.{View, targetQueue}
 use Rattle.rules.specs.Store.{Store, view}
 use Rattle.rules.specs.Sending.{generation, needsRecord}
-use Rattle.rules.specs.Refusals.{Row, refusal, rows, table, refusalOf, noRoom, einval, esrch, eperm, eagain}
-use Rattle.rules.specs.Calls.{reply, finish, step, isRefused}
+use Rattle.rules.specs.Refusals.{refusal, rows, table, refusalOf, noRoom, einval, esrch, eperm, eagain}
+use Rattle.rules.specs.Calls.{reply, finish, step}
 use Rattle.rules.proofs.Facts.{within-limit}
 use Rattle.rules.proofs.RefusalTable.{no-fault, rows-no-fault}
 use Rattle.history.specs.Ledger.{Ledger, ledgerView, ledgerRefusal, ledgerAnswer, ofProcess, pendingWhere}

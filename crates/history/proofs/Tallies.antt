@@ -6,9 +6,7 @@ use mathlib.Core.List.{List, [], _∷_, head?, tail}
 use mathlib.Core.Option.{Option, some, none}
 use native.Mathlib.Omega.{arith}
 use lib.Dec.{eqb}
-use Rattle.limits.specs.Limits.{sigDfl}
 use Rattle.lists.proofs.Bools.{split, clash, and-left, and-right, cond-true, cond-false}
-use Rattle.types.specs.declared.Action.{Action}
 use Rattle.types.specs.declared.Siginfo.{Siginfo}
 use Rattle.types.specs.declared.Reply.the-variants.{Taken}
 use Rattle.types.specs.declared.Answer.{Answer}
@@ -17,9 +15,8 @@ use Rattle.rules.specs.Types.{Thread, Queue, Next, noNext, nextMark, nextRecord
 use Rattle.rules.specs.Types.{endProcess, endThread, kill, sigqueue, sigaction, sigmask, sigpending, look, who, take}
 use Rattle.rules.specs.Types.{sigreturn, Kind, clearing, adding, queueing, taking, other, kindOf}
 use Rattle.rules.specs.View.{View, targetQueue, liveThread, theThread, threadAction}
-use Rattle.rules.specs.Signals.{Outcome, ignores, stops, continues, ends, outcome}
 use Rattle.rules.specs.Sending.{Generation, testing, killing, stopping, dropping, absorbing, marking, keeping, generation, sendAnswer, needsRecord}
-use Rattle.rules.specs.Taking.{whoAnswer, taker, next, markInfo, outcomeAnswer, delivered, takeAnswer}
+use Rattle.rules.specs.Taking.{whoAnswer, taker, next, delivered, takeAnswer}
 use Rattle.rules.specs.Asking.{MayTake, hasOffer, onReply, onAccepted, yieldsOne, takenOf, takenBy}
 use Rattle.rules.specs.Refusals.{refusal, rows, noThreadLive}
 use Rattle.rules.specs.Calls.{reply, changes, stages, isRefused}

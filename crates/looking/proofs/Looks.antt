@@ -12,7 +12,7 @@ use Rattle.lists.proofs.Bools.{split}
 use Rattle.lists.proofs.Loops.{find-le}
 use Rattle.types.specs.declared.Siginfo.{Siginfo}
 use Rattle.types.specs.declared.Reply.the-variants.{Looked}
-use Rattle.rules.specs.Types.{Next, look, told}
+use Rattle.rules.specs.Types.{Next, look}
 use Rattle.rules.specs.View.{queueOf, inQueue, liveThread, theThread}
 use Rattle.rules.specs.Store.{recordsFor, view}
 use Rattle.rules.specs.Taking.{next}

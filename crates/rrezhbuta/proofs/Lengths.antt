@@ -61,9 +61,11 @@ module _ (ps tb pb : List ℕ) (ts : List Thread) (o : T (not (eqb (length ts) t
     unfolding served serveOn stepOn
     refused-here =
         split (accepted number (length out))
-        (λ t. cond-true (stepOn (numbered number (arguments a b c d e f x y z)) before) (before, Refused (cond (usable number before) EINVAL EFAULT)) t
+        (λ t. cond-true (stepOn (numbered number (arguments a b c d e f x y z)) before)
+        (before, Refused (cond (usable number before) EINVAL EFAULT)) t
         ∙ cond-false (committed before (step (numbered number (arguments a b c d e f x y z)) (decoded before))) refusal short)
-        (λ t. cond-false (stepOn (numbered number (arguments a b c d e f x y z)) before) (before, Refused (cond (usable number before) EINVAL EFAULT)) t
+        (λ t. cond-false (stepOn (numbered number (arguments a b c d e f x y z)) before)
+        (before, Refused (cond (usable number before) EINVAL EFAULT)) t
         ∙ ap (λ (k : Bool). (before, Refused (cond k EINVAL EFAULT))) (unusable number))
 
     wrong-length-here : (EFAULT ≡ errnoAt ps tb pb out ts number a b c d e f x y z) × (ps ≡ processesAt ps tb pb out ts number a b c d e f x y z) × (tb ≡ threadBufferAt ps tb pb out ts number a b c d e f x y z) × (pb ≡ processBufferAt ps tb pb out ts number a b c d e f x y z) × (out ≡ answerAt ps tb pb out ts number a b c d e f x y z) × (ts ≡ threadsAt ps tb pb out ts number a b c d e f x y z)

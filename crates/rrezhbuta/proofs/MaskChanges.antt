@@ -129,7 +129,8 @@ module _ (ps tb pb : List ℕ) (ts : List Thread) (e : length ts ≡ threadPlace
   -- without a set
   none-after : refusalOn (sigmask t way none) before ≡ 0 → after none ≡ wordsOf ts
   unfolding encoded storeOf changes maskChanges applyAll
-  none-after a = ap (λ x. x .0 .threads) (accepted-step (sigmask t way none) before a) ∙ thread-words-back (wordsOf ts) long
+  none-after a =
+      ap (λ x. x .0 .threads) (accepted-step (sigmask t way none) before a) ∙ thread-words-back (wordsOf ts) long
 
   -- with one: the rules' change of the live thread
   module _ (m : SigSet) (s : soundTables ps (wordsOf ts) tb pb ≡ true) (live : liveThread (view (decoded before)) t ≡ true) where

@@ -38,7 +38,11 @@ module _ (ps tb pb out : List ℕ) (ts : List Thread) (number a b c d e f x y z 
   return-served : number ≡ callSigreturn → served ps tb pb out ts callSigmask a sigSetmask 1 0 0 0 x 0 0 ≡ served ps tb pb out ts number a b c d e f x y z
   unfolding served serveOn numbered callsOf accepted isCall whereGiven usable
   return-served h =
-      ap (λ (s : Lent × Answer). cond (accepted callSigreturn (length out)) s (lent ps (wordsOf ts) tb pb, Refused (cond (usable callSigreturn (lent ps (wordsOf ts) tb pb)) EINVAL EFAULT)))
+      ap (λ (s : Lent × Answer). cond (accepted callSigreturn (length out)) s (
+        lent ps (wordsOf ts) tb pb,
+        Refused
+            (cond (usable callSigreturn (lent ps (wordsOf ts) tb pb)) EINVAL EFAULT),
+      ))
       (return-is (lent ps (wordsOf ts) tb pb) a (bits x))
       ∙ ap (λ (n : ℕ). served ps tb pb out ts n a b c d e f x y z) (sym h)
 

@@ -12,7 +12,6 @@ use Rattle.lists.specs.Lists.{any, first, replaceFirst, All}
 use Rattle.lists.proofs.Bools.{split, clash, and-fst, and-snd, and-both, and-right, imp-use, imp-by}
 use Rattle.lists.proofs.Lists.{Pass, Fail, All-imp, All-every, All-replaceFirst, All-map, any-All, All-any, any-replaceFirst, any-replaced, any-first, map-replaceFirst, length-replaceFirst}
 use Rattle.lists.proofs.Changes.{first-filled}
-use Rattle.sigset.specs.declared.SigSet.{SigSet}
 use Rattle.sigset.specs.Set.{empty, maskable}
 use Rattle.sigset.proofs.Laws.{has-empty}
 use Rattle.types.specs.declared.NewProcess.{NewProcess}
@@ -258,7 +257,8 @@ module _ (new : NewProcess) where
       }
 
 -- adding a process is two changes; between them the store is not sound
-pub addProcess-sound : (st : Store) → sound st ≡ true → (new : NewProcess) → goodId (new .id) ≡ true → goodId (new .thread) ≡ true
+pub addProcess-sound : (st : Store) → sound st ≡ true → (new : NewProcess) → goodId (new .id) ≡ true
+    → goodId (new .thread) ≡ true
     → liveProcess (view st) (new .id) ≡ false → liveThread (view st) (new .thread) ≡ false
     → any isFreeProcess (view st .processes) ≡ true → any isFreeThread (view st .threads) ≡ true
     → goodUser (new .real) ≡ true → goodUser (new .effective) ≡ true → goodUser (new .saved) ≡ true

@@ -9,7 +9,8 @@ use Rattle.limits.specs.Limits.{processPlaces, threadPlaces, ESRCH, EINVAL}
 use Rattle.lists.specs.Lists.{any}
 use Rattle.lists.proofs.Bools.{and-right}
 use Rattle.lists.proofs.Lists.{any-map, any-replicate}
-use Rattle.rules.specs.Types.{Call, clear, addProcess, addThread, endProcess, endThread, kill, sigqueue, sigaction, sigmask, sigpending, look, who, take, sigreturn}
+use Rattle.rules.specs.Types.{Call, clear, addProcess, addThread, endProcess, endThread, kill, sigqueue}
+use Rattle.rules.specs.Types.{sigaction, sigmask, sigpending, look, who, take, sigreturn}
 use Rattle.rules.specs.View.{isProcess, isThread, liveProcess, liveThread}
 use Rattle.rules.specs.Store.{Place, held, freeProcess, freeThread, cleared, view}
 use Rattle.rules.specs.Sound.{sound}

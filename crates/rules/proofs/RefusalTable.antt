@@ -11,7 +11,9 @@ use Rattle.sigset.proofs.Laws.{each-unmaskable}
 use Rattle.lists.specs.Lists.{all, any, find, pairs, All}
 use Rattle.lists.proofs.Bools.{split, clash, and-fst, and-snd, or-right, cond-true, cond-false}
 use Rattle.lists.proofs.Lists.{Pass, All-imp, all-All}
-use Rattle.rules.specs.Types.{Call, clear, addProcess, addThread, endProcess, endThread, kill, sigqueue, sigaction, sigmask, sigpending, look, who, take, sigreturn, Kind, clearing, adding, queueing, taking, other, kindOf}
+use Rattle.rules.specs.Types.{Call, clear, addProcess, addThread, endProcess, endThread, kill, sigqueue}
+use Rattle.rules.specs.Types.{sigaction, sigmask, sigpending, look, who, take, sigreturn, Kind, clearing, adding}
+use Rattle.rules.specs.Types.{queueing, taking, other, kindOf}
 use Rattle.rules.specs.View.{View}
 use Rattle.rules.specs.Store.{Store, view}
 use Rattle.rules.specs.Sound.{lengthsRight, sound}
@@ -92,7 +94,8 @@ in-order st c = and-fst (pairs above (top ∷ rows (view st) c)) _ (ordered-list
 rows-listed : (st : Store) (c : Call) → All (Pass listedRow) (table st c)
 unfolding table fault
 rows-listed st c =
-    all-All listedRow (top ∷ rows (view st) c) (and-snd (pairs above (top ∷ rows (view st) c)) _ (ordered-listed (view st) c))
+    all-All listedRow (top ∷ rows (view st) c)
+    (and-snd (pairs above (top ∷ rows (view st) c)) _ (ordered-listed (view st) c))
 
 -- ---- the rows below 14 do not give it
 
@@ -110,7 +113,8 @@ pub rows-no-fault : (v : View) (c : Call) → notFault (refusal (rows v c)) ≡ 
 unfolding pairs
 rows-no-fault v c =
     given-passes notFault (rows v c) refl
-    (All-imp (Pass (above top)) (λ (r : Row). r .applies ≡ true → notFault (r .errno) ≡ true) (λ r h e. below-top r h) (rows v c)
+    (All-imp (Pass (above top)) (λ (r : Row). r .applies ≡ true → notFault (r .errno) ≡ true) (λ r h e. below-top r h)
+    (rows v c)
     (all-All (above top) (rows v c)
     (and-fst (all (above top) (rows v c)) _ (and-fst (pairs above (top ∷ rows v c)) _ (ordered-listed v c)))))
 
@@ -175,7 +179,8 @@ kill-has-room st by to t s e =
     clash (given-passes notFull (table st (kill by to t s)) refl ((λ k. refl), ((λ k. refl), ((λ k. refl), ((λ k. refl), tt))))) (ap notFull e)
 
 -- nor does a queued KILL or STOP, whatever is pending
-pub queue-has-room : (st : Store) (by to t s value : ℕ) → isUnmaskable s ≡ true → refusalOf st (sigqueue by to t s value) ≡ EAGAIN → ⊥
+pub queue-has-room : (st : Store) (by to t s value : ℕ) → isUnmaskable s ≡ true
+    → refusalOf st (sigqueue by to t s value) ≡ EAGAIN → ⊥
 unfolding refusalOf table rows fault
 queue-has-room st by to t s value u e =
     clash

@@ -9,12 +9,15 @@ use Rattle.limits.specs.Limits.{sigSetmask}
 use Rattle.lists.specs.Lists.{all, any}
 use Rattle.lists.proofs.Bools.{clash, and-fst, and-snd, and-both, or-fst-false, or-snd-false}
 use Rattle.types.specs.declared.NewProcess.{NewProcess}
-use Rattle.rules.specs.Types.{Call, clear, addProcess, addThread, endProcess, endThread, kill, sigqueue, sigaction, sigmask, sigpending, look, who, take, sigreturn, Kind, clearing, adding, queueing, taking, other, kindOf}
+use Rattle.rules.specs.Types.{Call, clear, addProcess, addThread, endProcess, endThread, kill, sigqueue}
+use Rattle.rules.specs.Types.{sigaction, sigmask, sigpending, look, who, take, sigreturn, Kind, clearing, adding}
+use Rattle.rules.specs.Types.{queueing, taking, other, kindOf}
 use Rattle.rules.specs.View.{liveProcess, liveThread}
 use Rattle.rules.specs.Store.{Store, isFreeProcess, isFreeThread, view, applyAll}
 use Rattle.rules.specs.Sound.{goodId, goodUser, sound}
 use Rattle.rules.specs.Adding.{addProcessChanges, addThreadChanges}
-use Rattle.rules.specs.Refusals.{badId, noProcessLive, noThreadLive, noProcessPlace, noThreadPlace, rows, table, clears, isClear, refusalOf}
+use Rattle.rules.specs.Refusals.{badId, noProcessLive, noThreadLive, noProcessPlace, noThreadPlace, rows, table}
+use Rattle.rules.specs.Refusals.{clears, isClear, refusalOf}
 use Rattle.rules.specs.Calls.{changes, step, run}
 use Rattle.rules.specs.Machine.{isU32, machine}
 use Rattle.rules.specs.Fitting.{fits, fitsAll}
@@ -86,22 +89,26 @@ call-fits (kill by to t s) st k e =
     send-fits st (accepted-sound st (kill by to t s) refl e) false by to t s 0 (o .0) (or-snd-false (noProcessLive (view st) by) _ (o .1 .0)) (λ h. clash h refl)
 call-fits (sigqueue by to t s value) st k e =
     let o = accepted-off st (sigqueue by to t s value) e .1 in
-    send-fits st (accepted-sound st (sigqueue by to t s value) refl e) true by to t s value (o .0) (or-snd-false (noProcessLive (view st) by) _ (o .1 .0)) (λ _. o .1 .1 .1 .0)
+    send-fits st (accepted-sound st (sigqueue by to t s value) refl e) true by to t s value (o .0)
+    (or-snd-false (noProcessLive (view st) by) _ (o .1 .0)) (λ _. o .1 .1 .1 .0)
 call-fits (sigaction p s new) st k e =
     let o = accepted-off st (sigaction p s new) e .1 in
     action-fits st (accepted-sound st (sigaction p s new) refl e) p s new (o .0) (process-lives st p (o .1 .0))
-call-fits (sigmask t way set) st k e = mask-fits st t way set (thread-lives st t (accepted-off st (sigmask t way set) e .1 .1 .0))
+call-fits (sigmask t way set) st k e =
+    mask-fits st t way set (thread-lives st t (accepted-off st (sigmask t way set) e .1 .1 .0))
 call-fits (sigpending t) st k e = refl
 call-fits (look t) st k e = refl
 call-fits (who p) st k e = refl
 call-fits (take t) st k e = take-fits st (accepted-sound st (take t) refl e) t (thread-lives st t (accepted-off st (take t) e .1 .0))
-call-fits (sigreturn t saved) st k e = mask-fits st t sigSetmask (some saved) (thread-lives st t (accepted-off st (sigreturn t saved) e .1 .0))
+call-fits (sigreturn t saved) st k e =
+    mask-fits st t sigSetmask (some saved) (thread-lives st t (accepted-off st (sigreturn t saved) e .1 .0))
 
 -- ---- what an accepted call leaves
 
 module _ (new : NewProcess) (st : Store) where
   -- the user ids and the session id are 32-bit numbers
-  add-process-sound : machine (addProcess new) ≡ true → refusalOf st (addProcess new) ≡ 0 → sound (applyAll (addProcessChanges new) st) ≡ true
+  add-process-sound : machine (addProcess new) ≡ true → refusalOf st (addProcess new) ≡ 0
+      → sound (applyAll (addProcessChanges new) st) ≡ true
   unfolding machine isU32 goodUser isClear table rows
   add-process-sound u e =
       let o = accepted-off st (addProcess new) e .1 in

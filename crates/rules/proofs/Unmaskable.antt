@@ -25,14 +25,17 @@ use Rattle.types.specs.declared.Reply.{Reply}
 use Rattle.types.specs.declared.Reply.the-variants as reply
 use Rattle.types.specs.declared.Answer.{Answer}
 use Rattle.types.specs.declared.Answer.the-variants.{Refused, Accepted}
-use Rattle.rules.specs.Types.{Process, Thread, Queue, noProcess, noThread, Call, clear, addProcess, addThread, endProcess, endThread, kill, sigqueue, sigaction, sigmask, sigpending, look, who, take, sigreturn, Next, noNext, nextMark, nextRecord}
+use Rattle.rules.specs.Types.{Process, Thread, Queue, noProcess, noThread, Call, clear, addProcess, addThread}
+use Rattle.rules.specs.Types.{endProcess, endThread, kill, sigqueue, sigaction, sigmask, sigpending, look, who}
+use Rattle.rules.specs.Types.{take, sigreturn, Next, noNext, nextMark, nextRecord}
 use Rattle.rules.specs.Signals.{Outcome, ignores, stops, continues, ends, outcome, ignored, stopSignal}
 use Rattle.rules.specs.View.{View, Change, forget, newProcess, newThread, removeProcess, removeThread, setStopped, setAction, setMask, setMark, clearMark, append, dropOldest, discard, isProcess, isThread, sameQueue, processQueue, threadQueue, actionOf, theProcess, theThread, threadAction, pendingFor}
 use Rattle.rules.specs.Store.{Place, Store, held, freeProcess, freeThread, cleared, view, apply, applyAll, onMarks}
 use Rattle.rules.specs.Sound.{unmasked, actionUnmasked, processUnmasked, threadUnmasked, nothingUnmaskable}
 use Rattle.rules.specs.Sending.{Generation, testing, killing, stopping, dropping, absorbing, marking, keeping, generation, infoOf, jobControl, sendChanges}
 use Rattle.rules.specs.Actions.{stored, storeChanges, actionChanges, newMask, maskChanges, blockedPending}
-use Rattle.rules.specs.Taking.{whoAnswer, taker, handlerMask, resets, reset, resetChanges, outcomeChanges, outcomeAnswer, deliver, delivered, takeChanges, takeAnswer, next}
+use Rattle.rules.specs.Taking.{whoAnswer, taker, handlerMask, resets, reset, resetChanges, outcomeChanges}
+use Rattle.rules.specs.Taking.{outcomeAnswer, deliver, delivered, takeChanges, takeAnswer, next}
 use Rattle.rules.specs.Adding.{addedProcess, addProcessChanges, addThreadChanges, otherThread, endThreadChanges}
 use Rattle.rules.specs.Refusals.{refusalOf, isClear}
 use Rattle.rules.specs.Calls.{send, changes, reply, stages, runStages, finish, step, isRefused}
@@ -296,7 +299,8 @@ module _ (v : View) (h : CleanView v) where
   unfolding changes send infoOf addProcessChanges addedProcess addThreadChanges endThreadChanges all
   changes-clean clear = refl
   changes-clean (addProcess new) =
-      and-both (all-replicate actionUnmasked defaultAction default-clean signals) (and-both (unmasked-maskable (new .mask)) refl)
+      and-both (all-replicate actionUnmasked defaultAction default-clean signals)
+      (and-both (unmasked-maskable (new .mask)) refl)
   changes-clean (addThread creator id) = and-both (clean-mask v h creator) refl
   changes-clean (endProcess id) = refl
   changes-clean (endThread id) = one-clean (any (otherThread v (theThread v id)) (v .threads)) (removeThread (theThread v id .id)) (removeProcess (theThread v id .process)) refl refl
@@ -375,7 +379,8 @@ outcome-answer ends s = refl
 module _ (t : Thread) (e : unmasked (t .mask) ≡ true) where
   delivered-answer : (a : Action) (r : Siginfo) → cleanTaken (delivered t a r) ≡ true
   unfolding delivered cleanTaken
-  delivered-answer a r = split (eqb (a .handler) sigDfl) (λ k. rw k (outcome-answer (outcome (r .signal)) (r .signal))) (λ k. rw k e)
+  delivered-answer a r =
+      split (eqb (a .handler) sigDfl) (λ k. rw k (outcome-answer (outcome (r .signal)) (r .signal))) (λ k. rw k e)
 
   take-answer : (v : View) (n : Next) → cleanTaken (takeAnswer v t n) ≡ true
   unfolding takeAnswer cleanTaken
@@ -407,5 +412,7 @@ unfolding step
 answers-clean c st = go (refusalOf st c) refl
   where
     go : (n : ℕ) → refusalOf st c ≡ n → cleanAnswer (finish n c st .1) ≡ true
-    go zero e = unfold finish cleanAnswer in reply-clean (view st) c (λ k. clean-view st (clauses st (accepted-sound st c k e) .unmaskedSets))
+    go zero e =
+        unfold finish cleanAnswer in reply-clean (view st) c
+        (λ k. clean-view st (clauses st (accepted-sound st c k e) .unmaskedSets))
     go (suc n) e = unfold finish cleanAnswer in refl

@@ -13,7 +13,8 @@ use Rattle.types.specs.declared.Reply.{Reply}
 use Rattle.types.specs.declared.Reply.the-variants as reply
 use Rattle.types.specs.declared.Answer.{Answer}
 use Rattle.types.specs.declared.Answer.the-variants.{Refused, Accepted}
-use Rattle.rules.specs.Types.{Thread, Queue, Call, Kind, clearing, adding, queueing, taking, other, kindOf, Next, noNext}
+use Rattle.rules.specs.Types.{Thread, Queue, Call, Kind, clearing, adding, queueing, taking, other, kindOf, Next}
+use Rattle.rules.specs.Types.{noNext}
 use Rattle.rules.specs.View.{View, theProcess, theThread, pendingIn, pendingFor}
 use Rattle.rules.specs.Taking.{next}
 

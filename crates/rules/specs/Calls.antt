@@ -10,7 +10,9 @@ use Rattle.types.specs.declared.Reply.{Reply}
 use Rattle.types.specs.declared.Reply.the-variants.{Done, Sent, OldAction, OldMask, PendingSet, Looked, Taken}
 use Rattle.types.specs.declared.Answer.{Answer}
 use Rattle.types.specs.declared.Answer.the-variants.{Refused, Accepted}
-use Rattle.rules.specs.Types.{Queue, Call, clear, addProcess, addThread, endProcess, endThread, kill, sigqueue, sigaction, sigmask, sigpending, look, who, take, sigreturn, Next, noNext, nextMark, nextRecord, told}
+use Rattle.rules.specs.Types.{Queue, Call, clear, addProcess, addThread, endProcess, endThread, kill, sigqueue}
+use Rattle.rules.specs.Types.{sigaction, sigmask, sigpending, look, who, take, sigreturn, Next, noNext, nextMark}
+use Rattle.rules.specs.Types.{nextRecord, told}
 use Rattle.rules.specs.View.{View, targetQueue, Change, Stage, forget, removeProcess, inQueue, actionOf, theProcess, theThread}
 use Rattle.rules.specs.Store.{Store, view, recordsFor, applyAll}
 use Rattle.rules.specs.Sending.{generation, infoOf, sendChanges, sendAnswer}

@@ -6,7 +6,8 @@ use lib.Dec.{leb, ltb}
 use Rattle.limits.specs.Limits.{largestUser}
 use Rattle.sigset.specs.declared.SigSet.{SigSet}
 use Rattle.types.specs.declared.Action.{Action}
-use Rattle.rules.specs.Types.{Call, clear, addProcess, addThread, endProcess, endThread, kill, sigqueue, sigaction, sigmask, sigpending, look, who, take, sigreturn}
+use Rattle.rules.specs.Types.{Call, clear, addProcess, addThread, endProcess, endThread, kill, sigqueue}
+use Rattle.rules.specs.Types.{sigaction, sigmask, sigpending, look, who, take, sigreturn}
 
 unfoldable pub isU32 : ℕ → Bool
 isU32 n = leb n largestUser

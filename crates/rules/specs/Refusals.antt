@@ -9,7 +9,9 @@ use Rattle.lists.specs.Lists.{any, isSome}
 use Rattle.sigset.specs.declared.SigSet.{SigSet}
 use Rattle.sigset.specs.Set.{isUnmaskable}
 use Rattle.types.specs.declared.Action.{Action}
-use Rattle.rules.specs.Types.{Call, clear, addProcess, addThread, endProcess, endThread, kill, sigqueue, sigaction, sigmask, sigpending, look, who, take, sigreturn, Kind, clearing, adding, queueing, taking, other, kindOf}
+use Rattle.rules.specs.Types.{Call, clear, addProcess, addThread, endProcess, endThread, kill, sigqueue}
+use Rattle.rules.specs.Types.{sigaction, sigmask, sigpending, look, who, take, sigreturn, Kind, clearing, adding}
+use Rattle.rules.specs.Types.{queueing, taking, other, kindOf}
 use Rattle.rules.specs.View.{View, targetQueue, liveProcess, liveThread, theProcess, theThread}
 use Rattle.rules.specs.Store.{Store, view, isFreeProcess, isFreeThread}
 use Rattle.rules.specs.Sound.{goodId, lengthsRight, sound}
@@ -107,7 +109,9 @@ module _ (v : View) where
   rows (endProcess id) = esrch (noProcessLive id) ∷ []
   rows (endThread id) = esrch (noThreadLive id) ∷ []
   rows (kill by to t s) = einval (overLast s) ∷ esrch (noProcessLive by || badTarget to t) ∷ eperm (mayNot by to s) ∷ []
-  rows (sigqueue by to t s value) = einval (overLast s) ∷ esrch (noProcessLive by || badTarget to t) ∷ eperm (mayNot by to s) ∷ eagain (noRoom to t s) ∷ []
+  rows (sigqueue by to t s value) =
+      einval (overLast s) ∷ esrch (noProcessLive by || badTarget to t) ∷ eperm (mayNot by to s)
+      ∷ eagain (noRoom to t s) ∷ []
   rows (sigaction p s new) = einval (badAction s new) ∷ esrch (noProcessLive p) ∷ []
   rows (sigmask t way set) = einval (badWay way set) ∷ esrch (noThreadLive t) ∷ []
   rows (sigpending t) = esrch (noThreadLive t) ∷ []

@@ -171,7 +171,8 @@ abbrev withFields : NewProcess → Place Process
 withFields new =
     withField processSession (new .session)
     (withField processSaved (new .saved)
-    (withField processEffective (new .effective) (withField processReal (new .real) (withField processId (new .id) freeProcess))))
+    (withField processEffective (new .effective)
+    (withField processReal (new .real) (withField processId (new .id) freeProcess))))
 
 added-fields : (new : NewProcess) → withFields new ≡ placed (addedProcess new)
 unfolding withField headed headTo addedProcess
@@ -192,7 +193,8 @@ abbrev putThreadField : List (Place Thread) → (place field v : ℕ) → List (
 putThreadField xs place field v = set xs place (withThreadField field v (getD xs place freeThread))
 
 pub process-filled : (xs x₀ x₁ x₂ x₃ x₄ x₅ : List (Place Process)) (place : ℕ) (new : NewProcess) → place < length xs
-    → x₀ ≡ set xs place freeProcess → x₁ ≡ putField x₀ place processId (new .id) → x₂ ≡ putField x₁ place processReal (new .real)
+    → x₀ ≡ set xs place freeProcess → x₁ ≡ putField x₀ place processId (new .id) → x₂
+    ≡ putField x₁ place processReal (new .real)
     → x₃ ≡ putField x₂ place processEffective (new .effective) → x₄ ≡ putField x₃ place processSaved (new .saved)
     → x₅ ≡ putField x₄ place processSession (new .session) → x₅ ≡ set xs place (placed (addedProcess new))
 process-filled xs x₀ x₁ x₂ x₃ x₄ x₅ place new h e₀ e₁ e₂ e₃ e₄ e₅ =

@@ -11,7 +11,8 @@ unfolding askingOf
 returns c =
     let k = c .before .before in
     let a = k .before .before .before .before .before .before in
-    answer-case askingOf (a .args .c) _ (k .c .given .1) (lent (a .args .ps .now) (a .args .ts .now) (a .args .tb .now) (a .args .pb .now)) (c .sigpending .result)
+    answer-case askingOf (a .args .c) _ (k .c .given .1)
+    (lent (a .args .ps .now) (a .args .ts .now) (a .args .tb .now) (a .args .pb .now)) (c .sigpending .result)
     (c .sigpending .ensures)
 
 returns-2 : tie.Need-returns-2
@@ -19,7 +20,8 @@ unfolding askingOf
 returns-2 c =
     let k = c .before .before in
     let a = k .before .before .before .before .before .before in
-    answer-case askingOf (a .args .c) _ (k .c2 .given .1) (lent (a .args .ps .now) (a .args .ts .now) (a .args .tb .now) (a .args .pb .now)) (c .look .result)
+    answer-case askingOf (a .args .c) _ (k .c2 .given .1)
+    (lent (a .args .ps .now) (a .args .ts .now) (a .args .tb .now) (a .args .pb .now)) (c .look .result)
     (c .look .ensures)
 
 returns-3 : tie.Need-returns-3
@@ -27,7 +29,8 @@ unfolding askingOf
 returns-3 c =
     let k = c .before .before in
     let a = k .before .before .before .before .before .before in
-    answer-case askingOf (a .args .c) _ (k .c3 .given .1) (lent (a .args .ps .now) (a .args .ts .now) (a .args .tb .now) (a .args .pb .now)) (c .who .result)
+    answer-case askingOf (a .args .c) _ (k .c3 .given .1)
+    (lent (a .args .ps .now) (a .args .ts .now) (a .args .tb .now) (a .args .pb .now)) (c .who .result)
     (c .who .ensures)
 
 pub ask-spec : {M : Type 1} → statement M

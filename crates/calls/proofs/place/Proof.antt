@@ -9,37 +9,45 @@ use Rattle.calls.proofs.place.Tie as tie
 returns : tie.Need-returns
 unfolding placingOf
 returns c =
-    let k = c .before .before .before .before .before .before .before .before .before .before .before .before .before .before in
+    let w = c .before .before .before .before .before .before .before .before in
+    let k = w .before .before .before .before .before .before in
     let a = k .before .before .before .before .before .before in
-    let r = c .before .before .before .before .before .before .before .before .add-process in
-    by-case placingOf (a .args .c) _ (k .c .given .1) (lent (a .args .ps .now) (a .args .ts .now) (a .args .tb .now) (a .args .pb .now)) (r .result)
+    let r = w .add-process in
+    by-case placingOf (a .args .c) _ (k .c .given .1)
+    (lent (a .args .ps .now) (a .args .ts .now) (a .args .tb .now) (a .args .pb .now)) (r .result)
     (lent (r .last .0) (r .last .1 .0) (r .last .1 .1 .0) (r .last .1 .1 .1 .0)) (r .ensures .0) (r .ensures .1)
 
 returns-2 : tie.Need-returns-2
 unfolding placingOf
 returns-2 c =
-    let k = c .before .before .before .before .before .before .before .before .before .before .before .before .before .before in
+    let w = c .before .before .before .before .before .before .before .before in
+    let k = w .before .before .before .before .before .before in
     let a = k .before .before .before .before .before .before in
-    let r = c .before .before .before .before .before .before .before .before .add-thread in
-    by-case placingOf (a .args .c) _ (k .c2 .given .1) (lent (a .args .ps .now) (a .args .ts .now) (a .args .tb .now) (a .args .pb .now)) (r .result)
+    let r = w .add-thread in
+    by-case placingOf (a .args .c) _ (k .c2 .given .1)
+    (lent (a .args .ps .now) (a .args .ts .now) (a .args .tb .now) (a .args .pb .now)) (r .result)
     (lent (r .last .0) (r .last .1 .0) (r .last .1 .1 .0) (r .last .1 .1 .1 .0)) (r .ensures .0) (r .ensures .1)
 
 returns-3 : tie.Need-returns-3
 unfolding placingOf
 returns-3 c =
-    let k = c .before .before .before .before .before .before .before .before .before .before .before .before .before .before in
+    let w = c .before .before .before .before .before .before .before .before in
+    let k = w .before .before .before .before .before .before in
     let a = k .before .before .before .before .before .before in
-    let r = c .before .before .before .before .before .before .before .before .end-process in
-    by-case placingOf (a .args .c) _ (k .c3 .given .1) (lent (a .args .ps .now) (a .args .ts .now) (a .args .tb .now) (a .args .pb .now)) (r .result)
+    let r = w .end-process in
+    by-case placingOf (a .args .c) _ (k .c3 .given .1)
+    (lent (a .args .ps .now) (a .args .ts .now) (a .args .tb .now) (a .args .pb .now)) (r .result)
     (lent (r .last .0) (r .last .1 .0) (r .last .1 .1 .0) (r .last .1 .1 .1 .0)) (r .ensures .0) (r .ensures .1)
 
 returns-4 : tie.Need-returns-4
 unfolding placingOf
 returns-4 c =
-    let k = c .before .before .before .before .before .before .before .before .before .before .before .before .before .before in
+    let w = c .before .before .before .before .before .before .before .before in
+    let k = w .before .before .before .before .before .before in
     let a = k .before .before .before .before .before .before in
-    let r = c .before .before .before .before .before .before .before .before .end-thread in
-    by-case placingOf (a .args .c) _ (k .c4 .given .1) (lent (a .args .ps .now) (a .args .ts .now) (a .args .tb .now) (a .args .pb .now)) (r .result)
+    let r = w .end-thread in
+    by-case placingOf (a .args .c) _ (k .c4 .given .1)
+    (lent (a .args .ps .now) (a .args .ts .now) (a .args .tb .now) (a .args .pb .now)) (r .result)
     (lent (r .last .0) (r .last .1 .0) (r .last .1 .1 .0) (r .last .1 .1 .1 .0)) (r .ensures .0) (r .ensures .1)
 
 pub place-spec : {M : Type 1} → statement M

@@ -9,19 +9,23 @@ use Rattle.calls.proofs.send.Tie as tie
 returns : tie.Need-returns
 unfolding sendingOf
 returns c =
-    let k = c .before .before .before .before .before .before .before .before .before .before .before .before .before .before in
+    let w = c .before .before .before .before .before .before .before .before in
+    let k = w .before .before .before .before .before .before in
     let a = k .before .before .before .before .before .before in
-    let r = c .before .before .before .before .before .before .before .before .kill in
-    by-case sendingOf (a .args .c) _ (k .c .given .1) (lent (a .args .ps .now) (a .args .ts .now) (a .args .tb .now) (a .args .pb .now)) (r .result)
+    let r = w .kill in
+    by-case sendingOf (a .args .c) _ (k .c .given .1)
+    (lent (a .args .ps .now) (a .args .ts .now) (a .args .tb .now) (a .args .pb .now)) (r .result)
     (lent (r .last .0) (r .last .1 .0) (r .last .1 .1 .0) (r .last .1 .1 .1 .0)) (r .ensures .0) (r .ensures .1)
 
 returns-2 : tie.Need-returns-2
 unfolding sendingOf
 returns-2 c =
-    let k = c .before .before .before .before .before .before .before .before .before .before .before .before .before .before in
+    let w = c .before .before .before .before .before .before .before .before in
+    let k = w .before .before .before .before .before .before in
     let a = k .before .before .before .before .before .before in
-    let r = c .before .before .before .before .before .before .before .before .sigqueue in
-    by-case sendingOf (a .args .c) _ (k .c2 .given .1) (lent (a .args .ps .now) (a .args .ts .now) (a .args .tb .now) (a .args .pb .now)) (r .result)
+    let r = w .sigqueue in
+    by-case sendingOf (a .args .c) _ (k .c2 .given .1)
+    (lent (a .args .ps .now) (a .args .ts .now) (a .args .tb .now) (a .args .pb .now)) (r .result)
     (lent (r .last .0) (r .last .1 .0) (r .last .1 .1 .0) (r .last .1 .1 .1 .0)) (r .ensures .0) (r .ensures .1)
 
 pub send-spec : {M : Type 1} → statement M

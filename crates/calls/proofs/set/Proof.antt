@@ -9,28 +9,34 @@ use Rattle.calls.proofs.set.Tie as tie
 returns : tie.Need-returns
 unfolding settingOf
 returns c =
-    let k = c .before .before .before .before .before .before .before .before .before .before .before .before .before .before in
+    let w = c .before .before .before .before .before .before .before .before in
+    let k = w .before .before .before .before .before .before in
     let a = k .before .before .before .before .before .before in
-    let r = c .before .before .before .before .before .before .before .before .sigaction in
-    by-case settingOf (a .args .c) _ (k .c .given .1) (lent (a .args .ps .now) (a .args .ts .now) (a .args .tb .now) (a .args .pb .now)) (r .result)
+    let r = w .sigaction in
+    by-case settingOf (a .args .c) _ (k .c .given .1)
+    (lent (a .args .ps .now) (a .args .ts .now) (a .args .tb .now) (a .args .pb .now)) (r .result)
     (lent (r .last .0) (r .last .1 .0) (r .last .1 .1 .0) (r .last .1 .1 .1 .0)) (r .ensures .0) (r .ensures .1)
 
 returns-2 : tie.Need-returns-2
 unfolding settingOf
 returns-2 c =
-    let k = c .before .before .before .before .before .before .before .before .before .before .before .before .before .before in
+    let w = c .before .before .before .before .before .before .before .before in
+    let k = w .before .before .before .before .before .before in
     let a = k .before .before .before .before .before .before in
-    let r = c .before .before .before .before .before .before .before .before .sigmask in
-    by-case settingOf (a .args .c) _ (k .c2 .given .1) (lent (a .args .ps .now) (a .args .ts .now) (a .args .tb .now) (a .args .pb .now)) (r .result)
+    let r = w .sigmask in
+    by-case settingOf (a .args .c) _ (k .c2 .given .1)
+    (lent (a .args .ps .now) (a .args .ts .now) (a .args .tb .now) (a .args .pb .now)) (r .result)
     (lent (r .last .0) (r .last .1 .0) (r .last .1 .1 .0) (r .last .1 .1 .1 .0)) (r .ensures .0) (r .ensures .1)
 
 returns-3 : tie.Need-returns-3
 unfolding settingOf
 returns-3 c =
-    let k = c .before .before .before .before .before .before .before .before .before .before .before .before .before .before in
+    let w = c .before .before .before .before .before .before .before .before in
+    let k = w .before .before .before .before .before .before in
     let a = k .before .before .before .before .before .before in
-    let r = c .before .before .before .before .before .before .before .before .sigreturn in
-    by-case settingOf (a .args .c) _ (k .c3 .given .1) (lent (a .args .ps .now) (a .args .ts .now) (a .args .tb .now) (a .args .pb .now)) (r .result)
+    let r = w .sigreturn in
+    by-case settingOf (a .args .c) _ (k .c3 .given .1)
+    (lent (a .args .ps .now) (a .args .ts .now) (a .args .tb .now) (a .args .pb .now)) (r .result)
     (lent (r .last .0) (r .last .1 .0) (r .last .1 .1 .0) (r .last .1 .1 .1 .0)) (r .ensures .0) (r .ensures .1)
 
 pub set-spec : {M : Type 1} → statement M

@@ -11,37 +11,45 @@ use Rattle.calls.proofs.step.Tie as tie
 returns : tie.Need-returns
 unfolding callOf
 returns c =
-    let k = c .before .before .before .before .before .before .before .before .before .before .before .before .before in
+    let w = c .before .before .before .before .before .before .before .before in
+    let k = w .before .before .before .before .before in
     let a = k .before .before .before .before .before .before in
-    let r = c .before .before .before .before .before .before .before .before .clear in
-    by-case callOf (a .args .c) _ (k .enum-told .given .1) (lent (a .args .ps .now) (a .args .ts .now) (a .args .tb .now) (a .args .pb .now)) (r .result)
+    let r = w .clear in
+    by-case callOf (a .args .c) _ (k .enum-told .given .1)
+    (lent (a .args .ps .now) (a .args .ts .now) (a .args .tb .now) (a .args .pb .now)) (r .result)
     (lent (r .last .0) (r .last .1 .0) (r .last .1 .1 .0) (r .last .1 .1 .1 .0)) (r .ensures .0) (r .ensures .1)
 
 returns-2 : tie.Need-returns-2
 unfolding callOf
 returns-2 c =
-    let k = c .before .before .before .before .before .before .before .before .before .before .before .before .before .before in
+    let w = c .before .before .before .before .before .before .before .before in
+    let k = w .before .before .before .before .before .before in
     let a = k .before .before .before .before .before .before in
-    let r = c .before .before .before .before .before .before .before .before .place in
-    by-case callOf (a .args .c) _ (k .c .given .1) (lent (a .args .ps .now) (a .args .ts .now) (a .args .tb .now) (a .args .pb .now)) (r .result)
+    let r = w .place in
+    by-case callOf (a .args .c) _ (k .c .given .1)
+    (lent (a .args .ps .now) (a .args .ts .now) (a .args .tb .now) (a .args .pb .now)) (r .result)
     (lent (r .last .0) (r .last .1 .0) (r .last .1 .1 .0) (r .last .1 .1 .1 .0)) (r .ensures .0) (r .ensures .1)
 
 returns-3 : tie.Need-returns-3
 unfolding callOf
 returns-3 c =
-    let k = c .before .before .before .before .before .before .before .before .before .before .before .before .before .before in
+    let w = c .before .before .before .before .before .before .before .before in
+    let k = w .before .before .before .before .before .before in
     let a = k .before .before .before .before .before .before in
-    let r = c .before .before .before .before .before .before .before .before .send in
-    by-case callOf (a .args .c) _ (k .c2 .given .1) (lent (a .args .ps .now) (a .args .ts .now) (a .args .tb .now) (a .args .pb .now)) (r .result)
+    let r = w .send in
+    by-case callOf (a .args .c) _ (k .c2 .given .1)
+    (lent (a .args .ps .now) (a .args .ts .now) (a .args .tb .now) (a .args .pb .now)) (r .result)
     (lent (r .last .0) (r .last .1 .0) (r .last .1 .1 .0) (r .last .1 .1 .1 .0)) (r .ensures .0) (r .ensures .1)
 
 returns-4 : tie.Need-returns-4
 unfolding callOf
 returns-4 c =
-    let k = c .before .before .before .before .before .before .before .before .before .before .before .before .before .before in
+    let w = c .before .before .before .before .before .before .before .before in
+    let k = w .before .before .before .before .before .before in
     let a = k .before .before .before .before .before .before in
-    let r = c .before .before .before .before .before .before .before .before .set in
-    by-case callOf (a .args .c) _ (k .c3 .given .1) (lent (a .args .ps .now) (a .args .ts .now) (a .args .tb .now) (a .args .pb .now)) (r .result)
+    let r = w .set in
+    by-case callOf (a .args .c) _ (k .c3 .given .1)
+    (lent (a .args .ps .now) (a .args .ts .now) (a .args .tb .now) (a .args .pb .now)) (r .result)
     (lent (r .last .0) (r .last .1 .0) (r .last .1 .1 .0) (r .last .1 .1 .1 .0)) (r .ensures .0) (r .ensures .1)
 
 returns-5 : tie.Need-returns-5
@@ -52,15 +60,18 @@ returns-5 c =
     let l = lent (a .args .ps .now) (a .args .ts .now) (a .args .tb .now) (a .args .pb .now) in
     let tb = bytes-each (a .args .tb .now) (λ i. omega (arith, k .before .before .before .slice-known3 .given i)) in
     let pb = bytes-each (a .args .pb .now) (λ i. omega (arith, k .before .before .slice-known4 .given i)) in
-    by-case callOf (a .args .c) _ (k .c4 .given .1) l (c .ask .result) l (c .ask .ensures) (asked _ l tb pb (nothing-changed _ _))
+    by-case callOf (a .args .c) _ (k .c4 .given .1) l (c .ask .result) l (c .ask .ensures)
+    (asked _ l tb pb (nothing-changed _ _))
 
 returns-6 : tie.Need-returns-6
 unfolding callOf
 returns-6 c =
-    let k = c .before .before .before .before .before .before .before .before .before .before .before .before .before .before in
+    let w = c .before .before .before .before .before .before .before .before in
+    let k = w .before .before .before .before .before .before in
     let a = k .before .before .before .before .before .before in
-    let r = c .before .before .before .before .before .before .before .before .take in
-    by-case callOf (a .args .c) _ (k .c5 .given .1) (lent (a .args .ps .now) (a .args .ts .now) (a .args .tb .now) (a .args .pb .now)) (r .result)
+    let r = w .take in
+    by-case callOf (a .args .c) _ (k .c5 .given .1)
+    (lent (a .args .ps .now) (a .args .ts .now) (a .args .tb .now) (a .args .pb .now)) (r .result)
     (lent (r .last .0) (r .last .1 .0) (r .last .1 .1 .0) (r .last .1 .1 .1 .0)) (r .ensures .0) (r .ensures .1)
 
 pub step-spec : {M : Type 1} → statement M
