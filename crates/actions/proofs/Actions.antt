@@ -13,7 +13,7 @@ use Rattle.siginfo.specs.Bytes.{Bytes}
 use Rattle.types.specs.declared.Action.{Action}
 use Rattle.types.specs.declared.Reply.the-variants.{OldAction}
 use Rattle.types.specs.declared.Answer.the-variants as answers
-use Rattle.rules.specs.Types.{action}
+use Rattle.rules.specs.Types.{sigaction}
 use Rattle.rules.specs.View.{liveProcess, actionOf}
 use Rattle.rules.specs.Refusals.{overLast, badAction, noProcessLive, rows, isClear, einval, esrch}
 use Rattle.rules.specs.Actions.{stored, storeChanges, actionChanges}
@@ -40,23 +40,23 @@ asked-signal s new b =
 module _ (l : Lent) (p s : ℕ) (new : Option Action) where
   -- ---- the refusal, as code tries the rows
 
-  pub action-fault : soundTables l ≡ false → EFAULT ≡ refusalOn (action p s new) l
+  pub action-fault : soundTables l ≡ false → EFAULT ≡ refusalOn (sigaction p s new) l
   unfolding isClear
-  action-fault = refuses-fault (action p s new) l refl
+  action-fault = refuses-fault (sigaction p s new) l refl
 
   module _ (e : soundTables l ≡ true) where
-    pub action-bad : badAction s new ≡ true → EINVAL ≡ refusalOn (action p s new) l
+    pub action-bad : badAction s new ≡ true → EINVAL ≡ refusalOn (sigaction p s new) l
     unfolding rows isClear
-    action-bad b = refuses-at (action p s new) l refl e [] (einval (badAction s new)) _ refl tt b
+    action-bad b = refuses-at (sigaction p s new) l refl e [] (einval (badAction s new)) _ refl tt b
 
     module _ (b : badAction s new ≡ false) where
-      pub action-gone : noProcessLive (viewOf l) p ≡ true → ESRCH ≡ refusalOn (action p s new) l
+      pub action-gone : noProcessLive (viewOf l) p ≡ true → ESRCH ≡ refusalOn (sigaction p s new) l
       unfolding rows isClear
-      action-gone g = refuses-at (action p s new) l refl e (einval (badAction s new) ∷ []) (esrch (noProcessLive (viewOf l) p)) [] refl (b, tt) g
+      action-gone g = refuses-at (sigaction p s new) l refl e (einval (badAction s new) ∷ []) (esrch (noProcessLive (viewOf l) p)) [] refl (b, tt) g
 
-      pub action-none : noProcessLive (viewOf l) p ≡ false → 0 ≡ refusalOn (action p s new) l
+      pub action-none : noProcessLive (viewOf l) p ≡ false → 0 ≡ refusalOn (sigaction p s new) l
       unfolding rows isClear
-      action-none g = refuses-none (action p s new) l refl e (b, (g, tt))
+      action-none g = refuses-none (sigaction p s new) l refl e (b, (g, tt))
 
   -- ---- accepted
 
@@ -65,28 +65,28 @@ module _ (l : Lent) (p s : ℕ) (new : Option Action) where
     pub fine : badAction s new ≡ false
     pub live : liveProcess (viewOf l) p ≡ true
 
-  module _ (e : refusalOn (action p s new) l ≡ 0) where
+  module _ (e : refusalOn (sigaction p s new) l ≡ 0) where
     pub action-accepted : Accepted
     unfolding rows isClear noProcessLive
     action-accepted =
-        let h = accepted-rows (action p s new) l e in
+        let h = accepted-rows (sigaction p s new) l e in
         record {
-          sound = accepted-tables-sound (action p s new) l refl e;
+          sound = accepted-tables-sound (sigaction p s new) l refl e;
           fine = h .0;
           live = not-false (liveProcess (viewOf l) p) (h .1 .0);
         }
 
     -- by the action that was read
     module _ (old : Action) (o : old ≡ actionOf (processNamed (l .processes) p) s) where
-      answered : OldAction old ≡ reply (viewOf l) (action p s new)
+      answered : OldAction old ≡ reply (viewOf l) (sigaction p s new)
       unfolding reply
       answered = ap OldAction (o ∙ ap (λ x. actionOf x s) (process-named l p))
 
       -- without a new action
       pub action-kept : new ≡ none → Bytes (l .threadBuffer) → Bytes (l .processBuffer)
-          → (l, answers.Accepted (OldAction old)) ≡ stepOn (action p s new) l
+          → (l, answers.Accepted (OldAction old)) ≡ stepOn (sigaction p s new) l
       unfolding changes actionChanges
-      action-kept n bt bp = same-ends (action p s new) l e (OldAction old) answered bt bp (ap (actionChanges p s) n)
+      action-kept n bt bp = same-ends (sigaction p s new) l e (OldAction old) answered bt bp (ap (actionChanges p s) n)
 
     -- with one, as the code makes it ready
     module _ (a g : Action) (n : new ≡ some a) (h : g ≡ stored a) where
@@ -104,7 +104,7 @@ module _ (l : Lent) (p s : ℕ) (new : Option Action) where
       pub action-stored : (old : Action) → old ≡ actionOf (processNamed (l .processes) p) s
           → (m : Lent) → AsLong l m → Bytes (m .threadBuffer) → Bytes (m .processBuffer)
           → Changed (storeChanges p s g) l m
-          → (m, answers.Accepted (OldAction old)) ≡ stepOn (action p s new) l
+          → (m, answers.Accepted (OldAction old)) ≡ stepOn (sigaction p s new) l
       unfolding changes
       action-stored old o m k bt bp d =
-          accepted-ends (action p s new) l e (OldAction old) (answered old o) m k bt bp (made-as d these .store)
+          accepted-ends (sigaction p s new) l e (OldAction old) (answered old o) m k bt bp (made-as d these .store)

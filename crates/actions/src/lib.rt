@@ -55,7 +55,7 @@ fn action_refusal(
     signal: u32,
     new: GivenAction,
 ) -> u32
-    ensures { λ r. ⌜ r ≡ refusalOn (call.action process signal (newAction new)) (before ps ts tb pb) ⌝ }
+    ensures { λ r. ⌜ r ≡ refusalOn (call.sigaction process signal (newAction new)) (before ps ts tb pb) ⌝ }
 {
     if !sound::sound(ps, ts, tb, pb) {
         return EFAULT;
@@ -79,7 +79,7 @@ pub fn sigaction(
     signal: u32,
     new: GivenAction,
 ) -> Answer
-    ensures { λ r. ⌜ stepped (call.action process signal (newAction new)) r ps ts tb pb ⌝ }
+    ensures { λ r. ⌜ stepped (call.sigaction process signal (newAction new)) r ps ts tb pb ⌝ }
 {
     let n = action_refusal(ps, ts, tb, pb, process, signal, new);
     if n != 0 {

@@ -10,13 +10,13 @@ use Rattle.lists.specs.Lists.{any, All}
 use Rattle.lists.proofs.Bools.{or-fst-false, or-snd-false}
 use Rattle.siginfo.specs.Bytes.{Bytes}
 use Rattle.sigset.specs.declared.SigSet.{SigSet}
-use Rattle.sigset.specs.Set.{empty, maskable}
-use Rattle.rules.specs.Types.{Call, addProcess, addThread}
+use Rattle.sigset.specs.Set.{maskable}
+use Rattle.rules.specs.Types.{addProcess, addThread}
 use Rattle.rules.specs.View.{isThread, liveThread, theThread}
 use Rattle.rules.specs.Store.{isFreeProcess, isFreeThread, fill, view, apply, applyAll}
 use Rattle.rules.specs.Sound.{goodId}
 use Rattle.rules.specs.Adding.{addedProcess, addProcessChanges, addThreadChanges}
-use Rattle.rules.specs.Refusals.{rows, isClear, fault, table, refusalOf, noThreadLive, noProcessPlace, noThreadPlace}
+use Rattle.rules.specs.Refusals.{rows, isClear, noThreadLive, noProcessPlace, noThreadPlace}
 use Rattle.rules.specs.Calls.{changes, reply}
 use Rattle.rules.proofs.RefusalTable.{Off}
 use Rattle.tables.specs.Tables.{processesOf, threadsOf, heldProcesses, heldThreads}
@@ -25,7 +25,9 @@ use Rattle.effects.proofs.Places.{with-all}
 use Rattle.sound.proofs.Facts.{right-processes, right-threads, threads-long}
 use Rattle.effects.specs.Effects.{threadOf}
 use Rattle.view.specs.Named.{threadNamed}
+use Rattle.types.specs.declared.NewProcess.{NewProcess}
 use Rattle.types.specs.declared.Reply.the-variants.{Done}
+use Rattle.types.specs.declared.Answer.{Answer}
 use Rattle.types.specs.declared.Answer.the-variants.{Refused, Accepted}
 use Rattle.answers.specs.Step.{refusalOn, stepOn}
 use Rattle.view.proofs.Live.{owner-known}
@@ -33,57 +35,55 @@ use Rattle.answers.proofs.Endings.{accepted-long, accepted-rows, accepted-table
 
 -- ---- a process
 
--- the user ids, the session id and the mask decide nothing
-undecided : (id real effective saved session thread : ℕ) (mask : SigSet) (l : Lent)
-    → refusalOn (addProcess id 0 0 0 0 thread empty) l ≡ refusalOn (addProcess id real effective saved session thread mask) l
-unfolding refusalOn refusalOf table fault isClear rows
-undecided id real effective saved session thread mask l = refl
-
-module _ (l : Lent) (id thread n : ℕ) (r : n ≡ refusalOn (addProcess id 0 0 0 0 thread empty) l) where
+module _ (l : Lent) (new : NewProcess) (n : ℕ) (r : n ≡ refusalOn (addProcess new) l) where
   module _ (z : n ≡ 0) where
     process-long : lengthsAre l ≡ true
-    process-long = accepted-long (addProcess id 0 0 0 0 thread empty) l (sym r ∙ z)
+    process-long = accepted-long (addProcess new) l (sym r ∙ z)
 
     places : (noProcessPlace (viewOf l) || noThreadPlace (viewOf l)) ≡ false
     unfolding rows
-    places = accepted-rows (addProcess id 0 0 0 0 thread empty) l (sym r ∙ z) .1 .1 .0
+    places = accepted-rows (addProcess new) l (sym r ∙ z) .1 .1 .0
 
     pub process-room : (length (l .processes) ≡ processTable) × (any isFreeProcess (heldProcesses (l .processes)) ≡ true)
     unfolding noProcessPlace view decoded
-    process-room =
-        (right-processes l process-long, not-false (any isFreeProcess (heldProcesses (l .processes))) (or-fst-false (not (any isFreeProcess (heldProcesses (l .processes)))) _ places))
+    process-room = (
+      right-processes l process-long,
+      not-false (any isFreeProcess (heldProcesses (l .processes)))
+          (or-fst-false (not (any isFreeProcess (heldProcesses (l .processes)))) _ places),
+    )
 
     pub first-thread-room : (length (l .threads) ≡ threadTable) × (any isFreeThread (heldThreads (l .threads)) ≡ true)
     unfolding noThreadPlace noProcessPlace view decoded
-    first-thread-room =
-        (right-threads l process-long, not-false (any isFreeThread (heldThreads (l .threads))) (or-snd-false (not (any isFreeProcess (heldProcesses (l .processes)))) _ places))
+    first-thread-room = (
+      right-threads l process-long,
+      not-false (any isFreeThread (heldThreads (l .threads)))
+          (or-snd-false (not (any isFreeProcess (heldProcesses (l .processes)))) _ places),
+    )
 
-  module _ (real effective saved session : ℕ) (mask : SigSet) where
-    abbrev call : Call
-    call = addProcess id real effective saved session thread mask
+  abbrev Ends : Answer → Lent → Type 0
+  Ends a m = (m, a) ≡ stepOn (addProcess new) l
 
-    number : n ≡ refusalOn call l
-    number = r ∙ undecided id real effective saved session thread mask l
+  pub process-refused : (n ≡ 0 → ⊥) → Ends (Refused n) l
+  process-refused = refused-ends (addProcess new) l n r
 
-    pub process-refused : (n ≡ 0 → ⊥) → (l, Refused n) ≡ stepOn call l
-    process-refused = refused-ends call l n number
+  module _ (ps′ ts′ : List ℕ) (given : SigSet) (g : given ≡ maskable (new .mask))
+      (p : processesOf ps′ ≡ fill isFreeProcess (addedProcess new) (processesOf (l .processes)))
+      (t : threadsOf ts′ ≡ fill isFreeThread (threadOf (new .thread) (new .id) given) (threadsOf (l .threads))) where
+    process-made : decoded (lent ps′ ts′ (l .threadBuffer) (l .processBuffer)) ≡ applyAll (changes (viewOf l) (addProcess new))
+        (decoded l)
+    unfolding decoded changes addProcessChanges applyAll apply
+    process-made =
+        let f : threadsOf ts′ ≡ fill isFreeThread (threadOf (new .thread) (new .id) (maskable (new .mask)))
+        (threadsOf (l .threads)) =
+        t ∙ ap (λ (m : SigSet). fill isFreeThread (threadOf (new .thread) (new .id) m) (threadsOf (l .threads))) g in
+        with-all (lent ps′ ts′ (l .threadBuffer) (l .processBuffer)) p f refl refl
 
-    module _ (ps′ ts′ : List ℕ) (given : SigSet) (g : given ≡ maskable mask)
-        (p : processesOf ps′ ≡ fill isFreeProcess (addedProcess id real effective saved session) (processesOf (l .processes)))
-        (t : threadsOf ts′ ≡ fill isFreeThread (threadOf thread id given) (threadsOf (l .threads))) where
-      process-made : decoded (lent ps′ ts′ (l .threadBuffer) (l .processBuffer)) ≡ applyAll (changes (viewOf l) call) (decoded l)
-      unfolding decoded changes addProcessChanges applyAll apply
-      process-made =
-          let f : threadsOf ts′ ≡ fill isFreeThread (threadOf thread id (maskable mask)) (threadsOf (l .threads)) =
-          t ∙ ap (λ (m : SigSet). fill isFreeThread (threadOf thread id m) (threadsOf (l .threads))) g in
-          with-all (lent ps′ ts′ (l .threadBuffer) (l .processBuffer)) p f refl refl
-
-      pub process-added : n ≡ 0 → length ps′ ≡ length (l .processes) → length ts′ ≡ length (l .threads) → Bytes (l .threadBuffer) → Bytes (l .processBuffer)
-          → (lent ps′ ts′ (l .threadBuffer) (l .processBuffer), Accepted Done) ≡ stepOn call l
-      unfolding reply
-      process-added z lp lt bt bp =
-          accepted-ends call l (sym number ∙ z) Done refl (lent ps′ ts′ (l .threadBuffer) (l .processBuffer))
-          (record { processes = lp; threads = lt; threadBuffer = refl; processBuffer = refl }) bt bp process-made
+    pub process-added : n ≡ 0 → length ps′ ≡ length (l .processes) → length ts′ ≡ length (l .threads) → Bytes (l .threadBuffer) → Bytes (l .processBuffer)
+        → Ends (Accepted Done) (lent ps′ ts′ (l .threadBuffer) (l .processBuffer))
+    unfolding reply
+    process-added z lp lt bt bp =
+        accepted-ends (addProcess new) l (sym r ∙ z) Done refl (lent ps′ ts′ (l .threadBuffer) (l .processBuffer))
+        (record { processes = lp; threads = lt; threadBuffer = refl; processBuffer = refl }) bt bp process-made
 
 -- ---- a thread
 

@@ -6,7 +6,7 @@ use mathlib.Core.List.{[], _∷_}
 use borrow.Author.Tests.{not-true, not-false}
 use Rattle.limits.specs.Limits.{EFAULT, EINVAL, EEXIST, EAGAIN}
 use Rattle.lists.specs.Lists.{any}
-use Rattle.sigset.specs.Set.{empty}
+use Rattle.types.specs.declared.NewProcess.{NewProcess}
 use Rattle.rules.specs.Types.{Call, addProcess}
 use Rattle.rules.specs.View.{View, isProcess, isThread, liveProcess, liveThread}
 use Rattle.rules.specs.Store.{isFreeProcess, isFreeThread, view}
@@ -17,21 +17,21 @@ use Rattle.sound.specs.Lent.{Lent, decoded, viewOf, soundTables}
 use Rattle.answers.specs.Step.{refusalOn}
 use Rattle.answers.proofs.Rows.{refuses-fault, refuses-at, refuses-none}
 
-module _ (l : Lent) (id thread : ℕ) where
+module _ (l : Lent) (new : NewProcess) where
   abbrev v : View
   v = viewOf l
 
   abbrev bad : Row
-  bad = einval (badId id || badId thread)
+  bad = einval (badId (new .id) || badId (new .thread))
 
   abbrev there : Row
-  there = eexist (liveProcess v id || liveThread v thread)
+  there = eexist (liveProcess v (new .id) || liveThread v (new .thread))
 
   abbrev full : Row
   full = eagain (noProcessPlace v || noThreadPlace v)
 
   abbrev call : Call
-  call = addProcess id 0 0 0 0 thread empty
+  call = addProcess new
 
   abbrev answered : ℕ → Type 0
   answered n = n ≡ refusalOn call l
@@ -41,7 +41,7 @@ module _ (l : Lent) (id thread : ℕ) where
     unfolding isClear
     process-fault k = refuses-fault call l refl (sym e ∙ not-true s k)
 
-    module _ (k : not s ≡ false) (g h : Bool) (eg : g ≡ goodId id) (eh : h ≡ goodId thread) where
+    module _ (k : not s ≡ false) (g h : Bool) (eg : g ≡ goodId (new .id)) (eh : h ≡ goodId (new .thread)) where
       sound-so : soundTables l ≡ true
       sound-so = sym e ∙ not-false s k
 
@@ -53,7 +53,8 @@ module _ (l : Lent) (id thread : ℕ) where
       unfolding rows isClear
       process-bad q = refuses-at call l refl sound-so [] bad (there ∷ full ∷ []) refl tt (bad-is true q)
 
-      module _ (q : (not g || not h) ≡ false) (p t : Bool) (ep : p ≡ any (isProcess id) (heldProcesses (l .processes))) (et : t ≡ any (isThread thread) (heldThreads (l .threads))) where
+      module _ (q : (not g || not h) ≡ false) (p t : Bool) (ep : p ≡ any (isProcess (new .id)) (heldProcesses (l .processes)))
+          (et : t ≡ any (isThread (new .thread)) (heldThreads (l .threads))) where
         there-is : (b : Bool) → (p || t) ≡ b → there .applies ≡ b
         unfolding liveProcess liveThread view decoded
         there-is b w = ap₂ (λ (x y : Bool). x || y) (sym ep) (sym et) ∙ w

@@ -1,6 +1,5 @@
 // Adding processes and threads.
 ghost use mathlib.Core.Path.{_≡_};
-ghost use Rattle.sigset.specs.Set.{empty};
 ghost use Rattle.rules.specs.Types as call;
 ghost use Rattle.sound.specs.Lent.{before};
 ghost use Rattle.answers.specs.Step.{refusalOn, stepped};
@@ -11,12 +10,14 @@ use limits::EINVAL;
 use limits::ESRCH;
 use sigset::SigSet;
 use types::Answer;
+use types::NewProcess;
 use types::Reply;
 
-// The user ids, the session id and the mask decide nothing.
-fn add_process_refusal(ps: &[u64], ts: &[u64], tb: &[u8], pb: &[u8], id: u32, thread: u32) -> u32
-    ensures { λ r. ⌜ r ≡ refusalOn (call.addProcess id 0 0 0 0 thread empty) (before ps ts tb pb) ⌝ }
+fn add_process_refusal(ps: &[u64], ts: &[u64], tb: &[u8], pb: &[u8], new: NewProcess) -> u32
+    ensures { λ r. ⌜ r ≡ refusalOn (call.addProcess new) (before ps ts tb pb) ⌝ }
 {
+    let id = new.id;
+    let thread = new.thread;
     if !sound::sound(ps, ts, tb, pb) {
         return EFAULT;
     }
@@ -38,22 +39,17 @@ pub fn add_process(
     ts: &mut [u64],
     tb: &mut [u8],
     pb: &mut [u8],
-    id: u32,
-    real: u32,
-    effective: u32,
-    saved: u32,
-    session: u32,
-    thread: u32,
-    mask: SigSet,
+    new: NewProcess,
 ) -> Answer
-    ensures { λ r. ⌜ stepped (call.addProcess id real effective saved session thread mask) r ps ts tb pb ⌝ }
+    ensures { λ r. ⌜ stepped (call.addProcess new) r ps ts tb pb ⌝ }
 {
-    let n = add_process_refusal(ps, ts, tb, pb, id, thread);
+    let n = add_process_refusal(ps, ts, tb, pb, new);
     if n != 0 {
         return Answer::Refused(n);
     }
-    effects::new_process(ps, id, real, effective, saved, session);
-    effects::new_thread(ts, thread, id, SigSet::maskable(mask));
+    effects::new_process(ps, new);
+    let mask = new.mask;
+    effects::new_thread(ts, new.thread, new.id, SigSet::maskable(mask));
     Answer::Accepted(Reply::Done)
 }
 

@@ -98,7 +98,8 @@ module _ (c : Call) (l : Lent) where
         split (lengthsAre l)
         (λ a.
         let r : refusalOn c l ≡ refusalOf (decoded l) c = ap (λ (b : Bool). cond b (refusalOf (decoded l) c) EFAULT) a in
-        let s : step c (decoded l) .1 ≡ Refused (refusalOf (decoded l) c) = refused-number c (decoded l) (λ z. n (r ∙ z)) in
+        let s : step c (decoded l) .1 ≡ Refused (refusalOf (decoded l) c) = refused-number c (decoded l)
+        (λ z. n (r ∙ z)) in
         rw (a, s))
         (λ a. rw a)
 

@@ -19,7 +19,9 @@ use Rattle.types.specs.declared.Reply.{Reply}
 use Rattle.types.specs.declared.Reply.the-variants as reply
 use Rattle.types.specs.declared.Answer.{Answer}
 use Rattle.types.specs.declared.Answer.the-variants.{Refused, Accepted}
-use Rattle.rules.specs.Types.{Call, clear, addProcess, addThread, endProcess, endThread, kill, queue, action, mask, pending, look, who, take, return}
+use Rattle.types.specs.Values.{newOf}
+use Rattle.rules.specs.Types.{Call, clear, addProcess, addThread, endProcess, endThread, kill, sigqueue, sigaction}
+use Rattle.rules.specs.Types.{sigmask, sigpending, look, who, take, sigreturn}
 use Rattle.sound.specs.Lent.{Lent, lengthsAre, soundTables}
 use Rattle.answers.specs.Step.{stepOn}
 
@@ -48,19 +50,19 @@ whereGiven n v = cond (eqb n 0) none (some v)
 unfoldable pub callsOf : Arguments → List Call
 callsOf g =
     clear
-    ∷ addProcess (g .a) (g .b) (g .c) (g .d) (g .e) (g .f) (bits (g .x))
+    ∷ addProcess (newOf (g .a) (g .b) (g .c) (g .d) (g .e) (g .f) (bits (g .x)))
     ∷ addThread (g .a) (g .b)
     ∷ endProcess (g .a)
     ∷ endThread (g .a)
     ∷ kill (g .a) (g .b) (g .c) (g .d)
-    ∷ queue (g .a) (g .b) (g .c) (g .d) (g .x)
-    ∷ action (g .a) (g .b) (whereGiven (g .c) (record { handler = g .x; flags = g .y; mask = bits (g .z) }))
-    ∷ mask (g .a) (g .b) (whereGiven (g .c) (bits (g .x)))
-    ∷ pending (g .a)
+    ∷ sigqueue (g .a) (g .b) (g .c) (g .d) (g .x)
+    ∷ sigaction (g .a) (g .b) (whereGiven (g .c) (record { handler = g .x; flags = g .y; mask = bits (g .z) }))
+    ∷ sigmask (g .a) (g .b) (whereGiven (g .c) (bits (g .x)))
+    ∷ sigpending (g .a)
     ∷ look (g .a)
     ∷ who (g .a)
     ∷ take (g .a)
-    ∷ return (g .a) (bits (g .x))
+    ∷ sigreturn (g .a) (bits (g .x))
     ∷ []
 
 -- numbers go from that of the first call to that of the last

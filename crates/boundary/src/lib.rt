@@ -7,13 +7,18 @@ ghost use lib.ListN.{length, drop};
 ghost use Rattle.limits.specs.Limits.{EFAULT, EINVAL, answerWords};
 ghost use Rattle.lists.specs.Lists.{padded};
 ghost use Rattle.sigset.specs.Set.{bits};
+ghost use Rattle.types.specs.Values.{newOf};
 ghost use Rattle.sound.specs.Lent.{given, before, after};
 ghost use Rattle.actions.specs.Given.{newAction};
 ghost use Rattle.masks.specs.Given.{newSet};
 ghost use Rattle.calls.specs.Calls.{callOf};
 ghost use Rattle.boundary.specs.Boundary.{arguments, whereGiven, isCall, numbered, accepted, usable, sentWord, nextWords, takenWords, replyWords, wordsOf, errnoOf, served};
 use actions::GivenAction;
+use calls::Asking;
 use calls::Call;
+use calls::Placing;
+use calls::Sending;
+use calls::Setting;
 use limits::ANSWER_ABSORBED;
 use limits::ANSWER_ACTED;
 use limits::ANSWER_CAN_TAKE;
@@ -55,6 +60,7 @@ use masks::GivenSet;
 use sigset::SigSet;
 use types::Action;
 use types::Answer;
+use types::NewProcess;
 use types::Next;
 use types::Reply;
 use types::Sent;
@@ -86,6 +92,28 @@ fn given_set(given: u32, set: u64) -> GivenSet
     GivenSet::Set(SigSet(set))
 }
 
+fn new_process(
+    id: u32,
+    real: u32,
+    effective: u32,
+    saved: u32,
+    session: u32,
+    thread: u32,
+    mask: u64,
+) -> NewProcess
+    ensures { λ r. ⌜ r ≡ newOf id real effective saved session thread (bits mask) ⌝ }
+{
+    NewProcess {
+        id,
+        real,
+        effective,
+        saved,
+        session,
+        thread,
+        mask: SigSet(mask),
+    }
+}
+
 // The call of a number, with its arguments in the documented order.
 fn call_of(
     number: u32,
@@ -104,19 +132,19 @@ fn call_of(
 {
     match number {
         CALL_CLEAR => Call::Clear,
-        CALL_ADD_PROCESS => Call::AddProcess(a, b, c, d, e, f, SigSet(x)),
-        CALL_ADD_THREAD => Call::AddThread(a, b),
-        CALL_END_PROCESS => Call::EndProcess(a),
-        CALL_END_THREAD => Call::EndThread(a),
-        CALL_KILL => Call::Kill(a, b, c, d),
-        CALL_SIGQUEUE => Call::Queue(a, b, c, d, x),
-        CALL_SIGACTION => Call::Action(a, b, given_action(c, x, y, z)),
-        CALL_SIGMASK => Call::Mask(a, b, given_set(c, x)),
-        CALL_SIGPENDING => Call::Pending(a),
-        CALL_LOOK => Call::Look(a),
-        CALL_WHO => Call::Who(a),
+        CALL_ADD_PROCESS => Call::Place(Placing::AddProcess(new_process(a, b, c, d, e, f, x))),
+        CALL_ADD_THREAD => Call::Place(Placing::AddThread(a, b)),
+        CALL_END_PROCESS => Call::Place(Placing::EndProcess(a)),
+        CALL_END_THREAD => Call::Place(Placing::EndThread(a)),
+        CALL_KILL => Call::Send(Sending::Kill(a, b, c, d)),
+        CALL_SIGQUEUE => Call::Send(Sending::Sigqueue(a, b, c, d, x)),
+        CALL_SIGACTION => Call::Set(Setting::Sigaction(a, b, given_action(c, x, y, z))),
+        CALL_SIGMASK => Call::Set(Setting::Sigmask(a, b, given_set(c, x))),
+        CALL_SIGPENDING => Call::Ask(Asking::Sigpending(a)),
+        CALL_LOOK => Call::Ask(Asking::Look(a)),
+        CALL_WHO => Call::Ask(Asking::Who(a)),
         CALL_TAKE => Call::Take(a),
-        _ => Call::Return(a, SigSet(x)),
+        _ => Call::Set(Setting::Sigreturn(a, SigSet(x))),
     }
 }
 

@@ -36,4 +36,5 @@ module _ (l : Lent) (b : Bool) (e : b ≡ lengthsAre l) where
       → (m, Accepted Done) ≡ stepOn clear l
   unfolding reply changes applyAll
   clear-done f m s bt bp h =
-      accepted-ends clear l (sym (clear-refusal l) ∙ ap (λ (x : Bool). cond x 0 EFAULT) (clear-long f)) Done refl m s bt bp h
+      accepted-ends clear l (sym (clear-refusal l) ∙ ap (λ (x : Bool). cond x 0 EFAULT) (clear-long f)) Done refl m s
+      bt bp h

@@ -23,6 +23,7 @@ use limits::THREAD_PROCESS;
 use queue::Discarded;
 use sigset::SigSet;
 use types::Action;
+use types::NewProcess;
 use types::Siginfo;
 
 // How marks change: signals are added to them or removed from them.
@@ -241,13 +242,13 @@ pub fn set_mask(ps: &[u64], ts: &mut [u64], tb: &[u8], pb: &[u8], thread: u32, m
 // ---- places
 
 // A new process into the lowest free place.
-pub fn new_process(ps: &mut [u64], id: u32, real: u32, effective: u32, saved: u32, session: u32)
+pub fn new_process(ps: &mut [u64], new: NewProcess)
     requires { ⌜ length (now ps) ≡ processTable ⌝ }
     requires { ⌜ any isFreeProcess (heldProcesses (now ps)) ≡ true ⌝ }
-    ensures { λ _. ⌜ processesOf (now (ps .exit)) ≡ fill isFreeProcess (addedProcess id real effective saved session) (processesOf (now (ps .entry))) ⌝ }
+    ensures { λ _. ⌜ processesOf (now (ps .exit)) ≡ fill isFreeProcess (addedProcess new) (processesOf (now (ps .entry))) ⌝ }
 {
     let place = tables::free_process(ps);
-    tables::fill_process(ps, place, id, real, effective, saved, session);
+    tables::fill_process(ps, place, new);
 }
 
 // A new thread into the lowest free place.

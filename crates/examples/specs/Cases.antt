@@ -13,14 +13,16 @@ use Rattle.types.specs.declared.Action.{Action}
 use Rattle.types.specs.declared.Siginfo.{Siginfo}
 use Rattle.types.specs.Values.{defaultAction}
 use Rattle.types.specs.declared.Answer.{Answer}
-use Rattle.rules.specs.Types.{Call, addProcess, addThread, endProcess, endThread, kill, queue, action, mask, pending, look, who, take, return}
+use Rattle.rules.specs.Types.{Call, addThread, endProcess, endThread, kill, sigqueue, sigaction, sigmask, sigpending}
+use Rattle.rules.specs.Types.{look, who, take, sigreturn}
 use Rattle.rules.specs.Store.{Store, cleared}
 use Rattle.rules.specs.Calls.{run}
 use Rattle.rules.specs.Machine.{machine}
 use Rattle.rules.specs.Computing.{computing}
 use Rattle.rules.proofs.Cleared.{sound-cleared}
 use Rattle.rules.proofs.QuickRuns.{quickComputing, quickRun, same-run}
-use Rattle.examples.specs.Words.{refused, done, tested, acted, dropped, marked, kept, oldAction, oldMask, pendingSet, nothing, handler}
+use Rattle.examples.specs.Words.{adds, refused, done, tested, acted, dropped, marked, kept, oldAction, oldMask}
+use Rattle.examples.specs.Words.{pendingSet, nothing, handler}
 
 pub answers : List Call → List Answer
 answers cs = run cs cleared .1
@@ -40,18 +42,18 @@ holds c u e = ap (λ (x : Store × List Answer). x .1) (same-run (c .calls) clea
 -- ---- what the cases share: process 100 with thread 200, which signals itself
 
 abbrev one : SigSet → Call
-one m = addProcess 100 1000 1000 1000 7 200 m
+one m = adds 100 1000 1000 1000 7 200 m
 
 -- a handler with these flags and this mask
 abbrev handling : ℕ → ℕ → Action
 handling flags m = record { handler = 5000; flags = flags; mask = bits m }
 
 abbrev handles : ℕ → Call
-handles s = action 100 s (some (handling 0 0))
+handles s = sigaction 100 s (some (handling 0 0))
 
 -- the mask, asked for
 abbrev maskNow : Call
-maskNow = mask 200 7 none
+maskNow = sigmask 200 7 none
 
 abbrev sent : (thread signal value : ℕ) → Siginfo
 sent t s x = record { process = 100; thread = t; signal = s; code = siQueue; sender = 100; uid = 1000; value = x }
@@ -65,7 +67,7 @@ runs r = handler 5000 (r .signal) r 0 empty
 
 -- "a return follows each take"
 abbrev taken : List Call
-taken = take 200 ∷ return 200 empty ∷ []
+taken = take 200 ∷ sigreturn 200 empty ∷ []
 
 unfoldable pub times : {A : Type 0} → ℕ → List A → List A
 times zero l = []
@@ -75,7 +77,9 @@ times (suc n) l = l ++ times n l
 abbrev handlerCase : (flags m after : ℕ) → Case
 handlerCase flags m after =
     record {
-      calls = one empty ∷ action 100 10 (some (handling flags m)) ∷ kill 100 100 0 10 ∷ take 200 ∷ maskNow ∷ return 200 empty ∷ [];
+      calls =
+          one empty ∷ sigaction 100 10 (some (handling flags m)) ∷ kill 100 100 0 10 ∷ take 200 ∷ maskNow
+          ∷ sigreturn 200 empty ∷ [];
       expected =
           done ∷ oldAction defaultAction ∷ marked ∷ handler 5000 10 (ofMark 10) flags empty ∷ oldMask (bits after) ∷ oldMask (bits after) ∷ [];
     }
@@ -86,7 +90,7 @@ handlerCase flags m after =
 abbrev case1 : Case
 case1 =
     record {
-      calls = one empty ∷ mask 200 0 (some (bits 18446744073709551615)) ∷ maskNow ∷ [];
+      calls = one empty ∷ sigmask 200 0 (some (bits 18446744073709551615)) ∷ maskNow ∷ [];
       expected = done ∷ oldMask empty ∷ oldMask (bits 18446744073709289215) ∷ [];
     }
 
@@ -94,7 +98,7 @@ case1 =
 abbrev case2 : Case
 case2 =
     record {
-      calls = one (bits 6) ∷ mask 200 1 (some (bits 2)) ∷ maskNow ∷ [];
+      calls = one (bits 6) ∷ sigmask 200 1 (some (bits 2)) ∷ maskNow ∷ [];
       expected = done ∷ oldMask (bits 6) ∷ oldMask (bits 4) ∷ [];
     }
 
@@ -102,7 +106,7 @@ case2 =
 abbrev case3 : Case
 case3 =
     record {
-      calls = one (bits 6) ∷ mask 200 7 none ∷ mask 200 7 (some (bits 1)) ∷ maskNow ∷ [];
+      calls = one (bits 6) ∷ sigmask 200 7 none ∷ sigmask 200 7 (some (bits 1)) ∷ maskNow ∷ [];
       expected = done ∷ oldMask (bits 6) ∷ refused EINVAL ∷ oldMask (bits 6) ∷ [];
     }
 
@@ -121,8 +125,9 @@ abbrev case5 : Case
 case5 =
     record {
       calls =
-          one (ofSignal 40) ∷ handles 40 ∷ queue 100 100 0 40 1 ∷ queue 100 100 0 40 2 ∷ queue 100 100 0 40 3 ∷ take 200
-          ∷ mask 200 1 (some (ofSignal 40)) ∷ (times 3 taken ++ (take 200 ∷ []));
+          one (ofSignal 40) ∷ handles 40 ∷ sigqueue 100 100 0 40 1 ∷ sigqueue 100 100 0 40 2 ∷ sigqueue 100 100 0 40 3
+          ∷ take 200
+          ∷ sigmask 200 1 (some (ofSignal 40)) ∷ (times 3 taken ++ (take 200 ∷ []));
       expected =
           done ∷ oldAction defaultAction ∷ kept ∷ kept ∷ kept ∷ nothing
           ∷ oldMask (bits 549755813888) ∷ runs (sent 0 40 1) ∷ oldMask (bits 549755813888) ∷ runs (sent 0 40 2) ∷ oldMask (bits 549755813888)
@@ -133,7 +138,7 @@ case5 =
 abbrev case6 : Case
 case6 =
     record {
-      calls = one empty ∷ handles 34 ∷ handles 35 ∷ queue 100 100 0 35 1 ∷ queue 100 100 0 34 2 ∷ times 2 taken;
+      calls = one empty ∷ handles 34 ∷ handles 35 ∷ sigqueue 100 100 0 35 1 ∷ sigqueue 100 100 0 34 2 ∷ times 2 taken;
       expected =
           done ∷ oldAction defaultAction ∷ oldAction defaultAction ∷ kept ∷ kept
           ∷ runs (sent 0 34 2) ∷ oldMask (bits 8589934592) ∷ runs (sent 0 35 1) ∷ oldMask (bits 17179869184) ∷ [];
@@ -143,7 +148,7 @@ case6 =
 abbrev case6Queues : Case
 case6Queues =
     record {
-      calls = one empty ∷ handles 34 ∷ handles 35 ∷ queue 100 100 0 34 1 ∷ queue 100 100 200 35 2 ∷ times 2 taken;
+      calls = one empty ∷ handles 34 ∷ handles 35 ∷ sigqueue 100 100 0 34 1 ∷ sigqueue 100 100 200 35 2 ∷ times 2 taken;
       expected =
           done ∷ oldAction defaultAction ∷ oldAction defaultAction ∷ kept ∷ kept
           ∷ runs (sent 0 34 1) ∷ oldMask (bits 8589934592) ∷ runs (sent 200 35 2) ∷ oldMask (bits 17179869184) ∷ [];
@@ -153,7 +158,10 @@ case6Queues =
 abbrev case8 : Case
 case8 =
     record {
-      calls = one empty ∷ handles 34 ∷ (times (suc recordLimit) (queue 100 100 0 34 7 ∷ []) ++ (taken ++ (queue 100 100 0 34 8 ∷ queue 100 100 0 34 9 ∷ [])));
+      calls =
+          one empty ∷ handles 34
+          ∷ (times (suc recordLimit) (sigqueue 100 100 0 34 7 ∷ [])
+          ++ (taken ++ (sigqueue 100 100 0 34 8 ∷ sigqueue 100 100 0 34 9 ∷ [])));
       expected =
           done ∷ oldAction defaultAction
           ∷ (times recordLimit (kept ∷ []) ++ (refused EAGAIN ∷ runs (sent 0 34 7) ∷ oldMask (bits 8589934592) ∷ kept ∷ refused EAGAIN ∷ []));
@@ -163,7 +171,9 @@ case8 =
 abbrev case10 : Case
 case10 =
     record {
-      calls = one empty ∷ kill 100 100 0 SIGCHLD ∷ action 100 SIGKILL none ∷ action 100 SIGKILL (some (handling 0 0)) ∷ [];
+      calls =
+          one empty ∷ kill 100 100 0 SIGCHLD ∷ sigaction 100 SIGKILL none
+          ∷ sigaction 100 SIGKILL (some (handling 0 0)) ∷ [];
       expected = done ∷ dropped ∷ oldAction defaultAction ∷ refused EINVAL ∷ [];
     }
 
@@ -180,7 +190,7 @@ starred = (holds case1 refl refl, (holds case2 refl refl, (holds case3 refl refl
 abbrev unblocking : Case
 unblocking =
     record {
-      calls = one (bits 7) ∷ mask 200 1 (some (bits 3)) ∷ maskNow ∷ [];
+      calls = one (bits 7) ∷ sigmask 200 1 (some (bits 3)) ∷ maskNow ∷ [];
       expected = done ∷ oldMask (bits 7) ∷ oldMask (bits 4) ∷ [];
     }
 
@@ -189,8 +199,9 @@ abbrev blockedCont : Case
 blockedCont =
     record {
       calls =
-          one (ofSignal SIGCONT) ∷ handles SIGCONT ∷ handles 10 ∷ kill 100 100 0 10 ∷ kill 100 100 0 SIGSTOP ∷ take 200 ∷ kill 100 100 0 SIGCONT ∷ pending 200
-          ∷ take 200 ∷ return 200 (ofSignal SIGCONT) ∷ take 200 ∷ mask 200 1 (some (ofSignal SIGCONT)) ∷ taken;
+          one (ofSignal SIGCONT) ∷ handles SIGCONT ∷ handles 10 ∷ kill 100 100 0 10 ∷ kill 100 100 0 SIGSTOP
+          ∷ take 200 ∷ kill 100 100 0 SIGCONT ∷ sigpending 200
+          ∷ take 200 ∷ sigreturn 200 (ofSignal SIGCONT) ∷ take 200 ∷ sigmask 200 1 (some (ofSignal SIGCONT)) ∷ taken;
       expected =
           done ∷ oldAction defaultAction ∷ oldAction defaultAction ∷ marked ∷ acted ∷ nothing ∷ marked ∷ pendingSet (bits 131072)
           ∷ handler 5000 10 (ofMark 10) 0 (bits 131072) ∷ oldMask (bits 131584) ∷ nothing ∷ oldMask (bits 131072) ∷ runs (ofMark SIGCONT) ∷ oldMask (bits 131072) ∷ [];
@@ -200,7 +211,9 @@ blockedCont =
 abbrev resetHandler : Case
 resetHandler =
     record {
-      calls = one empty ∷ action 100 10 (some (handling saResethand 2048)) ∷ kill 100 100 0 10 ∷ take 200 ∷ maskNow ∷ action 100 10 none ∷ [];
+      calls =
+          one empty ∷ sigaction 100 10 (some (handling saResethand 2048)) ∷ kill 100 100 0 10 ∷ take 200 ∷ maskNow
+          ∷ sigaction 100 10 none ∷ [];
       expected =
           done ∷ oldAction defaultAction ∷ marked ∷ handler 5000 10 (ofMark 10) saResethand empty ∷ oldMask (bits 2560)
           ∷ oldAction (record { handler = 0; flags = saResethand; mask = bits 2048 }) ∷ [];
@@ -219,7 +232,8 @@ abbrev noSignal : Case
 noSignal =
     record {
       calls =
-          one empty ∷ kill 100 100 0 4294967295 ∷ queue 100 100 0 4294967295 1 ∷ action 100 4294967295 none ∷ action 100 0 none ∷ kill 100 100 0 65 ∷ kill 100 100 0 0 ∷ [];
+          one empty ∷ kill 100 100 0 4294967295 ∷ sigqueue 100 100 0 4294967295 1 ∷ sigaction 100 4294967295 none
+          ∷ sigaction 100 0 none ∷ kill 100 100 0 65 ∷ kill 100 100 0 0 ∷ [];
       expected = done ∷ refused EINVAL ∷ refused EINVAL ∷ refused EINVAL ∷ refused EINVAL ∷ refused EINVAL ∷ tested ∷ [];
     }
 
@@ -227,8 +241,10 @@ abbrev noId : Case
 noId =
     record {
       calls =
-          addProcess 0 0 0 0 0 200 empty ∷ addProcess 100 0 0 0 0 0 empty ∷ addProcess 2147483648 0 0 0 0 200 empty ∷ one empty ∷ addThread 0 201 ∷ addThread 200 0
-          ∷ endProcess 0 ∷ endThread 0 ∷ kill 0 100 0 10 ∷ kill 100 0 0 10 ∷ kill 100 100 4294967295 10 ∷ take 0 ∷ look 0 ∷ who 0 ∷ pending 0 ∷ return 0 empty ∷ [];
+          adds 0 0 0 0 0 200 empty ∷ adds 100 0 0 0 0 0 empty ∷ adds 2147483648 0 0 0 0 200 empty ∷ one empty
+          ∷ addThread 0 201 ∷ addThread 200 0
+          ∷ endProcess 0 ∷ endThread 0 ∷ kill 0 100 0 10 ∷ kill 100 0 0 10 ∷ kill 100 100 4294967295 10 ∷ take 0
+          ∷ look 0 ∷ who 0 ∷ sigpending 0 ∷ sigreturn 0 empty ∷ [];
       expected =
           refused EINVAL ∷ refused EINVAL ∷ refused EINVAL ∷ done ∷ refused ESRCH ∷ refused EINVAL
           ∷ refused ESRCH ∷ refused ESRCH ∷ refused ESRCH ∷ refused ESRCH ∷ refused ESRCH ∷ refused ESRCH ∷ refused ESRCH ∷ refused ESRCH ∷ refused ESRCH ∷ refused ESRCH ∷ [];
@@ -238,7 +254,7 @@ noId =
 abbrev noWay : Case
 noWay =
     record {
-      calls = one empty ∷ mask 0 7 (some empty) ∷ mask 0 7 none ∷ mask 200 4294967295 none ∷ [];
+      calls = one empty ∷ sigmask 0 7 (some empty) ∷ sigmask 0 7 none ∷ sigmask 200 4294967295 none ∷ [];
       expected = done ∷ refused EINVAL ∷ refused ESRCH ∷ oldMask empty ∷ [];
     }
 

@@ -13,14 +13,14 @@ use Rattle.sigset.specs.Set.{bits, empty}
 use Rattle.types.specs.declared.Action.{Action}
 use Rattle.types.specs.declared.Siginfo.{Siginfo}
 use Rattle.types.specs.Values.{defaultAction}
-use Rattle.rules.specs.Types.{Process, Thread, Queue, addProcess, kill, queue, clear}
+use Rattle.rules.specs.Types.{Process, Thread, Queue, kill, sigqueue, clear}
 use Rattle.rules.specs.View.{Change, newProcess, newThread, setStopped, setAction, setMask, setMark, append, processQueue, isProcess}
 use Rattle.rules.specs.Store.{Store, cleared, withAction, amend, mapMarks, isFreeProcess, isFreeThread, onProcesses, onThreads, onBuffer, applyAll}
 use Rattle.rules.specs.Sound.{lengthsRight, freeZero, idsInRange, idsDistinct, fieldsInRange, threadsOwned, processesHaveThreads, nothingUnmaskable, unmaskableDefault, allFlagsKnown, recordsLaidOut, limitKept, pendingOnce, nothingIgnored}
 use Rattle.rules.specs.Calls.{run, step}
 use Rattle.rules.specs.Computing.{computing}
 use Rattle.examples.specs.Cases.{times}
-use Rattle.examples.specs.Words.{refused, done}
+use Rattle.examples.specs.Words.{adds, refused, done}
 
 -- what each clause says of a store, in the order of `sound`
 unfoldable pub verdicts : Store → List Bool
@@ -41,7 +41,8 @@ onlyFails k = map (λ n. not (eqb n k)) (range 0 clauseCount)
 unfoldable pub sample : Store
 sample =
     run
-    (addProcess 100 1000 1000 1000 7 200 empty ∷ addProcess 1 0 0 0 1 2 empty ∷ kill 100 100 0 2 ∷ queue 100 100 200 3 1 ∷ queue 100 100 0 40 1 ∷ [])
+    (adds 100 1000 1000 1000 7 200 empty ∷ adds 1 0 0 0 1 2 empty ∷ kill 100 100 0 2 ∷ sigqueue 100 100 200 3 1
+    ∷ sigqueue 100 100 0 40 1 ∷ [])
     cleared .0
 
 unfoldable pub changed : List Change → Store

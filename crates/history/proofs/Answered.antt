@@ -1,23 +1,22 @@
 -- A call's refusal and answer are what is read in the ledger; none is 14; room is what the ledger counts. Assumes nothing.
 use Prim.Native.Nat.{ℕ, zero, suc, _≤_}
 use mathlib.Core.Path.{_≡_, refl, sym, ap, ap₂, _∙_}
-use mathlib.Core.Bool.{Bool, true, false, not, _&&_, cond}
+use mathlib.Core.Bool.{Bool, true, false, _&&_, cond}
 use mathlib.Core.List.{[], _∷_}
 use native.Mathlib.Omega.{arith}
 use lib.Dec.{eqb, leb, eqb·suc-zero}
 use borrow.Author.Tests.{eqb-true, eq-eqb, leb-true, le-leb, not-true}
 use Rattle.limits.specs.Limits.{recordLimit, EAGAIN, EFAULT}
-use Rattle.lists.specs.Lists.{All}
-use Rattle.lists.proofs.Bools.{split, clash, same-test, cond-false}
+use Rattle.lists.proofs.Bools.{split, same-test, cond-false}
 use Rattle.types.specs.declared.Answer.the-variants.{Refused, Accepted}
-use Rattle.rules.specs.Types.{Call, clear, addProcess, addThread, endProcess, endThread, kill, queue, action, mask, pending, look, who, take, return}
+use Rattle.rules.specs.Types.{Call, kill, sigqueue}
 use Rattle.rules.specs.View.{View, targetQueue}
 use Rattle.rules.specs.Store.{Store, view}
 use Rattle.rules.specs.Sending.{generation, needsRecord}
-use Rattle.rules.specs.Refusals.{Row, refusal, rows, table, refusalOf, noRoom, einval, esrch, eperm, eagain}
-use Rattle.rules.specs.Calls.{reply, finish, step, isRefused}
+use Rattle.rules.specs.Refusals.{refusal, rows, table, refusalOf, noRoom, einval, esrch, eperm, eagain}
+use Rattle.rules.specs.Calls.{reply, finish, step}
 use Rattle.rules.proofs.Facts.{within-limit}
-use Rattle.rules.proofs.RefusalTable.{given-passes, no-fault}
+use Rattle.rules.proofs.RefusalTable.{no-fault, rows-no-fault}
 use Rattle.history.specs.Ledger.{Ledger, ledgerView, ledgerRefusal, ledgerAnswer, ofProcess, pendingWhere}
 use Rattle.history.specs.History.{isRefusedWith}
 use Rattle.history.proofs.Counted.{same-queued}
@@ -52,30 +51,6 @@ module _ (k : Ledger) (c : Call) where
       (λ e. rw e (sym (ap (λ m. eqb m n) (eqb-true (ledgerRefusal k c) 0 e) ∙ z)))
       (λ e. rw e)
 
-abbrev notFault : ℕ → Bool
-notFault n = not (eqb n EFAULT)
-
--- the rows below 14 do not give it
-rows-no-fault : (v : View) (c : Call) → notFault (refusal (rows v c)) ≡ true
-unfolding rows
-rows-no-fault v c = given-passes notFault (rows v c) refl (below v c)
-  where
-    below : (v : View) (c : Call) → All (λ (r : Row). r .applies ≡ true → notFault (r .errno) ≡ true) (rows v c)
-    below v clear = tt
-    below v (addProcess id real effective saved session thread m) = ((λ e. refl), ((λ e. refl), ((λ e. refl), tt)))
-    below v (addThread creator id) = ((λ e. refl), ((λ e. refl), ((λ e. refl), ((λ e. refl), tt))))
-    below v (endProcess id) = ((λ e. refl), tt)
-    below v (endThread id) = ((λ e. refl), tt)
-    below v (kill by to t s) = ((λ e. refl), ((λ e. refl), ((λ e. refl), tt)))
-    below v (queue by to t s value) = ((λ e. refl), ((λ e. refl), ((λ e. refl), ((λ e. refl), tt))))
-    below v (action p s new) = ((λ e. refl), ((λ e. refl), tt))
-    below v (mask t way set) = ((λ e. refl), ((λ e. refl), tt))
-    below v (pending t) = ((λ e. refl), tt)
-    below v (look t) = ((λ e. refl), tt)
-    below v (who p) = ((λ e. refl), tt)
-    below v (take t) = ((λ e. refl), tt)
-    below v (return t saved) = ((λ e. refl), tt)
-
 pub never-fault : (k : Ledger) (c : Call) → isRefusedWith EFAULT (ledgerAnswer k c) ≡ false
 unfolding ledgerRefusal
 never-fault k c = refused-with k c EFAULT refl ∙ not-true (eqb (ledgerRefusal k c) EFAULT) (rows-no-fault (ledgerView k) c)
@@ -103,12 +78,12 @@ module _ (st : Store) (k : Ledger) (h : Holds st k) where
   pub pending-limit : (n : ℕ) → pendingWhere k (ofProcess n) ≤ recordLimit
   pending-limit n = omega (arith, same-queued st k (h .isSound) (h .beside .agrees) n, within-limit st (h .isSound) n)
 
-  pub room-counted : (by to t s value : ℕ) → isRefusedWith EAGAIN (ledgerAnswer k (queue by to t s value))
+  pub room-counted : (by to t s value : ℕ) → isRefusedWith EAGAIN (ledgerAnswer k (sigqueue by to t s value))
       ≡ (eqb (refusal (rows (ledgerView k) (kill by to t s))) 0
       && (needsRecord (generation (ledgerView k) true (targetQueue to t) s) && eqb (pendingWhere k (ofProcess to)) recordLimit))
   unfolding ledgerRefusal rows noRoom
   room-counted by to t s value =
-      refused-with k (queue by to t s value) EAGAIN refl
+      refused-with k (sigqueue by to t s value) EAGAIN refl
       ∙ last-row _ _ _ (noRoom (ledgerView k) to t s)
       ∙ ap (λ (b : Bool). eqb (refusal (rows (ledgerView k) (kill by to t s))) 0 && (needsRecord (generation (ledgerView k) true (targetQueue to t) s) && b))
       (unfold ledgerView in full (pendingWhere k (ofProcess to)) (pending-limit to))

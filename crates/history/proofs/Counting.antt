@@ -9,7 +9,7 @@ use borrow.Author.Tests.{eq-eqb}
 use Rattle.lists.specs.Lists.{All}
 use Rattle.lists.proofs.Bools.{split, and-both, cond-true}
 use Rattle.types.specs.declared.Siginfo.{Siginfo}
-use Rattle.rules.specs.Types.{Queue, Next, nextRecord, Call, queue, take}
+use Rattle.rules.specs.Types.{Queue, Next, nextRecord, Call, sigqueue, take}
 use Rattle.rules.specs.View.{View, Change, forget, newProcess, newThread, removeProcess, removeThread, setStopped, setAction, setMask, setMark, clearMark, append, dropOldest, discard, sameQueue, targetQueue, inQueue, theThread, threadAction}
 use Rattle.rules.specs.Sending.{Generation, keeping, generation, infoOf, jobControl, sendChanges}
 use Rattle.rules.specs.Taking.{next, deliver, takeChanges}
@@ -201,7 +201,7 @@ module _ (k : Ledger) (v : View) (by to t s value : ℕ) (e : generation v true 
   abbrev controlled : Ledger
   controlled = noteAll (jobControl to s) k
 
-  kept-last : noteAll (changes v (queue by to t s value)) k ≡ note (append (infoOf v by to t s value)) controlled
+  kept-last : noteAll (changes v (sigqueue by to t s value)) k ≡ note (append (infoOf v by to t s value)) controlled
   unfolding changes send sendChanges infoOf noteAll
   kept-last =
       ap (λ (f : Generation). noteAll (sendChanges f (infoOf v by to t s value)) k) e ∙ noteAll-append (jobControl to s) (append (infoOf v by to t s value) ∷ []) k
@@ -209,7 +209,8 @@ module _ (k : Ledger) (v : View) (by to t s value : ℕ) (e : generation v true 
   controlled-kept : Steady kept k controlled
   controlled-kept = fades-kept k controlled (fades-all (jobControl to s) k (job-made Fading discard-pending to s))
 
-  pub kept-one : (q : Queue) (n : ℕ) → noteAll (changes v (queue by to t s value)) k .lines q n .counts .kept ≡ k .lines q n .counts .kept + cond (isAt (targetQueue to t) s q n) 1 0
+  pub kept-one : (q : Queue) (n : ℕ) → noteAll (changes v (sigqueue by to t s value)) k .lines q n .counts .kept
+      ≡ k .lines q n .counts .kept + cond (isAt (targetQueue to t) s q n) 1 0
   unfolding note infoOf inQueue
   kept-one q n =
       ap (λ (x : Ledger). x .lines q n .counts .kept) kept-last
@@ -220,7 +221,7 @@ module _ (k : Ledger) (v : View) (by to t s value : ℕ) (e : generation v true 
       more true = ap (λ m. m + 1) (controlled-kept .lines q n)
       more false = controlled-kept .lines q n ∙ omega arith
 
-  pub kept-total : noteAll (changes v (queue by to t s value)) k .total .kept ≡ k .total .kept + 1
+  pub kept-total : noteAll (changes v (sigqueue by to t s value)) k .total .kept ≡ k .total .kept + 1
   unfolding note
   kept-total = ap (λ (x : Ledger). x .total .kept) kept-last ∙ ap (λ m. m + 1) (controlled-kept .total)
 

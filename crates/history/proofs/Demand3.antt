@@ -10,7 +10,7 @@ use Rattle.lists.specs.Lists.{all}
 use Rattle.lists.proofs.Bools.{and-fst, and-snd}
 use Rattle.types.specs.declared.Siginfo.{Siginfo}
 use Rattle.types.specs.declared.Answer.{Answer}
-use Rattle.rules.specs.Types.{Queue, Call, queue, take, nextRecord}
+use Rattle.rules.specs.Types.{Queue, Call, sigqueue, take, nextRecord}
 use Rattle.rules.specs.View.{liveThread, theThread}
 use Rattle.rules.specs.Taking.{next}
 use Rattle.rules.specs.Asking.{yieldsOne}
@@ -131,7 +131,9 @@ module _ (l : Lent) (k : Ledger) (r : Reached l k) where
             ap (λ (x : Ledger). x .total .taken) (told l k r c)
             ∙ taken-in-total k c
             ∙ ap (λ (x : Answer). k .total .taken + cond (yieldsOne x && takesOne k c) 1 0) (sym (answers l k r c));
-        room = λ by to t s value. ap (isRefusedWith EAGAIN) (answers l k r (queue by to t s value)) ∙ room-counted (decoded l) k (r .holds) by to t s value;
+        room =
+            λ by to t s value. ap (isRefusedWith EAGAIN) (answers l k r (sigqueue by to t s value))
+            ∙ room-counted (decoded l) k (r .holds) by to t s value;
         limit = pending-limit (decoded l) k (r .holds);
       }
 

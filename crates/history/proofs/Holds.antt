@@ -8,7 +8,8 @@ use borrow.Author.Tests.{eqb-true}
 use Rattle.lists.specs.Lists.{first}
 use Rattle.lists.proofs.Bools.{and-fst, and-snd, cond-true, split}
 use Rattle.lists.proofs.Lists.{first-keep}
-use Rattle.rules.specs.Types.{Queue, Process, Thread, Call, clear, addProcess, addThread, endProcess, endThread, kill, queue, action, mask, pending, look, who, take, return}
+use Rattle.rules.specs.Types.{Queue, Process, Thread, Call, clear, addProcess, sigqueue, take, Kind, clearing, adding}
+use Rattle.rules.specs.Types.{queueing, taking, other, kindOf}
 use Rattle.rules.specs.View.{View, Change, newProcess, newThread, inQueue}
 use Rattle.rules.specs.Store.{Store, cleared, view, recordsFor, apply, applyAll}
 use Rattle.rules.specs.Sound.{freeZero, sound}
@@ -20,7 +21,7 @@ use Rattle.rules.specs.Machine.{machine}
 use Rattle.rules.proofs.Clauses.{clauses}
 use Rattle.rules.proofs.Cleared.{sound-cleared}
 use Rattle.rules.proofs.ChangesSound.{fits-keeps}
-use Rattle.rules.proofs.StaysSound.{isAddProcess, call-fits, accepted-sound-after}
+use Rattle.rules.proofs.StaysSound.{adds, isAddProcess, call-fits, accepted-sound-after}
 use Rattle.rules.proofs.Refused.{refused-by-table, refused-keeps}
 use Rattle.rules.proofs.Steps.{accepted-step}
 use Rattle.history.specs.Ledger.{Ledger, Entry, emptyLedger, ledgerView, note, noteAll, noteStages, enter}
@@ -96,27 +97,22 @@ module _ (c : Call) (st : Store) (k : Ledger) (u : machine c ≡ true) (e : refu
   fitting-holds : isAddProcess c ≡ false → Holds (applyAll (changes (view st) c) st) (noteAll (changes (view st) c) k)
   fitting-holds a = holds-changes (changes (view st) c) st k (call-fits c st a e) h
 
-holds-accepted : (c : Call) (st : Store) (k : Ledger) → machine c ≡ true → refusalOf st c ≡ 0 → Holds st k
-    → Holds (applyAll (changes (view st) c) st) (noteAll (changes (view st) c) k)
+kind-holds : {c : Call} (x : Kind c) → kindOf c ≡ x → (st : Store) (k : Ledger) → machine c ≡ true → refusalOf st c ≡ 0
+    → Holds st k → Holds (applyAll (changes (view st) c) st) (noteAll (changes (view st) c) k)
 unfolding isAddProcess
-holds-accepted clear st k u e h = fitting-holds clear st k u e h refl
-holds-accepted (addProcess id real effective saved session thread m) st k u e h =
+kind-holds clearing i st k u e h = fitting-holds clear st k u e h refl
+kind-holds (adding new) i st k u e h =
     record {
-      isSound = after-sound (addProcess id real effective saved session thread m) st k u e h;
+      isSound = after-sound (addProcess new) st k u e h;
       beside = unfold changes addProcessChanges in beside-added _ _ st k h;
     }
-holds-accepted (addThread creator id) st k u e h = fitting-holds (addThread creator id) st k u e h refl
-holds-accepted (endProcess id) st k u e h = fitting-holds (endProcess id) st k u e h refl
-holds-accepted (endThread id) st k u e h = fitting-holds (endThread id) st k u e h refl
-holds-accepted (kill by to t s) st k u e h = fitting-holds (kill by to t s) st k u e h refl
-holds-accepted (queue by to t s value) st k u e h = fitting-holds (queue by to t s value) st k u e h refl
-holds-accepted (action p s new) st k u e h = fitting-holds (action p s new) st k u e h refl
-holds-accepted (mask t way set) st k u e h = fitting-holds (mask t way set) st k u e h refl
-holds-accepted (pending t) st k u e h = fitting-holds (pending t) st k u e h refl
-holds-accepted (look t) st k u e h = fitting-holds (look t) st k u e h refl
-holds-accepted (who p) st k u e h = fitting-holds (who p) st k u e h refl
-holds-accepted (take t) st k u e h = fitting-holds (take t) st k u e h refl
-holds-accepted (return t saved) st k u e h = fitting-holds (return t saved) st k u e h refl
+kind-holds (queueing by to t s value) i st k u e h = fitting-holds (sigqueue by to t s value) st k u e h refl
+kind-holds (taking t) i st k u e h = fitting-holds (take t) st k u e h refl
+kind-holds other i st k u e h = fitting-holds _ st k u e h (ap adds i)
+
+holds-accepted : (c : Call) (st : Store) (k : Ledger) → machine c ≡ true → refusalOf st c ≡ 0 → Holds st k
+    → Holds (applyAll (changes (view st) c) st) (noteAll (changes (view st) c) k)
+holds-accepted c = kind-holds (kindOf c) refl
 
 -- the ledger after an accepted call, by the view of the tables
 pub entered : (c : Call) (st : Store) (k : Ledger) → Holds st k → enter (record { call = c; refused = false }) k ≡ noteAll (changes (view st) c) k

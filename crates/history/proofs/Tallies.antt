@@ -6,19 +6,18 @@ use mathlib.Core.List.{List, [], _∷_, head?, tail}
 use mathlib.Core.Option.{Option, some, none}
 use native.Mathlib.Omega.{arith}
 use lib.Dec.{eqb}
-use Rattle.limits.specs.Limits.{sigDfl}
 use Rattle.lists.proofs.Bools.{split, clash, and-left, and-right, cond-true, cond-false}
-use Rattle.types.specs.declared.Action.{Action}
 use Rattle.types.specs.declared.Siginfo.{Siginfo}
 use Rattle.types.specs.declared.Reply.the-variants.{Taken}
 use Rattle.types.specs.declared.Answer.{Answer}
 use Rattle.types.specs.declared.Answer.the-variants.{Refused, Accepted}
-use Rattle.rules.specs.Types.{Thread, Queue, Next, noNext, nextMark, nextRecord, Call, clear, addProcess, addThread, endProcess, endThread, kill, queue, action, mask, pending, look, who, take, return}
+use Rattle.rules.specs.Types.{Thread, Queue, Next, noNext, nextMark, nextRecord, Call, clear, addProcess, addThread}
+use Rattle.rules.specs.Types.{endProcess, endThread, kill, sigqueue, sigaction, sigmask, sigpending, look, who, take}
+use Rattle.rules.specs.Types.{sigreturn, Kind, clearing, adding, queueing, taking, other, kindOf}
 use Rattle.rules.specs.View.{View, targetQueue, liveThread, theThread, threadAction}
-use Rattle.rules.specs.Signals.{Outcome, ignores, stops, continues, ends, outcome}
 use Rattle.rules.specs.Sending.{Generation, testing, killing, stopping, dropping, absorbing, marking, keeping, generation, sendAnswer, needsRecord}
-use Rattle.rules.specs.Taking.{whoAnswer, taker, next, markInfo, outcomeAnswer, delivered, takeAnswer}
-use Rattle.rules.specs.Asking.{MayTake, hasOffer, onReply, onAccepted, yieldsOne, takenBy}
+use Rattle.rules.specs.Taking.{whoAnswer, taker, next, delivered, takeAnswer}
+use Rattle.rules.specs.Asking.{MayTake, hasOffer, onReply, onAccepted, yieldsOne, takenOf, takenBy}
 use Rattle.rules.specs.Refusals.{refusal, rows, noThreadLive}
 use Rattle.rules.specs.Calls.{reply, changes, stages, isRefused}
 use Rattle.rules.proofs.Asking.{delivered-yields, asking-yields, next-record}
@@ -53,11 +52,14 @@ module _ (k : Ledger) (c : Call) where
     refused-then = cond-true k _ (ap isRefused refused-answer)
 
   -- what holds of an accepted call, and of a refusal that leaves the ledger alone
-  by-answer : (P : Answer → Ledger → Type 0) → P (Accepted (reply (ledgerView k) c)) (noteAll (changes (ledgerView k) c) k) → ((n : ℕ) → P (Refused n) k) → P (ledgerAnswer k c) then
+  by-answer : (P : Answer → Ledger → Type 0) → P (Accepted (reply (ledgerView k) c))
+      (noteAll (changes (ledgerView k) c) k) → ((n : ℕ) → P (Refused n) k) → P (ledgerAnswer k c) then
   by-answer P h g =
       split (eqb (ledgerRefusal k c) 0)
-      (λ e. subst (λ (a : Answer). P a then) (sym (accepted-answer e)) (subst (P (Accepted (reply (ledgerView k) c))) (sym (accepted-then e)) h))
-      (λ e. subst (λ (a : Answer). P a then) (sym (refused-answer e)) (subst (P (Refused (ledgerRefusal k c))) (sym (refused-then e)) (g (ledgerRefusal k c))))
+      (λ e. subst (λ (a : Answer). P a then) (sym (accepted-answer e))
+      (subst (P (Accepted (reply (ledgerView k) c))) (sym (accepted-then e)) h))
+      (λ e. subst (λ (a : Answer). P a then) (sym (refused-answer e))
+      (subst (P (Refused (ledgerRefusal k c))) (sym (refused-then e)) (g (ledgerRefusal k c))))
 
 -- ---- which call is answered "kept"
 
@@ -77,38 +79,32 @@ kept-who v none = refl
 kept-who v (some t) = refl
 
 -- a queued send that needs a record, and no other call
+abbrev keepsOf : View → {c : Call} → Kind c → Bool
+keepsOf v clearing = false
+keepsOf v (adding new) = false
+keepsOf v (queueing by to t s value) = needsRecord (generation v true (targetQueue to t) s)
+keepsOf v (taking t) = false
+keepsOf v other = false
+
 unfoldable keepsOne : View → Call → Bool
-keepsOne v clear = false
-keepsOne v (addProcess id real effective saved session thread m) = false
-keepsOne v (addThread creator id) = false
-keepsOne v (endProcess id) = false
-keepsOne v (endThread id) = false
-keepsOne v (kill by to t s) = false
-keepsOne v (queue by to t s value) = needsRecord (generation v true (targetQueue to t) s)
-keepsOne v (action p s new) = false
-keepsOne v (mask t way set) = false
-keepsOne v (pending t) = false
-keepsOne v (look t) = false
-keepsOne v (who p) = false
-keepsOne v (take t) = false
-keepsOne v (return t saved) = false
+keepsOne v c = keepsOf v (kindOf c)
 
 kept-call : (v : View) (c : Call) → isKept (Accepted (reply v c)) ≡ keepsOne v c
 unfolding reply keepsOne taker onAccepted onReply
 kept-call v clear = refl
-kept-call v (addProcess id real effective saved session thread m) = refl
+kept-call v (addProcess new) = refl
 kept-call v (addThread creator id) = refl
 kept-call v (endProcess id) = refl
 kept-call v (endThread id) = refl
 kept-call v (kill by to t s) = kept-generation (generation v false (targetQueue to t) s) ∙ plain-send v (targetQueue to t) s
-kept-call v (queue by to t s value) = kept-generation (generation v true (targetQueue to t) s)
-kept-call v (action p s new) = refl
-kept-call v (mask t way set) = refl
-kept-call v (pending t) = refl
+kept-call v (sigqueue by to t s value) = kept-generation (generation v true (targetQueue to t) s)
+kept-call v (sigaction p s new) = refl
+kept-call v (sigmask t way set) = refl
+kept-call v (sigpending t) = refl
 kept-call v (look t) = refl
 kept-call v (who p) = kept-who v _
 kept-call v (take t) = refl
-kept-call v (return t saved) = refl
+kept-call v (sigreturn t saved) = refl
 
 -- ---- one more, or none
 
@@ -120,28 +116,28 @@ more m n false y z = z refl ∙ omega arith
 
 module _ (k : Ledger) (v : View) where
   -- the only call that keeps one
-  keeps-cases : (P : Call → Type 0) → ((by to t s value : ℕ) → generation v true (targetQueue to t) s ≡ keeping → P (queue by to t s value)) → (c : Call) → keepsOne v c ≡ true → P c
+  keeps-kind : (P : Call → Type 0)
+      → ((by to t s value : ℕ) → generation v true (targetQueue to t) s ≡ keeping → P (sigqueue by to t s value))
+      → {c : Call} (x : Kind c) → keepsOf v x ≡ true → P c
+  keeps-kind P h clearing e = clash e refl
+  keeps-kind P h (adding new) e = clash e refl
+  keeps-kind P h (queueing by to t s value) e =
+      h by to t s value (keeping-needs (generation v true (targetQueue to t) s) e)
+  keeps-kind P h (taking t) e = clash e refl
+  keeps-kind P h other e = clash e refl
+
+  keeps-cases : (P : Call → Type 0)
+      → ((by to t s value : ℕ) → generation v true (targetQueue to t) s ≡ keeping → P (sigqueue by to t s value))
+      → (c : Call) → keepsOne v c ≡ true → P c
   unfolding keepsOne
-  keeps-cases P h clear e = clash e refl
-  keeps-cases P h (addProcess id real effective saved session thread m) e = clash e refl
-  keeps-cases P h (addThread creator id) e = clash e refl
-  keeps-cases P h (endProcess id) e = clash e refl
-  keeps-cases P h (endThread id) e = clash e refl
-  keeps-cases P h (kill by to t s) e = clash e refl
-  keeps-cases P h (queue by to t s value) e = h by to t s value (keeping-needs (generation v true (targetQueue to t) s) e)
-  keeps-cases P h (action p s new) e = clash e refl
-  keeps-cases P h (mask t way set) e = clash e refl
-  keeps-cases P h (pending t) e = clash e refl
-  keeps-cases P h (look t) e = clash e refl
-  keeps-cases P h (who p) e = clash e refl
-  keeps-cases P h (take t) e = clash e refl
-  keeps-cases P h (return t saved) e = clash e refl
+  keeps-cases P h c e = keeps-kind P h (kindOf c) e
 
   kept-none : (c : Call) → keepsOne v c ≡ false → Steady kept k (noteAll (changes v c) k)
   kept-none c z = kept-steady k v c (no c z)
     where
       no : (c : Call) → keepsOne v c ≡ false → (r : Siginfo) → Keeps v c r → ⊥
-      no (queue by to t s value) z r (queued e) = unfold keepsOne in clash (needs-keeping (generation v true (targetQueue to t) s) e) z
+      no (sigqueue by to t s value) z r (queued e) =
+          unfold keepsOne in clash (needs-keeping (generation v true (targetQueue to t) s) e) z
 
   abbrev KeptAt : Queue → ℕ → Call → Type 0
   KeptAt q s c = noteAll (changes v c) k .lines q s .counts .kept ≡ k .lines q s .counts .kept + cond (keepsOne v c && keepsAt c q s) 1 0
@@ -192,23 +188,18 @@ unfolding isSend
 mark-taken j q n s r e = clash {b = isSend (nextRecord q s r)} refl (ap isSend (sym e))
 
 -- a record is next for the thread of a take alone
-takes-cases : (v : View) (q : Queue) (s : ℕ) (r : Siginfo) (P : Call → Type 0) → ((t : ℕ) → next v (theThread v t) ≡ nextRecord q s r → P (take t))
-    → (c : Call) → takenBy v c ≡ nextRecord q s r → P c
-unfolding takenBy
-takes-cases v q s r P h clear e = nothing-taken q s r e
-takes-cases v q s r P h (addProcess id real effective saved session thread m) e = nothing-taken q s r e
-takes-cases v q s r P h (addThread creator id) e = nothing-taken q s r e
-takes-cases v q s r P h (endProcess id) e = nothing-taken q s r e
-takes-cases v q s r P h (endThread id) e = nothing-taken q s r e
-takes-cases v q s r P h (kill by to t n) e = nothing-taken q s r e
-takes-cases v q s r P h (queue by to t n value) e = nothing-taken q s r e
-takes-cases v q s r P h (action p n new) e = nothing-taken q s r e
-takes-cases v q s r P h (mask t way set) e = nothing-taken q s r e
-takes-cases v q s r P h (pending t) e = nothing-taken q s r e
-takes-cases v q s r P h (look t) e = nothing-taken q s r e
-takes-cases v q s r P h (who p) e = nothing-taken q s r e
-takes-cases v q s r P h (take t) e = h t e
-takes-cases v q s r P h (return t saved) e = nothing-taken q s r e
+module _ (v : View) (q : Queue) (s : ℕ) (r : Siginfo) (P : Call → Type 0)
+    (h : (t : ℕ) → next v (theThread v t) ≡ nextRecord q s r → P (take t)) where
+  takes-kind : {c : Call} (x : Kind c) → takenOf v x ≡ nextRecord q s r → P c
+  takes-kind clearing e = nothing-taken q s r e
+  takes-kind (adding new) e = nothing-taken q s r e
+  takes-kind (queueing by to t n value) e = nothing-taken q s r e
+  takes-kind (taking t) e = h t e
+  takes-kind other e = nothing-taken q s r e
+
+  takes-cases : (c : Call) → takenBy v c ≡ nextRecord q s r → P c
+  unfolding takenBy
+  takes-cases c e = takes-kind (kindOf c) e
 
 -- the head of a list that has one
 headed : (rs : List Siginfo) (r : Siginfo) → head? rs ≡ some r → rs ≡ r ∷ tail rs
@@ -238,10 +229,12 @@ module _ (k : Ledger) (t : ℕ) (q : Queue) (s : ℕ) (r : Siginfo) (e : next (l
   unfolding onAccepted onReply
   taken-yields = ap yieldsOne taken-answer ∙ delivered-yields v (theThread v t) (threadAction v (theThread v t) s) r
 
-  took-at : (q′ : Queue) (s′ : ℕ) → noteAll (changes v (take t)) k .lines q′ s′ .counts .taken ≡ k .lines q′ s′ .counts .taken + cond (yieldsOne (Accepted (reply v (take t))) && isAt q s q′ s′) 1 0
+  took-at : (q′ : Queue) (s′ : ℕ) → noteAll (changes v (take t)) k .lines q′ s′ .counts .taken
+      ≡ k .lines q′ s′ .counts .taken + cond (yieldsOne (Accepted (reply v (take t))) && isAt q s q′ s′) 1 0
   took-at q′ s′ = taken-one k v t q s r e one-there q′ s′ ∙ ap (λ (b : Bool). k .lines q′ s′ .counts .taken + cond (b && isAt q s q′ s′) 1 0) (sym taken-yields)
 
-  took-in-all : noteAll (changes v (take t)) k .total .taken ≡ k .total .taken + cond (yieldsOne (Accepted (reply v (take t))) && true) 1 0
+  took-in-all : noteAll (changes v (take t)) k .total .taken
+      ≡ k .total .taken + cond (yieldsOne (Accepted (reply v (take t))) && true) 1 0
   took-in-all = taken-total k v t q s r e one-there ∙ ap (λ (b : Bool). k .total .taken + cond (b && true) 1 0) (sym taken-yields)
 
 module _ (k : Ledger) (c : Call) where
@@ -249,17 +242,27 @@ module _ (k : Ledger) (c : Call) where
   seen = ledgerView k
 
   TakenAt : Queue → ℕ → Next → Call → Type 0
-  TakenAt q s n x = noteAll (changes seen x) k .lines q s .counts .taken ≡ k .lines q s .counts .taken + cond (yieldsOne (Accepted (reply seen x)) && isSendAt n q s) 1 0
+  TakenAt q s n x =
+      noteAll (changes seen x) k .lines q s .counts .taken
+      ≡ k .lines q s .counts .taken + cond (yieldsOne (Accepted (reply seen x)) && isSendAt n q s) 1 0
 
   TakenInAll : Next → Call → Type 0
-  TakenInAll n x = noteAll (changes seen x) k .total .taken ≡ k .total .taken + cond (yieldsOne (Accepted (reply seen x)) && isSend n) 1 0
+  TakenInAll n x =
+      noteAll (changes seen x) k .total .taken ≡ k .total .taken + cond
+      (yieldsOne (Accepted (reply seen x)) && isSend n) 1 0
 
   module _ (no : (q : Queue) (s : ℕ) (r : Siginfo) → takenBy seen c ≡ nextRecord q s r → ⊥) (b : Bool) (z : b ≡ false) where
-    none-at : (q : Queue) (s : ℕ) → noteAll (changes seen c) k .lines q s .counts .taken ≡ k .lines q s .counts .taken + cond (yieldsOne (Accepted (reply seen c)) && b) 1 0
-    none-at q s = more _ _ (yieldsOne (Accepted (reply seen c)) && b) (λ y. clash y (and-right (yieldsOne (Accepted (reply seen c))) z)) (λ _. taken-steady k seen c no .lines q s)
+    none-at : (q : Queue) (s : ℕ) → noteAll (changes seen c) k .lines q s .counts .taken
+        ≡ k .lines q s .counts .taken + cond (yieldsOne (Accepted (reply seen c)) && b) 1 0
+    none-at q s =
+        more _ _ (yieldsOne (Accepted (reply seen c)) && b)
+        (λ y. clash y (and-right (yieldsOne (Accepted (reply seen c))) z)) (λ _. taken-steady k seen c no .lines q s)
 
-    none-in-all : noteAll (changes seen c) k .total .taken ≡ k .total .taken + cond (yieldsOne (Accepted (reply seen c)) && b) 1 0
-    none-in-all = more _ _ (yieldsOne (Accepted (reply seen c)) && b) (λ y. clash y (and-right (yieldsOne (Accepted (reply seen c))) z)) (λ _. taken-steady k seen c no .total)
+    none-in-all : noteAll (changes seen c) k .total .taken
+        ≡ k .total .taken + cond (yieldsOne (Accepted (reply seen c)) && b) 1 0
+    none-in-all =
+        more _ _ (yieldsOne (Accepted (reply seen c)) && b)
+        (λ y. clash y (and-right (yieldsOne (Accepted (reply seen c))) z)) (λ _. taken-steady k seen c no .total)
 
   taken-at : (q : Queue) (s : ℕ) (n : Next) → takenBy seen c ≡ n → TakenAt q s n c
   unfolding TakenAt isSendAt

@@ -16,7 +16,7 @@ use Rattle.types.specs.declared.Siginfo.{Siginfo}
 use Rattle.types.specs.Values.{noSiginfo}
 use Rattle.siginfo.specs.Bytes.{u32Bytes, u64Bytes, Fits}
 use Rattle.siginfo.proofs.Slots.{fits-noSiginfo}
-use Rattle.rules.specs.Types.{Process, Thread, Queue, Call, queue}
+use Rattle.rules.specs.Types.{Process, Thread, Queue, Call, sigqueue}
 use Rattle.rules.specs.View.{Change, forget, newProcess, newThread, removeProcess, removeThread, setStopped, setAction, setMask, setMark, clearMark, append, dropOldest, discard, queueOf, inQueue}
 use Rattle.rules.specs.Store.{Place, Store, cleared, used, view, onSlots, onBuffer, apply, applyAll}
 use Rattle.rules.specs.Sound.{goodUser, sound}
@@ -123,7 +123,7 @@ u64 n e = omega (arith, ltb-true n _ e)
 
 module _ (st : Store) (e : sound st ≡ true) (by to t s : ℕ) where
   -- its user id is the sender's real one, which is in range in a sound store
-  info-fits : (value : ℕ) → machine (queue by to t s value) ≡ true → Fits (infoOf (view st) by to t s value)
+  info-fits : (value : ℕ) → machine (sigqueue by to t s value) ≡ true → Fits (infoOf (view st) by to t s value)
   unfolding machine infoOf
   info-fits value u =
       let u1 = and-snd (isU32 by) _ u in
@@ -160,7 +160,7 @@ brings-quiet =
 
 -- what a call of machine numbers keeps has its widths
 kept-fits : (st : Store) → sound st ≡ true → (c : Call) → machine c ≡ true → (r : Siginfo) → Keeps (view st) c r → Fits r
-kept-fits st e (queue by to t s value) u r (queued f) = info-fits st e by to t s value u
+kept-fits st e (sigqueue by to t s value) u r (queued f) = info-fits st e by to t s value u
 
 -- every call leaves records of their widths; a refused one leaves the store that it found
 pub widths-step : (c : Call) (st : Store) → machine c ≡ true → sound st ≡ true → Widths st → Widths (step c st .0)

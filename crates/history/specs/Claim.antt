@@ -13,7 +13,7 @@ use Rattle.types.specs.declared.Siginfo.{Siginfo}
 use Rattle.types.specs.declared.Reply.the-variants.{Taken}
 use Rattle.types.specs.declared.Answer.{Answer}
 use Rattle.types.specs.declared.Answer.the-variants.{Accepted}
-use Rattle.rules.specs.Types.{Thread, Queue, Call, kill, queue, take, nextRecord}
+use Rattle.rules.specs.Types.{Thread, Queue, Call, kill, sigqueue, take, nextRecord}
 use Rattle.rules.specs.View.{View, inQueue, targetQueue, liveThread, theThread, threadAction}
 use Rattle.rules.specs.Store.{held, used, recordsFor, markIn}
 use Rattle.rules.specs.Sending.{generation, needsRecord}
@@ -93,7 +93,7 @@ module _ (l : Lent) (k : Ledger) where
     pub takenTotal : (c : Call) → after c .total .taken ≡ k .total .taken + cond (yieldsOne (answered c) && takesOne k c) 1 0
     -- "and room given back is used again": a queued send is refused for room exactly when a plain one would pass, it needs a record, and the sends pending
     -- for the process are 32 then; they are never more
-    pub room : (by to t s value : ℕ) → isRefusedWith EAGAIN (answered (queue by to t s value))
+    pub room : (by to t s value : ℕ) → isRefusedWith EAGAIN (answered (sigqueue by to t s value))
         ≡ (eqb (refusal (rows seen (kill by to t s))) 0
         && (needsRecord (generation seen true (targetQueue to t) s) && eqb (pendingWhere k (ofProcess to)) recordLimit))
     pub limit : (n : ℕ) → pendingWhere k (ofProcess n) ≤ recordLimit

@@ -7,7 +7,8 @@ use mathlib.Core.Option.{some}
 use Rattle.limits.specs.Limits.{sigIgn}
 use Rattle.sigset.specs.Set.{empty}
 use Rattle.types.specs.declared.Siginfo.{Siginfo}
-use Rattle.rules.specs.Types.{Call, clear, addProcess, queue, action, take, return}
+use Rattle.types.specs.Values.{newOf}
+use Rattle.rules.specs.Types.{Call, clear, addProcess, sigqueue, sigaction, take, sigreturn}
 use Rattle.rules.specs.View.{processQueue}
 use Rattle.rules.specs.Computing.{computing}
 use Rattle.history.specs.Ledger.{Line, Entry, queues, pendingWhere, ledgerView, note, noteAll, noteStages, enter, enterAll, emptyLedger}
@@ -22,19 +23,19 @@ refused c = record { call = c; refused = true }
 sent : List Entry
 sent =
     accepted clear
-    ∷ accepted (addProcess 100 1000 1000 1000 7 200 empty)
-    ∷ accepted (action 100 40 (some (record { handler = 5000; flags = 0; mask = empty })))
-    ∷ accepted (queue 100 100 0 40 1)
-    ∷ accepted (queue 100 100 0 40 2)
-    ∷ refused (queue 100 999 0 40 9)
-    ∷ accepted (queue 100 100 0 40 3)
+    ∷ accepted (addProcess (newOf 100 1000 1000 1000 7 200 empty))
+    ∷ accepted (sigaction 100 40 (some (record { handler = 5000; flags = 0; mask = empty })))
+    ∷ accepted (sigqueue 100 100 0 40 1)
+    ∷ accepted (sigqueue 100 100 0 40 2)
+    ∷ refused (sigqueue 100 999 0 40 9)
+    ∷ accepted (sigqueue 100 100 0 40 3)
     ∷ accepted (take 200)
-    ∷ accepted (return 200 empty)
+    ∷ accepted (sigreturn 200 empty)
     ∷ []
 
 -- then 40 is ignored
 ignored : List Entry
-ignored = sent ++ (accepted (action 100 40 (some (record { handler = sigIgn; flags = 0; mask = empty }))) ∷ [])
+ignored = sent ++ (accepted (sigaction 100 40 (some (record { handler = sigIgn; flags = 0; mask = empty }))) ∷ [])
 
 lineAfter : List Entry → Line
 lineAfter es = enterAll es emptyLedger .lines (processQueue 100) 40

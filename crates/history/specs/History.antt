@@ -10,7 +10,8 @@ use Rattle.types.specs.declared.Sent.{Sent}
 use Rattle.types.specs.declared.Sent.the-variants.{Tested, Acted, Dropped, Absorbed, Marked, Kept}
 use Rattle.types.specs.declared.Answer.{Answer}
 use Rattle.types.specs.declared.Answer.the-variants.{Refused, Accepted}
-use Rattle.rules.specs.Types.{Queue, Next, noNext, nextMark, nextRecord, Call, clear, addProcess, addThread, endProcess, endThread, kill, queue, action, mask, pending, look, who, take, return}
+use Rattle.rules.specs.Types.{Queue, Next, noNext, nextMark, nextRecord, Call, look, Kind, clearing, adding, queueing}
+use Rattle.rules.specs.Types.{taking, other, kindOf}
 use Rattle.rules.specs.View.{targetQueue, theThread}
 use Rattle.rules.specs.Taking.{next}
 use Rattle.rules.specs.Asking.{onAccepted, takenBy}
@@ -60,21 +61,15 @@ abbrev pub isKept : Answer → Bool
 isKept = onAccepted isKeptSend (λ _. false)
 
 -- the call is a queued send of that signal to that queue
+abbrev pub keepsIn : {c : Call} → Kind c → Queue → ℕ → Bool
+keepsIn clearing q s = false
+keepsIn (adding new) q s = false
+keepsIn (queueing by to t n value) q s = isAt (targetQueue to t) n q s
+keepsIn (taking t) q s = false
+keepsIn other q s = false
+
 unfoldable pub keepsAt : Call → Queue → ℕ → Bool
-keepsAt clear q s = false
-keepsAt (addProcess id real effective saved session thread m) q s = false
-keepsAt (addThread creator id) q s = false
-keepsAt (endProcess id) q s = false
-keepsAt (endThread id) q s = false
-keepsAt (kill by to t n) q s = false
-keepsAt (queue by to t n value) q s = isAt (targetQueue to t) n q s
-keepsAt (action p n new) q s = false
-keepsAt (mask t way set) q s = false
-keepsAt (pending t) q s = false
-keepsAt (look t) q s = false
-keepsAt (who p) q s = false
-keepsAt (take t) q s = false
-keepsAt (return t saved) q s = false
+keepsAt c = keepsIn (kindOf c)
 
 -- it is a send of that signal in that queue
 unfoldable pub isSendAt : Next → Queue → ℕ → Bool

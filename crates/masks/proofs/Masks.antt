@@ -12,7 +12,7 @@ use Rattle.sigset.specs.Set.{union, without, maskable}
 use Rattle.siginfo.specs.Bytes.{Bytes}
 use Rattle.types.specs.declared.Reply.the-variants.{OldMask}
 use Rattle.types.specs.declared.Answer.the-variants.{Refused, Accepted}
-use Rattle.rules.specs.Types.{Thread, mask, return}
+use Rattle.rules.specs.Types.{Thread, sigmask, sigreturn}
 use Rattle.rules.specs.View.{setMask, liveThread, theThread}
 use Rattle.rules.specs.Store.{Store}
 use Rattle.rules.specs.Actions.{newMask, maskChanges}
@@ -48,49 +48,49 @@ module _ (old set : SigSet) (way : ℕ) where
 module _ (l : Lent) (t way : ℕ) (set : Option SigSet) where
   -- the refusal, as code tries the rows
 
-  pub mask-fault : soundTables l ≡ false → EFAULT ≡ refusalOn (mask t way set) l
+  pub mask-fault : soundTables l ≡ false → EFAULT ≡ refusalOn (sigmask t way set) l
   unfolding isClear
-  mask-fault = refuses-fault (mask t way set) l refl
+  mask-fault = refuses-fault (sigmask t way set) l refl
 
   module _ (e : soundTables l ≡ true) where
-    pub mask-bad : badWay way set ≡ true → EINVAL ≡ refusalOn (mask t way set) l
+    pub mask-bad : badWay way set ≡ true → EINVAL ≡ refusalOn (sigmask t way set) l
     unfolding rows isClear
-    mask-bad b = refuses-at (mask t way set) l refl e [] (einval (badWay way set)) _ refl tt b
+    mask-bad b = refuses-at (sigmask t way set) l refl e [] (einval (badWay way set)) _ refl tt b
 
     module _ (b : badWay way set ≡ false) where
-      pub mask-gone : noThreadLive (viewOf l) t ≡ true → ESRCH ≡ refusalOn (mask t way set) l
+      pub mask-gone : noThreadLive (viewOf l) t ≡ true → ESRCH ≡ refusalOn (sigmask t way set) l
       unfolding rows isClear
-      mask-gone g = refuses-at (mask t way set) l refl e (einval (badWay way set) ∷ []) (esrch (noThreadLive (viewOf l) t)) [] refl (b, tt) g
+      mask-gone g = refuses-at (sigmask t way set) l refl e (einval (badWay way set) ∷ []) (esrch (noThreadLive (viewOf l) t)) [] refl (b, tt) g
 
-      pub mask-none : noThreadLive (viewOf l) t ≡ false → 0 ≡ refusalOn (mask t way set) l
+      pub mask-none : noThreadLive (viewOf l) t ≡ false → 0 ≡ refusalOn (sigmask t way set) l
       unfolding rows isClear
-      mask-none g = refuses-none (mask t way set) l refl e (b, (g, tt))
+      mask-none g = refuses-none (sigmask t way set) l refl e (b, (g, tt))
 
   -- accepted
 
-  module _ (e : refusalOn (mask t way set) l ≡ 0) where
+  module _ (e : refusalOn (sigmask t way set) l ≡ 0) where
     pub mask-sound : soundTables l ≡ true
     unfolding isClear
-    mask-sound = accepted-tables-sound (mask t way set) l refl e
+    mask-sound = accepted-tables-sound (sigmask t way set) l refl e
 
     pub mask-live : liveThread (viewOf l) t ≡ true
     unfolding rows noThreadLive
-    mask-live = not-false (liveThread (viewOf l) t) (accepted-rows (mask t way set) l e .1 .0)
+    mask-live = not-false (liveThread (viewOf l) t) (accepted-rows (sigmask t way set) l e .1 .0)
 
     -- by the mask that was read
     module _ (old : SigSet) (o : old ≡ threadNamed (l .threads) t .mask) where
       its-mask : old ≡ theThread (viewOf l) t .mask
       its-mask = o ∙ ap (λ (x : Thread). x .mask) (thread-named l t)
 
-      answered : OldMask old ≡ reply (viewOf l) (mask t way set)
+      answered : OldMask old ≡ reply (viewOf l) (sigmask t way set)
       unfolding reply
       answered = ap OldMask its-mask
 
       -- without a set
       pub mask-kept : set ≡ none → Bytes (l .threadBuffer) → Bytes (l .processBuffer)
-          → (l, Accepted (OldMask old)) ≡ stepOn (mask t way set) l
+          → (l, Accepted (OldMask old)) ≡ stepOn (sigmask t way set) l
       unfolding changes maskChanges
-      mask-kept n bt bp = same-ends (mask t way set) l e (OldMask old) answered bt bp (ap (maskChanges (viewOf l) t way) n)
+      mask-kept n bt bp = same-ends (sigmask t way set) l e (OldMask old) answered bt bp (ap (maskChanges (viewOf l) t way) n)
 
       -- with a set, the new mask as code makes it
       module _ (given m : SigSet) (n : set ≡ some given) (h : m ≡ newMask old way given) where
@@ -105,25 +105,25 @@ module _ (l : Lent) (t way : ℕ) (set : Option SigSet) where
 
         pub mask-stored : (r : Lent) → AsLong l r → Bytes (r .threadBuffer) → Bytes (r .processBuffer)
             → Changed (setMask t m ∷ []) l r
-            → (r, Accepted (OldMask old)) ≡ stepOn (mask t way set) l
+            → (r, Accepted (OldMask old)) ≡ stepOn (sigmask t way set) l
         unfolding changes
         mask-stored r k bt bp d =
-            accepted-ends (mask t way set) l e (OldMask old) answered r k bt bp
+            accepted-ends (sigmask t way set) l e (OldMask old) answered r k bt bp
             (made-as d these .store)
 
 -- ---- "Return from a handler is way 2 with the saved mask."
 
-finish-is : (n : ℕ) (st : Store) (t : ℕ) (m : SigSet) → finish n (mask t sigSetmask (some m)) st ≡ finish n (return t m) st
+finish-is : (n : ℕ) (st : Store) (t : ℕ) (m : SigSet) → finish n (sigmask t sigSetmask (some m)) st ≡ finish n (sigreturn t m) st
 unfolding finish stages runStages changes reply
 finish-is zero st t m = refl
 finish-is (suc n) st t m = refl
 
-refusal-is : (st : Store) (t : ℕ) (m : SigSet) → refusalOf st (mask t sigSetmask (some m)) ≡ refusalOf st (return t m)
+refusal-is : (st : Store) (t : ℕ) (m : SigSet) → refusalOf st (sigmask t sigSetmask (some m)) ≡ refusalOf st (sigreturn t m)
 unfolding refusalOf table fault isClear refusal rows badWay
 refusal-is st t m = refl
 
-pub return-is : (l : Lent) (t : ℕ) (m : SigSet) → stepOn (mask t sigSetmask (some m)) l ≡ stepOn (return t m) l
+pub return-is : (l : Lent) (t : ℕ) (m : SigSet) → stepOn (sigmask t sigSetmask (some m)) l ≡ stepOn (sigreturn t m) l
 unfolding stepOn step
 return-is l t m =
     ap (λ r. cond (lengthsAre l) (committed l r) (l, Refused EFAULT))
-    (ap (λ (n : ℕ). finish n (mask t sigSetmask (some m)) (decoded l)) (refusal-is (decoded l) t m) ∙ finish-is (refusalOf (decoded l) (return t m)) (decoded l) t m)
+    (ap (λ (n : ℕ). finish n (sigmask t sigSetmask (some m)) (decoded l)) (refusal-is (decoded l) t m) ∙ finish-is (refusalOf (decoded l) (sigreturn t m)) (decoded l) t m)

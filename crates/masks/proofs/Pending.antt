@@ -8,7 +8,7 @@ use Rattle.sigset.specs.Set.{has, setOf, union, intersect}
 use Rattle.sigset.proofs.Laws.{set-cong}
 use Rattle.types.specs.declared.Reply.the-variants.{PendingSet}
 use Rattle.types.specs.declared.Answer.the-variants.{Accepted}
-use Rattle.rules.specs.Types.{Thread, pending}
+use Rattle.rules.specs.Types.{Thread, sigpending}
 use Rattle.rules.specs.View.{targetQueue, liveThread, theThread, pendingIn, pendingFor}
 use Rattle.rules.specs.Actions.{blockedPending}
 use Rattle.rules.specs.Refusals.{noThreadLive, rows, isClear, esrch}
@@ -38,10 +38,10 @@ module _ (l : Lent) (t : ℕ) (live : liveThread (viewOf l) t ≡ true) where
 -- ---- the call
 
 module _ (l : Lent) (t n : ℕ) (h : n ≡ rowsOn (esrch (noThreadLive (viewOf l) t) ∷ []) l) where
-  pub pending-refusal : n ≡ refusalOn (pending t) l
+  pub pending-refusal : n ≡ refusalOn (sigpending t) l
   unfolding rows isClear
-  pending-refusal = h ∙ sym (rows-given (pending t) l refl)
+  pending-refusal = h ∙ sym (rows-given (sigpending t) l refl)
 
-  pub pending-answered : n ≡ 0 → (m : SigSet) → m ≡ blockedPending (viewOf l) (theThread (viewOf l) t) → Accepted (PendingSet m) ≡ stepOn (pending t) l .1
+  pub pending-answered : n ≡ 0 → (m : SigSet) → m ≡ blockedPending (viewOf l) (theThread (viewOf l) t) → Accepted (PendingSet m) ≡ stepOn (sigpending t) l .1
   unfolding reply
-  pending-answered z m b = answer-after (pending t) l (sym pending-refusal ∙ z) (PendingSet m) (ap PendingSet b)
+  pending-answered z m b = answer-after (sigpending t) l (sym pending-refusal ∙ z) (PendingSet m) (ap PendingSet b)

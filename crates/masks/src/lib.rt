@@ -57,7 +57,7 @@ fn mask_refusal(
     way: u32,
     set: GivenSet,
 ) -> u32
-    ensures { λ r. ⌜ r ≡ refusalOn (call.mask thread way (newSet set)) (before ps ts tb pb) ⌝ }
+    ensures { λ r. ⌜ r ≡ refusalOn (call.sigmask thread way (newSet set)) (before ps ts tb pb) ⌝ }
 {
     if !sound::sound(ps, ts, tb, pb) {
         return EFAULT;
@@ -81,7 +81,7 @@ pub fn sigmask(
     way: u32,
     set: GivenSet,
 ) -> Answer
-    ensures { λ r. ⌜ stepped (call.mask thread way (newSet set)) r ps ts tb pb ⌝ }
+    ensures { λ r. ⌜ stepped (call.sigmask thread way (newSet set)) r ps ts tb pb ⌝ }
 {
     let n = mask_refusal(ps, ts, tb, pb, thread, way, set);
     if n != 0 {
@@ -106,7 +106,7 @@ pub fn sigreturn(
     thread: u32,
     saved: SigSet,
 ) -> Answer
-    ensures { λ r. ⌜ stepped (call.return thread saved) r ps ts tb pb ⌝ }
+    ensures { λ r. ⌜ stepped (call.sigreturn thread saved) r ps ts tb pb ⌝ }
 {
     sigmask(ps, ts, tb, pb, thread, SIG_SETMASK, GivenSet::Set(saved))
 }
@@ -126,7 +126,7 @@ fn blocked(ps: &[u64], ts: &[u64], tb: &[u8], pb: &[u8], thread: u32) -> SigSet
 }
 
 pub fn sigpending(ps: &[u64], ts: &[u64], tb: &[u8], pb: &[u8], thread: u32) -> Answer
-    ensures { λ r. ⌜ r ≡ stepOn (call.pending thread) (before ps ts tb pb) .1 ⌝ }
+    ensures { λ r. ⌜ r ≡ stepOn (call.sigpending thread) (before ps ts tb pb) .1 ⌝ }
 {
     let n = view::thread_refusal(ps, ts, tb, pb, thread);
     if n != 0 {

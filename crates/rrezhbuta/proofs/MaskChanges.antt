@@ -18,7 +18,7 @@ use Rattle.lists.proofs.Finds.{find-map, found-inside}
 use Rattle.lists.proofs.Index.{map-set}
 use Rattle.sigset.specs.declared.SigSet.{SigSet}
 use Rattle.sigset.specs.Set.{bits, empty}
-use Rattle.rules.specs.Types.{Thread as Held, noThread as noHeld, mask}
+use Rattle.rules.specs.Types.{Thread as Held, noThread as noHeld, sigmask}
 use Rattle.rules.specs.View.{isThread, liveThread, theThread}
 use Rattle.rules.specs.Store.{Place, held, freeThread, amend, apply, applyAll, withMask as heldMask}
 use Rattle.rules.specs.Actions.{newMask, maskChanges}
@@ -121,15 +121,15 @@ module _ (ps tb pb : List ℕ) (ts : List Thread) (e : length ts ≡ threadPlace
   long = words-length ts ∙ ap (λ k. k * threadWords) e
 
   abbrev after : Option SigSet → List ℕ
-  after set = stepOn (mask t way set) before .0 .threads
+  after set = stepOn (sigmask t way set) before .0 .threads
 
   same-after : (set : Option SigSet) → after set ≡ wordsOf ts → withMaskAt t (maskIn (after set) t) ts ≡ recordsOf (length ts) (after set)
   same-after set h = ap (λ ws. withMaskAt t (maskIn ws t) ts) h ∙ row-same ts e t ∙ ap (recordsOf (length ts)) (sym h)
 
   -- without a set
-  none-after : refusalOn (mask t way none) before ≡ 0 → after none ≡ wordsOf ts
+  none-after : refusalOn (sigmask t way none) before ≡ 0 → after none ≡ wordsOf ts
   unfolding encoded decoded changes maskChanges applyAll
-  none-after a = ap (λ x. x .0 .threads) (accepted-step (mask t way none) before a) ∙ thread-words-back (wordsOf ts) long
+  none-after a = ap (λ x. x .0 .threads) (accepted-step (sigmask t way none) before a) ∙ thread-words-back (wordsOf ts) long
 
   -- with one: the rules' change of the live thread
   module _ (m : SigSet) (s : soundTables (lent ps (wordsOf ts) tb pb) ≡ true) (live : liveThread (viewOf before) t ≡ true) where
@@ -151,26 +151,26 @@ module _ (ps tb pb : List ℕ) (ts : List Thread) (e : length ts ≡ threadPlace
         ∙ sym (map-set placeOf ts i (withMask m (getD ts i noThread))))
         ∙ places-words (withMaskAt t m ts)
 
-  some-after : (m : SigSet) → refusalOn (mask t way (some m)) before ≡ 0
+  some-after : (m : SigSet) → refusalOn (sigmask t way (some m)) before ≡ 0
       → after (some m) ≡ wordsOf (withMaskAt t (newMask (theThread (viewOf before) t .mask) way m) ts)
   unfolding encoded decoded changes maskChanges applyAll apply isClear rows noThreadLive
   some-after m a =
-      let c = mask t way (some m) in
+      let c = sigmask t way (some m) in
       ap (λ x. x .0 .threads) (accepted-step c before a)
       ∙ amended (newMask (theThread (viewOf before) t .mask) way m) (accepted-tables-sound c before refl a)
       (not-false (liveThread (viewOf before) t) (accepted-rows c before a .1 .0))
 
-  accepted-after : (set : Option SigSet) → refusalOn (mask t way set) before ≡ 0
+  accepted-after : (set : Option SigSet) → refusalOn (sigmask t way set) before ≡ 0
       → withMaskAt t (maskIn (after set) t) ts ≡ recordsOf (length ts) (after set)
   accepted-after none a = same-after none (none-after a)
   accepted-after (some m) a = row-after ts e (after (some m)) t (newMask (theThread (viewOf before) t .mask) way m) (some-after m a)
 
 -- whatever the store: the row after the call is the row before it, with the mask that the thread then has
 pub mask-row : (ps tb pb : List ℕ) (ts : List Thread) → length ts ≡ threadPlaces → (t way : ℕ) (set : Option SigSet)
-    → withMaskAt t (maskIn (stepOn (mask t way set) (lent ps (wordsOf ts) tb pb) .0 .threads) t) ts
-    ≡ recordsOf (length ts) (stepOn (mask t way set) (lent ps (wordsOf ts) tb pb) .0 .threads)
+    → withMaskAt t (maskIn (stepOn (sigmask t way set) (lent ps (wordsOf ts) tb pb) .0 .threads) t) ts
+    ≡ recordsOf (length ts) (stepOn (sigmask t way set) (lent ps (wordsOf ts) tb pb) .0 .threads)
 mask-row ps tb pb ts e t way set =
-    let c = mask t way set in
+    let c = sigmask t way set in
     let l = lent ps (wordsOf ts) tb pb in
     split (eqb (refusalOn c l) 0)
     (λ a. accepted-after ps tb pb ts e t way set (eqb-true (refusalOn c l) 0 a))

@@ -11,7 +11,7 @@ use Rattle.sigset.specs.declared.SigSet.{SigSet}
 use Rattle.sigset.specs.Set.{bits}
 use Rattle.types.specs.declared.Answer.{Answer}
 use Rattle.types.specs.declared.Answer.the-variants.{Refused}
-use Rattle.rules.specs.Types.{mask}
+use Rattle.rules.specs.Types.{sigmask}
 use Rattle.sound.specs.Lent.{Lent, lent}
 use Rattle.answers.specs.Step.{stepOn}
 use Rattle.boundary.specs.Boundary.{Arguments, arguments, whereGiven, callsOf, numbered, usable, accepted, serveOn, Served, servedBy, served}
@@ -49,7 +49,7 @@ module _ (h : Host) (thread way given set : ℕ) (n : length (h .threads) ≡ th
   after = serveOn callSigmask numbers (length (h .answer)) (lentBy h)
 
   abbrev answered : Lent × Answer
-  answered = stepOn (mask thread way (whereGiven given (bits set))) (lentBy h)
+  answered = stepOn (sigmask thread way (whereGiven given (bits set))) (lentBy h)
 
   abbrev turned : Lent × Answer
   turned = (lentBy h, Refused (cond (usable callSigmask (lentBy h)) EINVAL EFAULT))

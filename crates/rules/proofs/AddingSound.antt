@@ -12,9 +12,9 @@ use Rattle.lists.specs.Lists.{any, first, replaceFirst, All}
 use Rattle.lists.proofs.Bools.{split, clash, and-fst, and-snd, and-both, and-right, imp-use, imp-by}
 use Rattle.lists.proofs.Lists.{Pass, Fail, All-imp, All-every, All-replaceFirst, All-map, any-All, All-any, any-replaceFirst, any-replaced, any-first, map-replaceFirst, length-replaceFirst}
 use Rattle.lists.proofs.Changes.{first-filled}
-use Rattle.sigset.specs.declared.SigSet.{SigSet}
 use Rattle.sigset.specs.Set.{empty, maskable}
 use Rattle.sigset.proofs.Laws.{has-empty}
+use Rattle.types.specs.declared.NewProcess.{NewProcess}
 use Rattle.rules.specs.Types.{Process, Thread, noProcess, noThread}
 use Rattle.rules.specs.Signals.{ignored}
 use Rattle.rules.specs.View.{newThread, isProcess, isThread, belongsTo, sameQueue, processQueue, threadQueue, actionOf, liveProcess, liveThread, theProcess, theThread, threadAction}
@@ -239,15 +239,15 @@ module _ (st : Store) (e : sound st ≡ true) (p : Process) (dead : liveProcess 
         (st .processes) (have-threads st e))
 
 -- a process is born running, with default actions
-module _ (id real effective saved session : ℕ) where
-  own-added : goodId id ≡ true → goodUser real ≡ true → goodUser effective ≡ true → goodUser saved ≡ true → goodUser session ≡ true
-      → OwnProcess (fresh (addedProcess id real effective saved session))
+module _ (new : NewProcess) where
+  own-added : goodId (new .id) ≡ true → goodUser (new .real) ≡ true → goodUser (new .effective) ≡ true
+      → goodUser (new .saved) ≡ true → goodUser (new .session) ≡ true → OwnProcess (fresh (addedProcess new))
   unfolding addedProcess actionsLong fieldsFit processUnmasked killStopDefault actionOf processFlagsKnown
   own-added g r f s t =
-      let p : Process = addedProcess id real effective saved session in
+      let p : Process = addedProcess new in
       record {
         long = own-free-process .long;
-        free = rw (good-named id g);
+        free = rw (good-named (new .id) g);
         ids = imp-by (isLive processId (fresh p)) (λ _. g);
         fields = and-both r (and-both f (and-both s (and-both t refl)));
         sets = own-free-process .sets;
@@ -257,14 +257,16 @@ module _ (id real effective saved session : ℕ) where
       }
 
 -- adding a process is two changes; between them the store is not sound
-pub addProcess-sound : (st : Store) → sound st ≡ true → (id real effective saved session thread : ℕ) (m : SigSet)
-    → goodId id ≡ true → goodId thread ≡ true → liveProcess (view st) id ≡ false → liveThread (view st) thread ≡ false
+pub addProcess-sound : (st : Store) → sound st ≡ true → (new : NewProcess) → goodId (new .id) ≡ true
+    → goodId (new .thread) ≡ true
+    → liveProcess (view st) (new .id) ≡ false → liveThread (view st) (new .thread) ≡ false
     → any isFreeProcess (view st .processes) ≡ true → any isFreeThread (view st .threads) ≡ true
-    → goodUser real ≡ true → goodUser effective ≡ true → goodUser saved ≡ true → goodUser session ≡ true
-    → sound (applyAll (addProcessChanges id real effective saved session thread m) st) ≡ true
+    → goodUser (new .real) ≡ true → goodUser (new .effective) ≡ true → goodUser (new .saved) ≡ true
+    → goodUser (new .session) ≡ true → sound (applyAll (addProcessChanges new) st) ≡ true
 unfolding applyAll addProcessChanges apply view liveThread addedProcess
-addProcess-sound st e id real effective saved session thread m g h dead deadThread f fThread r a s t =
-    let p : Process = addedProcess id real effective saved session in
-    let o : OwnProcess (fresh p) = own-added id real effective saved session g r a s t in
-    with-thread-sound (withProcess st e p dead) (good-with-process st e p dead g o) (record { id = thread; process = id; mask = maskable m }) deadThread
-    h (new-live st e p dead g o f) (unmasked-maskable m) fThread (but-new st e p dead g o)
+addProcess-sound st e new g h dead deadThread f fThread r a s t =
+    let p : Process = addedProcess new in
+    let o : OwnProcess (fresh p) = own-added new g r a s t in
+    with-thread-sound (withProcess st e p dead) (good-with-process st e p dead g o)
+    (record { id = new .thread; process = new .id; mask = maskable (new .mask) }) deadThread
+    h (new-live st e p dead g o f) (unmasked-maskable (new .mask)) fThread (but-new st e p dead g o)

@@ -13,7 +13,9 @@ use Rattle.sigset.specs.declared.SigSet.{SigSet}
 use Rattle.sigset.specs.Set.{setOf, ofSignal}
 use Rattle.types.specs.declared.Action.{Action}
 use Rattle.types.specs.declared.Siginfo.{Siginfo}
-use Rattle.rules.specs.Types.{Process, Thread, Queue, Next, noNext, nextMark, nextRecord, Call, clear, addProcess, addThread, endProcess, endThread, kill, queue, action, mask, pending, look, who, take, return}
+use Rattle.rules.specs.Types.{Process, Thread, Queue, Next, noNext, nextMark, nextRecord, Call, clear, addProcess}
+use Rattle.rules.specs.Types.{addThread, endProcess, endThread, kill, sigqueue, sigaction, sigmask, sigpending}
+use Rattle.rules.specs.Types.{look, who, take, sigreturn}
 use Rattle.rules.specs.Signals.{Outcome, ignores, stops, continues, ends, outcome, stopSignal, ignored}
 use Rattle.rules.specs.View.{View, Change, forget, newProcess, newThread, removeProcess, removeThread, setStopped, setAction, setMask, setMark, clearMark, append, dropOldest, discard, targetQueue, actionOf, theProcess, theThread, threadAction}
 use Rattle.rules.specs.Sending.{Generation, testing, killing, stopping, dropping, absorbing, marking, keeping, absorbs, generation, infoOf, jobControl, sendChanges, needsRecord}
@@ -39,7 +41,8 @@ pub record Quiet (P : Change → Type 0) : Type 0 where
 
 -- the record that a call keeps, if it keeps one
 pub data Keeps (v : View) : Call → Siginfo → Type 0 where
-  queued : {by to t s value : ℕ} → generation v true (targetQueue to t) s ≡ keeping → Keeps v (queue by to t s value) (infoOf v by to t s value)
+  queued : {by to t s value : ℕ} → generation v true (targetQueue to t) s ≡ keeping
+      → Keeps v (sigqueue by to t s value) (infoOf v by to t s value)
 
 -- a plain send keeps no record
 plain-generation : (a b c d e : Bool) → needsRecord (cond a testing (cond b killing (cond c stopping (cond d dropping (cond e absorbing marking))))) ≡ false
@@ -139,16 +142,17 @@ module _ (P : Change → Type 0) (h : Quiet P) where
         → ((q : Queue) (s : ℕ) (r : Siginfo) → takenBy v c ≡ nextRecord q s r → P (dropOldest q s)) → All P (changes v c)
     unfolding changes send addProcessChanges addThreadChanges endThreadChanges takenBy
     changes-made clear k d = (h .forgets, tt)
-    changes-made (addProcess id real effective saved session thread m) k d = (h .comes _, (h .joins _, tt))
+    changes-made (addProcess new) k d = (h .comes _, (h .joins _, tt))
     changes-made (addThread creator id) k d = (h .joins _, tt)
     changes-made (endProcess id) k d = (h .ended id, tt)
     changes-made (endThread id) k d = end-made (any (otherThread v (theThread v id)) (v .threads)) _ _ (h .left _) (h .ended _)
     changes-made (kill by to t s) k d = send-made (generation v false (targetQueue to t) s) (infoOf v by to t s 0) (λ e. clash (needs-keeping (generation v false (targetQueue to t) s) e) (plain-send v (targetQueue to t) s))
-    changes-made (queue by to t s value) k d = send-made (generation v true (targetQueue to t) s) (infoOf v by to t s value) (λ e. k _ (queued e))
-    changes-made (action p s new) k d = action-made p s new
-    changes-made (mask t way set) k d = mask-made v t way set
-    changes-made (pending t) k d = tt
+    changes-made (sigqueue by to t s value) k d =
+        send-made (generation v true (targetQueue to t) s) (infoOf v by to t s value) (λ e. k _ (queued e))
+    changes-made (sigaction p s new) k d = action-made p s new
+    changes-made (sigmask t way set) k d = mask-made v t way set
+    changes-made (sigpending t) k d = tt
     changes-made (look t) k d = tt
     changes-made (who p) k d = tt
     changes-made (take t) k d = take-made (theThread v t) (next v (theThread v t)) d
-    changes-made (return t saved) k d = mask-made v t sigSetmask (some saved)
+    changes-made (sigreturn t saved) k d = mask-made v t sigSetmask (some saved)

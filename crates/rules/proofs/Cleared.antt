@@ -9,7 +9,8 @@ use Rattle.limits.specs.Limits.{processPlaces, threadPlaces, ESRCH, EINVAL}
 use Rattle.lists.specs.Lists.{any}
 use Rattle.lists.proofs.Bools.{and-right}
 use Rattle.lists.proofs.Lists.{any-map, any-replicate}
-use Rattle.rules.specs.Types.{Call, clear, addProcess, addThread, endProcess, endThread, kill, queue, action, mask, pending, look, who, take, return}
+use Rattle.rules.specs.Types.{Call, clear, addProcess, addThread, endProcess, endThread, kill, sigqueue}
+use Rattle.rules.specs.Types.{sigaction, sigmask, sigpending, look, who, take, sigreturn}
 use Rattle.rules.specs.View.{isProcess, isThread, liveProcess, liveThread}
 use Rattle.rules.specs.Store.{Place, held, freeProcess, freeThread, cleared, view}
 use Rattle.rules.specs.Sound.{sound}
@@ -49,36 +50,36 @@ places-free = refl
 -- adding a process is refused for a bad id alone; what names a process or a thread finds none, unless 22 comes first
 pub refusedThere : Call → ℕ
 refusedThere clear = 0
-refusedThere (addProcess id real effective saved session thread m) = cond (badId id || badId thread) EINVAL 0
+refusedThere (addProcess new) = cond (badId (new .id) || badId (new .thread)) EINVAL 0
 refusedThere (addThread creator id) = cond (badId id) EINVAL ESRCH
 refusedThere (endProcess id) = ESRCH
 refusedThere (endThread id) = ESRCH
 refusedThere (kill by to t s) = cond (overLast s) EINVAL ESRCH
-refusedThere (queue by to t s value) = cond (overLast s) EINVAL ESRCH
-refusedThere (action p s new) = cond (badAction s new) EINVAL ESRCH
-refusedThere (mask t way set) = cond (badWay way set) EINVAL ESRCH
-refusedThere (pending t) = ESRCH
+refusedThere (sigqueue by to t s value) = cond (overLast s) EINVAL ESRCH
+refusedThere (sigaction p s new) = cond (badAction s new) EINVAL ESRCH
+refusedThere (sigmask t way set) = cond (badWay way set) EINVAL ESRCH
+refusedThere (sigpending t) = ESRCH
 refusedThere (look t) = ESRCH
 refusedThere (who p) = ESRCH
 refusedThere (take t) = ESRCH
-refusedThere (return t saved) = ESRCH
+refusedThere (sigreturn t saved) = ESRCH
 
 by-rows : (c : Call) → refusal (rows (view cleared) c) ≡ refusedThere c
 unfolding refusal rows refusedThere noProcessLive noThreadLive badTarget
 by-rows clear = refl
-by-rows (addProcess id real effective saved session thread m) = rw (no-process id, no-thread thread, places-free)
+by-rows (addProcess new) = rw (no-process (new .id), no-thread (new .thread), places-free)
 by-rows (addThread creator id) = rw (no-thread creator)
 by-rows (endProcess id) = rw (no-process id)
 by-rows (endThread id) = rw (no-thread id)
 by-rows (kill by to t s) = rw (no-process by)
-by-rows (queue by to t s value) = rw (no-process by)
-by-rows (action p s new) = rw (no-process p)
-by-rows (mask t way set) = rw (no-thread t)
-by-rows (pending t) = rw (no-thread t)
+by-rows (sigqueue by to t s value) = rw (no-process by)
+by-rows (sigaction p s new) = rw (no-process p)
+by-rows (sigmask t way set) = rw (no-thread t)
+by-rows (sigpending t) = rw (no-thread t)
 by-rows (look t) = rw (no-thread t)
 by-rows (who p) = rw (no-process p)
 by-rows (take t) = rw (no-thread t)
-by-rows (return t saved) = rw (no-thread t)
+by-rows (sigreturn t saved) = rw (no-thread t)
 
 -- a call on a cleared store is refused exactly where the rows say
 pub on-cleared : (c : Call) → refusalOf cleared c ≡ refusedThere c

@@ -20,7 +20,8 @@ use Rattle.rules.specs.Store.{Place, Store, held, markIn, recordsFor, qu
 use Rattle.rules.specs.Sound.{sound}
 use Rattle.rules.specs.Taking.{next}
 use Rattle.rules.specs.Refusals.{refusal, rows, table, refusalOf}
-use Rattle.rules.specs.Calls.{changes, reply, stages, runStages, finish, step, run, Part, emptyPart, partOf, lookPart}
+use Rattle.rules.specs.Calls.{changes, reply, stages, runStages, finish, step, run, Part, emptyPart, partOf}
+use Rattle.rules.specs.Calls.{lookPart}
 use Rattle.rules.specs.Machine.{machine}
 use Rattle.rules.proofs.StaysSound.{step-sound}
 use Rattle.rules.proofs.RefusalTable.{no-fault}

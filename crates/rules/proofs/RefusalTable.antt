@@ -4,19 +4,21 @@ use mathlib.Core.Path.{_≡_, refl, sym, ap, _∙_}
 use mathlib.Core.Bool.{Bool, true, false, not, _&&_, _||_}
 use mathlib.Core.List.{List, [], _∷_, _++_}
 use lib.Dec.{eqb, ltb}
-use borrow.Author.Tests.{not-false}
-use Rattle.limits.specs.Limits.{EAGAIN}
+use borrow.Author.Tests.{eqb-true, not-false}
+use Rattle.limits.specs.Limits.{EAGAIN, EFAULT}
 use Rattle.sigset.specs.Set.{isUnmaskable}
 use Rattle.sigset.proofs.Laws.{each-unmaskable}
 use Rattle.lists.specs.Lists.{all, any, find, pairs, All}
 use Rattle.lists.proofs.Bools.{split, clash, and-fst, and-snd, or-right, cond-true, cond-false}
 use Rattle.lists.proofs.Lists.{Pass, All-imp, all-All}
-use Rattle.rules.specs.Types.{Call, clear, addProcess, addThread, endProcess, endThread, kill, queue, action, mask, pending, look, who, take, return}
+use Rattle.rules.specs.Types.{Call, clear, addProcess, addThread, endProcess, endThread, kill, sigqueue}
+use Rattle.rules.specs.Types.{sigaction, sigmask, sigpending, look, who, take, sigreturn, Kind, clearing, adding}
+use Rattle.rules.specs.Types.{queueing, taking, other, kindOf}
 use Rattle.rules.specs.View.{View}
 use Rattle.rules.specs.Store.{Store, view}
 use Rattle.rules.specs.Sound.{lengthsRight, sound}
 use Rattle.rules.specs.Sending.{generation, needsRecord}
-use Rattle.rules.specs.Refusals.{Row, tableOrder, refusal, rows, fault, table, refusalOf, noRoom, isClear}
+use Rattle.rules.specs.Refusals.{Row, tableOrder, refusal, rows, fault, table, refusalOf, noRoom, clears, isClear}
 use Rattle.rules.proofs.Clauses.{clauses}
 
 abbrev pub Off : Row → Type 0
@@ -63,29 +65,60 @@ listed n = any (eqb n) tableOrder
 abbrev listedRow : Row → Bool
 listedRow r = listed (r .errno)
 
--- every call's rows stand in the table's order, and have its errnos
-ordered-listed : (st : Store) (c : Call) → (pairs above (table st c) && all listedRow (table st c)) ≡ true
-unfolding table rows fault pairs all any find
-ordered-listed st clear = refl
-ordered-listed st (addProcess id real effective saved session thread m) = refl
-ordered-listed st (addThread creator id) = refl
-ordered-listed st (endProcess id) = refl
-ordered-listed st (endThread id) = refl
-ordered-listed st (kill by to t s) = refl
-ordered-listed st (queue by to t s value) = refl
-ordered-listed st (action p s new) = refl
-ordered-listed st (mask t way set) = refl
-ordered-listed st (pending t) = refl
-ordered-listed st (look t) = refl
-ordered-listed st (who p) = refl
-ordered-listed st (take t) = refl
-ordered-listed st (return t saved) = refl
+-- the row of 14, whatever it tests
+abbrev top : Row
+top = record { applies = true; errno = EFAULT }
+
+-- every call's rows stand in the table's order below it, and have the table's errnos
+ordered-listed : (v : View) (c : Call) → (pairs above (top ∷ rows v c) && all listedRow (top ∷ rows v c)) ≡ true
+unfolding rows pairs all any find
+ordered-listed v clear = refl
+ordered-listed v (addProcess new) = refl
+ordered-listed v (addThread creator id) = refl
+ordered-listed v (endProcess id) = refl
+ordered-listed v (endThread id) = refl
+ordered-listed v (kill by to t s) = refl
+ordered-listed v (sigqueue by to t s value) = refl
+ordered-listed v (sigaction p s new) = refl
+ordered-listed v (sigmask t way set) = refl
+ordered-listed v (sigpending t) = refl
+ordered-listed v (look t) = refl
+ordered-listed v (who p) = refl
+ordered-listed v (take t) = refl
+ordered-listed v (sigreturn t saved) = refl
 
 pub in-order : (st : Store) (c : Call) → pairs above (table st c) ≡ true
-in-order st c = and-fst _ _ (ordered-listed st c)
+unfolding table fault pairs all
+in-order st c = and-fst (pairs above (top ∷ rows (view st) c)) _ (ordered-listed (view st) c)
 
 rows-listed : (st : Store) (c : Call) → All (Pass listedRow) (table st c)
-rows-listed st c = all-All listedRow (table st c) (and-snd (pairs above (table st c)) _ (ordered-listed st c))
+unfolding table fault
+rows-listed st c =
+    all-All listedRow (top ∷ rows (view st) c)
+    (and-snd (pairs above (top ∷ rows (view st) c)) _ (ordered-listed (view st) c))
+
+-- ---- the rows below 14 do not give it
+
+abbrev pub notFault : ℕ → Bool
+notFault n = not (eqb n EFAULT)
+
+below-top : (r : Row) → above top r ≡ true → notFault (r .errno) ≡ true
+unfolding find
+below-top r e =
+    split (eqb (r .errno) EFAULT)
+    (λ k. clash e (ap (λ (n : ℕ). ltb (rank EFAULT) (rank n)) (eqb-true (r .errno) EFAULT k)))
+    (λ k. ap not k)
+
+pub rows-no-fault : (v : View) (c : Call) → notFault (refusal (rows v c)) ≡ true
+unfolding pairs
+rows-no-fault v c =
+    given-passes notFault (rows v c) refl
+    (All-imp (Pass (above top)) (λ (r : Row). r .applies ≡ true → notFault (r .errno) ≡ true) (λ r h e. below-top r h)
+    (rows v c)
+    (all-All (above top) (rows v c)
+    (and-fst (all (above top) (rows v c)) _ (and-fst (pairs above (top ∷ rows v c)) _ (ordered-listed v c)))))
+
+-- ---- what is given
 
 -- the first row of a call's table that applies is the one given
 pub first-of-table : (st : Store) (c : Call) (before : List Row) (r : Row) (after : List Row) → table st c ≡ before ++ (r ∷ after)
@@ -119,22 +152,16 @@ unfolding table fault
 accepted-sound st c k e = sym (cond-false (lengthsRight st) (sound st) k) ∙ not-false _ (accepted-off st c e .0)
 
 -- clearing is the one call that asks for lengths alone
+cleared-by : {c : Call} (k : Kind c) → clears k ≡ true → c ≡ clear
+cleared-by clearing e = refl
+cleared-by (adding new) e = clash e refl
+cleared-by (queueing by to t s value) e = clash e refl
+cleared-by (taking t) e = clash e refl
+cleared-by other e = clash e refl
+
 pub is-clear : (c : Call) → isClear c ≡ true → c ≡ clear
 unfolding isClear
-is-clear clear e = refl
-is-clear (addProcess id real effective saved session thread m) e = clash e refl
-is-clear (addThread creator id) e = clash e refl
-is-clear (endProcess id) e = clash e refl
-is-clear (endThread id) e = clash e refl
-is-clear (kill by to t s) e = clash e refl
-is-clear (queue by to t s value) e = clash e refl
-is-clear (action p s new) e = clash e refl
-is-clear (mask t way set) e = clash e refl
-is-clear (pending t) e = clash e refl
-is-clear (look t) e = clash e refl
-is-clear (who p) e = clash e refl
-is-clear (take t) e = clash e refl
-is-clear (return t saved) e = clash e refl
+is-clear c e = cleared-by (kindOf c) e
 
 -- ---- KILL and STOP are never turned away for want of room
 
@@ -152,10 +179,11 @@ kill-has-room st by to t s e =
     clash (given-passes notFull (table st (kill by to t s)) refl ((λ k. refl), ((λ k. refl), ((λ k. refl), ((λ k. refl), tt))))) (ap notFull e)
 
 -- nor does a queued KILL or STOP, whatever is pending
-pub queue-has-room : (st : Store) (by to t s value : ℕ) → isUnmaskable s ≡ true → refusalOf st (queue by to t s value) ≡ EAGAIN → ⊥
+pub queue-has-room : (st : Store) (by to t s value : ℕ) → isUnmaskable s ≡ true
+    → refusalOf st (sigqueue by to t s value) ≡ EAGAIN → ⊥
 unfolding refusalOf table rows fault
 queue-has-room st by to t s value u e =
     clash
-    (given-passes notFull (table st (queue by to t s value)) refl
+    (given-passes notFull (table st (sigqueue by to t s value)) refl
     ((λ k. refl), ((λ k. refl), ((λ k. refl), ((λ k. refl), ((λ k. clash k (room-for (view st) to t s u)), tt))))))
     (ap notFull e)

@@ -1,15 +1,12 @@
 -- A refused call leaves the store as it was, and answers its errno alone. Assumes nothing.
 use Prim.Native.Nat.{ℕ, zero, suc}
 use mathlib.Core.Path.{_≡_, refl, sym, ap}
-use mathlib.Core.Bool.{true, false, not}
+use mathlib.Core.Bool.{true, not}
 use lib.Dec.{eqb, eqb·suc-zero}
-use borrow.Author.Tests.{not-true}
-use Rattle.lists.specs.Lists.{all}
 use Rattle.lists.proofs.Bools.{clash}
 use Rattle.types.specs.declared.Answer.the-variants.{Refused}
 use Rattle.rules.specs.Types.{Call}
-use Rattle.rules.specs.View.{View}
-use Rattle.rules.specs.Store.{Store, view}
+use Rattle.rules.specs.Store.{Store}
 use Rattle.rules.specs.Refusals.{refusalOf}
 use Rattle.rules.specs.Calls.{finish, step, isRefused}
 

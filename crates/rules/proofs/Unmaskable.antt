@@ -25,14 +25,17 @@ use Rattle.types.specs.declared.Reply.{Reply}
 use Rattle.types.specs.declared.Reply.the-variants as reply
 use Rattle.types.specs.declared.Answer.{Answer}
 use Rattle.types.specs.declared.Answer.the-variants.{Refused, Accepted}
-use Rattle.rules.specs.Types.{Process, Thread, Queue, noProcess, noThread, Call, clear, addProcess, addThread, endProcess, endThread, kill, queue, action, mask, pending, look, who, take, return, Next, noNext, nextMark, nextRecord}
+use Rattle.rules.specs.Types.{Process, Thread, Queue, noProcess, noThread, Call, clear, addProcess, addThread}
+use Rattle.rules.specs.Types.{endProcess, endThread, kill, sigqueue, sigaction, sigmask, sigpending, look, who}
+use Rattle.rules.specs.Types.{take, sigreturn, Next, noNext, nextMark, nextRecord}
 use Rattle.rules.specs.Signals.{Outcome, ignores, stops, continues, ends, outcome, ignored, stopSignal}
 use Rattle.rules.specs.View.{View, Change, forget, newProcess, newThread, removeProcess, removeThread, setStopped, setAction, setMask, setMark, clearMark, append, dropOldest, discard, isProcess, isThread, sameQueue, processQueue, threadQueue, actionOf, theProcess, theThread, threadAction, pendingFor}
 use Rattle.rules.specs.Store.{Place, Store, held, freeProcess, freeThread, cleared, view, apply, applyAll, onMarks}
 use Rattle.rules.specs.Sound.{unmasked, actionUnmasked, processUnmasked, threadUnmasked, nothingUnmaskable}
 use Rattle.rules.specs.Sending.{Generation, testing, killing, stopping, dropping, absorbing, marking, keeping, generation, infoOf, jobControl, sendChanges}
 use Rattle.rules.specs.Actions.{stored, storeChanges, actionChanges, newMask, maskChanges, blockedPending}
-use Rattle.rules.specs.Taking.{whoAnswer, taker, handlerMask, resets, reset, resetChanges, outcomeChanges, outcomeAnswer, deliver, delivered, takeChanges, takeAnswer, next}
+use Rattle.rules.specs.Taking.{whoAnswer, taker, handlerMask, resets, reset, resetChanges, outcomeChanges}
+use Rattle.rules.specs.Taking.{outcomeAnswer, deliver, delivered, takeChanges, takeAnswer, next}
 use Rattle.rules.specs.Adding.{addedProcess, addProcessChanges, addThreadChanges, otherThread, endThreadChanges}
 use Rattle.rules.specs.Refusals.{refusalOf, isClear}
 use Rattle.rules.specs.Calls.{send, changes, reply, stages, runStages, finish, step, isRefused}
@@ -295,20 +298,21 @@ module _ (v : View) (h : CleanView v) where
   pub changes-clean : (c : Call) → all cleanChange (changes v c) ≡ true
   unfolding changes send infoOf addProcessChanges addedProcess addThreadChanges endThreadChanges all
   changes-clean clear = refl
-  changes-clean (addProcess id real effective saved session thread m) =
-      and-both (all-replicate actionUnmasked defaultAction default-clean signals) (and-both (unmasked-maskable m) refl)
+  changes-clean (addProcess new) =
+      and-both (all-replicate actionUnmasked defaultAction default-clean signals)
+      (and-both (unmasked-maskable (new .mask)) refl)
   changes-clean (addThread creator id) = and-both (clean-mask v h creator) refl
   changes-clean (endProcess id) = refl
   changes-clean (endThread id) = one-clean (any (otherThread v (theThread v id)) (v .threads)) (removeThread (theThread v id .id)) (removeProcess (theThread v id .process)) refl refl
   changes-clean (kill by to t s) = generation-clean (generation v false _ s) _ (acted-on v false _ s)
-  changes-clean (queue by to t s value) = generation-clean (generation v true _ s) _ (acted-on v true _ s)
-  changes-clean (action p s new) = action-clean p s new
-  changes-clean (mask t way set) = set-mask-clean v t way set
-  changes-clean (pending t) = refl
+  changes-clean (sigqueue by to t s value) = generation-clean (generation v true _ s) _ (acted-on v true _ s)
+  changes-clean (sigaction p s new) = action-clean p s new
+  changes-clean (sigmask t way set) = set-mask-clean v t way set
+  changes-clean (sigpending t) = refl
   changes-clean (look t) = refl
   changes-clean (who p) = refl
   changes-clean (take t) = take-clean (theThread v t) (next v (theThread v t))
-  changes-clean (return t saved) = set-mask-clean v t sigSetmask (some saved)
+  changes-clean (sigreturn t saved) = set-mask-clean v t sigSetmask (some saved)
 
 -- ---- the theorems
 
@@ -375,7 +379,8 @@ outcome-answer ends s = refl
 module _ (t : Thread) (e : unmasked (t .mask) ≡ true) where
   delivered-answer : (a : Action) (r : Siginfo) → cleanTaken (delivered t a r) ≡ true
   unfolding delivered cleanTaken
-  delivered-answer a r = split (eqb (a .handler) sigDfl) (λ k. rw k (outcome-answer (outcome (r .signal)) (r .signal))) (λ k. rw k e)
+  delivered-answer a r =
+      split (eqb (a .handler) sigDfl) (λ k. rw k (outcome-answer (outcome (r .signal)) (r .signal))) (λ k. rw k e)
 
   take-answer : (v : View) (n : Next) → cleanTaken (takeAnswer v t n) ≡ true
   unfolding takeAnswer cleanTaken
@@ -387,19 +392,19 @@ module _ (t : Thread) (e : unmasked (t .mask) ≡ true) where
 reply-clean : (v : View) (c : Call) → (isClear c ≡ false → CleanView v) → cleanReply (reply v c) ≡ true
 unfolding reply taker isClear cleanReply
 reply-clean v clear h = refl
-reply-clean v (addProcess id real effective saved session thread m) h = refl
+reply-clean v (addProcess new) h = refl
 reply-clean v (addThread creator id) h = refl
 reply-clean v (endProcess id) h = refl
 reply-clean v (endThread id) h = refl
 reply-clean v (kill by to t s) h = refl
-reply-clean v (queue by to t s value) h = refl
-reply-clean v (action p s new) h = clean-action v (h refl) p s
-reply-clean v (mask t way set) h = clean-mask v (h refl) t
-reply-clean v (pending t) h = pending-answer v (theThread v t) (clean-mask v (h refl) t)
+reply-clean v (sigqueue by to t s value) h = refl
+reply-clean v (sigaction p s new) h = clean-action v (h refl) p s
+reply-clean v (sigmask t way set) h = clean-mask v (h refl) t
+reply-clean v (sigpending t) h = pending-answer v (theThread v t) (clean-mask v (h refl) t)
 reply-clean v (look t) h = refl
 reply-clean v (who p) h = who-clean v _
 reply-clean v (take t) h = take-answer (theThread v t) (clean-mask v (h refl) t) v _
-reply-clean v (return t saved) h = clean-mask v (h refl) t
+reply-clean v (sigreturn t saved) h = clean-mask v (h refl) t
 
 -- whatever the store is, no call answers 9 or 19 in a set: a store that has one is not sound
 pub answers-clean : (c : Call) (st : Store) → cleanAnswer (step c st .1) ≡ true
@@ -407,5 +412,7 @@ unfolding step
 answers-clean c st = go (refusalOf st c) refl
   where
     go : (n : ℕ) → refusalOf st c ≡ n → cleanAnswer (finish n c st .1) ≡ true
-    go zero e = unfold finish cleanAnswer in reply-clean (view st) c (λ k. clean-view st (clauses st (accepted-sound st c k e) .unmaskedSets))
+    go zero e =
+        unfold finish cleanAnswer in reply-clean (view st) c
+        (λ k. clean-view st (clauses st (accepted-sound st c k e) .unmaskedSets))
     go (suc n) e = unfold finish cleanAnswer in refl

@@ -6,21 +6,31 @@ use lib.Dec.{eqb}
 use lib.ListN.{replicate}
 use Rattle.limits.specs.Limits.{signals}
 use Rattle.lists.specs.Lists.{any}
-use Rattle.sigset.specs.declared.SigSet.{SigSet}
 use Rattle.sigset.specs.Set.{maskable}
+use Rattle.types.specs.declared.NewProcess.{NewProcess}
 use Rattle.types.specs.Values.{defaultAction}
 use Rattle.rules.specs.Types.{Process, Thread}
 use Rattle.rules.specs.View.{View, Change, newProcess, newThread, removeProcess, removeThread, belongsTo, theThread}
 
 -- "A process is added running"; "A freshly added process has the type's named default action (all zero) for every signal."
-unfoldable pub addedProcess : (id real effective saved session : ℕ) → Process
-addedProcess id real effective saved session =
-    record { id = id; real = real; effective = effective; saved = saved; session = session; stopped = 0; actions = replicate signals defaultAction }
+unfoldable pub addedProcess : NewProcess → Process
+addedProcess new =
+    record {
+      id = new .id;
+      real = new .real;
+      effective = new .effective;
+      saved = new .saved;
+      session = new .session;
+      stopped = 0;
+      actions = replicate signals defaultAction;
+    }
 
 -- "with its first thread and a given mask less 9 and 19"
-unfoldable pub addProcessChanges : (id real effective saved session thread : ℕ) → SigSet → List Change
-addProcessChanges id real effective saved session thread mask =
-    newProcess (addedProcess id real effective saved session) ∷ newThread (record { id = thread; process = id; mask = maskable mask }) ∷ []
+unfoldable pub addProcessChanges : NewProcess → List Change
+addProcessChanges new =
+    newProcess (addedProcess new)
+    ∷ newThread (record { id = new .thread; process = new .id; mask = maskable (new .mask) })
+    ∷ []
 
 module _ (v : View) where
   -- "A new thread has its creator's mask and nothing pending."

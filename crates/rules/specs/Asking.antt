@@ -13,7 +13,8 @@ use Rattle.types.specs.declared.Reply.{Reply}
 use Rattle.types.specs.declared.Reply.the-variants as reply
 use Rattle.types.specs.declared.Answer.{Answer}
 use Rattle.types.specs.declared.Answer.the-variants.{Refused, Accepted}
-use Rattle.rules.specs.Types.{Thread, Queue, Call, clear, addProcess, addThread, endProcess, endThread, kill, queue, action, mask, pending, look, who, take, return, Next, noNext}
+use Rattle.rules.specs.Types.{Thread, Queue, Call, Kind, clearing, adding, queueing, taking, other, kindOf, Next}
+use Rattle.rules.specs.Types.{noNext}
 use Rattle.rules.specs.View.{View, theProcess, theThread, pendingIn, pendingFor}
 use Rattle.rules.specs.Taking.{next}
 
@@ -73,18 +74,12 @@ abbrev pub yieldsOne : Answer → Bool
 yieldsOne = onAccepted (λ _. false) isTaken
 
 -- what is next for the thread of a take; for another call nothing
+abbrev pub takenOf : View → {c : Call} → Kind c → Next
+takenOf v clearing = noNext
+takenOf v (adding new) = noNext
+takenOf v (queueing by to t s value) = noNext
+takenOf v (taking t) = next v (theThread v t)
+takenOf v other = noNext
+
 unfoldable pub takenBy : View → Call → Next
-takenBy v clear = noNext
-takenBy v (addProcess id real effective saved session thread m) = noNext
-takenBy v (addThread creator id) = noNext
-takenBy v (endProcess id) = noNext
-takenBy v (endThread id) = noNext
-takenBy v (kill by to t s) = noNext
-takenBy v (queue by to t s value) = noNext
-takenBy v (action p s new) = noNext
-takenBy v (mask t way set) = noNext
-takenBy v (pending t) = noNext
-takenBy v (look t) = noNext
-takenBy v (who p) = noNext
-takenBy v (take t) = next v (theThread v t)
-takenBy v (return t saved) = noNext
+takenBy v c = takenOf v (kindOf c)

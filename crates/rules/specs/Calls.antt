@@ -10,7 +10,9 @@ use Rattle.types.specs.declared.Reply.{Reply}
 use Rattle.types.specs.declared.Reply.the-variants.{Done, Sent, OldAction, OldMask, PendingSet, Looked, Taken}
 use Rattle.types.specs.declared.Answer.{Answer}
 use Rattle.types.specs.declared.Answer.the-variants.{Refused, Accepted}
-use Rattle.rules.specs.Types.{Queue, Call, clear, addProcess, addThread, endProcess, endThread, kill, queue, action, mask, pending, look, who, take, return, Next, noNext, nextMark, nextRecord, told}
+use Rattle.rules.specs.Types.{Queue, Call, clear, addProcess, addThread, endProcess, endThread, kill, sigqueue}
+use Rattle.rules.specs.Types.{sigaction, sigmask, sigpending, look, who, take, sigreturn, Next, noNext, nextMark}
+use Rattle.rules.specs.Types.{nextRecord, told}
 use Rattle.rules.specs.View.{View, targetQueue, Change, Stage, forget, removeProcess, inQueue, actionOf, theProcess, theThread}
 use Rattle.rules.specs.Store.{Store, view, recordsFor, applyAll}
 use Rattle.rules.specs.Sending.{generation, infoOf, sendChanges, sendAnswer}
@@ -26,38 +28,38 @@ module _ (v : View) where
 
   unfoldable pub changes : Call → List Change
   changes clear = forget ∷ []
-  changes (addProcess id real effective saved session thread m) = addProcessChanges id real effective saved session thread m
+  changes (addProcess new) = addProcessChanges new
   changes (addThread creator id) = addThreadChanges v creator id
   changes (endProcess id) = removeProcess id ∷ []
   changes (endThread id) = endThreadChanges v (theThread v id)
   changes (kill by to t s) = send false by to t s 0
-  changes (queue by to t s value) = send true by to t s value
-  changes (action p s new) = actionChanges p s new
-  changes (mask t way set) = maskChanges v t way set
-  changes (pending t) = []
+  changes (sigqueue by to t s value) = send true by to t s value
+  changes (sigaction p s new) = actionChanges p s new
+  changes (sigmask t way set) = maskChanges v t way set
+  changes (sigpending t) = []
   changes (look t) = []
   changes (who p) = []
   changes (take t) = takeChanges v (theThread v t) (next v (theThread v t))
   -- "Return from a handler is way 2 with the saved mask."
-  changes (return t saved) = maskChanges v t sigSetmask (some saved)
+  changes (sigreturn t saved) = maskChanges v t sigSetmask (some saved)
 
   unfoldable pub reply : Call → Reply
   reply clear = Done
-  reply (addProcess id real effective saved session thread m) = Done
+  reply (addProcess new) = Done
   reply (addThread creator id) = Done
   reply (endProcess id) = Done
   reply (endThread id) = Done
   reply (kill by to t s) = Sent (sendAnswer (generation v false (targetQueue to t) s))
-  reply (queue by to t s value) = Sent (sendAnswer (generation v true (targetQueue to t) s))
+  reply (sigqueue by to t s value) = Sent (sendAnswer (generation v true (targetQueue to t) s))
   -- "Storing an action answers the old one"
-  reply (action p s new) = OldAction (actionOf (theProcess v p) s)
+  reply (sigaction p s new) = OldAction (actionOf (theProcess v p) s)
   -- "the old mask is answered"
-  reply (mask t way set) = OldMask (theThread v t .mask)
-  reply (pending t) = PendingSet (blockedPending v (theThread v t))
+  reply (sigmask t way set) = OldMask (theThread v t .mask)
+  reply (sigpending t) = PendingSet (blockedPending v (theThread v t))
   reply (look t) = Looked (told (next v (theThread v t)))
   reply (who p) = taker v p
   reply (take t) = Taken (takeAnswer v (theThread v t) (next v (theThread v t)))
-  reply (return t saved) = OldMask (theThread v t .mask)
+  reply (sigreturn t saved) = OldMask (theThread v t .mask)
 
 -- the stages of a call, given the view before it: here one each
 unfoldable pub stages : View → Call → List Stage

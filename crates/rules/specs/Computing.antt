@@ -12,7 +12,8 @@ use Rattle.rules.specs.Taking.{isStopped, canTakeSignal, nextSignal, nex
 use Rattle.rules.specs.Adding.{addedProcess, addProcessChanges, addThreadChanges, otherThread, endThreadChanges}
 use Rattle.rules.specs.Refusals.{refusal, overLast, badAction, badWay, badId, noProcessLive, noThreadLive, badTarget, mayNot, noProcessPlace, noThreadPlace, noRoom, rows, isClear, fault, table, refusalOf}
 use Rattle.rules.specs.Machine.{isU32, isU64, machineAction, machineSet, machine}
-use Rattle.rules.specs.Calls.{send, changes, reply, stages, runStages, finish, step, run, isRefused, slotOf, partOf, lookPart}
+use Rattle.rules.specs.Calls.{send, changes, reply, stages, runStages, finish, step, run, isRefused, slotOf}
+use Rattle.rules.specs.Calls.{partOf, lookPart}
 
 unfoldable pub computing : Unit {0}
 unfolding told all any count find first keep leading dropFirst change replaceFirst pairs pairsWhere sum range padded has sumOf setOf ofSignal union without intersect unmaskable maskable lowestIn lowestOf lowest isSignal standard ignoring stopSignal outcome ignored isProcess isThread belongsTo sameQueue inQueue actionOf liveProcess liveThread theProcess theThread threadAction pendingIn pendingFor cleared inUse used recordsFor markIn queuedIn view onSlots apply applyAll actionsLong lengthsRight isDefault zeroProcess zeroThread freeZero goodId idsInRange idsDistinct goodUser fieldsFit fieldsInRange belongs hasThread threadsOwned processesHaveThreads unmasked actionUnmasked processUnmasked threadUnmasked nothingUnmaskable killStopDefault unmaskableDefault flagsKnown processFlagsKnown allFlagsKnown isZero restZero nameable namesLive aimedAtThread aimedAtProcess recordsLaidOut limitKept isStandard notTwice notMarkedToo pendingOnce recordNotIgnored marksNotIgnored nothingIgnored sound maySignal absorbs generation infoOf jobControl sendChanges sendAnswer needsRecord hasFlag stored storeChanges actionChanges newMask maskChanges blockedPending isStopped canTakeSignal nextSignal nextQueue nextIn next canTakeSome whoAnswer taker markInfo handlerMask resets reset resetChanges outcomeChanges outcomeAnswer deliver delivered takeChanges takeAnswer addedProcess addProcessChanges addThreadChanges otherThread endThreadChanges refusal overLast badAction badWay badId noProcessLive noThreadLive badTarget mayNot noProcessPlace noThreadPlace noRoom rows isClear fault table refusalOf send changes reply stages runStages finish step run isRefused slotOf partOf lookPart isU32 isU64 machineAction machineSet machine

@@ -6,7 +6,8 @@ use lib.Dec.{leb, ltb}
 use Rattle.limits.specs.Limits.{largestUser}
 use Rattle.sigset.specs.declared.SigSet.{SigSet}
 use Rattle.types.specs.declared.Action.{Action}
-use Rattle.rules.specs.Types.{Call, clear, addProcess, addThread, endProcess, endThread, kill, queue, action, mask, pending, look, who, take, return}
+use Rattle.rules.specs.Types.{Call, clear, addProcess, addThread, endProcess, endThread, kill, sigqueue}
+use Rattle.rules.specs.Types.{sigaction, sigmask, sigpending, look, who, take, sigreturn}
 
 unfoldable pub isU32 : ℕ → Bool
 isU32 n = leb n largestUser
@@ -24,17 +25,20 @@ machineSet (some m) = isU64 (m .0)
 
 unfoldable pub machine : Call → Bool
 machine clear = true
-machine (addProcess id real effective saved session thread m) =
-    isU32 id && (isU32 real && (isU32 effective && (isU32 saved && (isU32 session && (isU32 thread && isU64 (m .0))))))
+machine (addProcess new) =
+    isU32 (new .id)
+    && (isU32 (new .real)
+    && (isU32 (new .effective)
+    && (isU32 (new .saved) && (isU32 (new .session) && (isU32 (new .thread) && isU64 (new .mask .0))))))
 machine (addThread creator id) = isU32 creator && isU32 id
 machine (endProcess id) = isU32 id
 machine (endThread id) = isU32 id
 machine (kill by to t s) = isU32 by && (isU32 to && (isU32 t && isU32 s))
-machine (queue by to t s value) = isU32 by && (isU32 to && (isU32 t && (isU32 s && isU64 value)))
-machine (action p s new) = isU32 p && (isU32 s && machineAction new)
-machine (mask t way set) = isU32 t && (isU32 way && machineSet set)
-machine (pending t) = isU32 t
+machine (sigqueue by to t s value) = isU32 by && (isU32 to && (isU32 t && (isU32 s && isU64 value)))
+machine (sigaction p s new) = isU32 p && (isU32 s && machineAction new)
+machine (sigmask t way set) = isU32 t && (isU32 way && machineSet set)
+machine (sigpending t) = isU32 t
 machine (look t) = isU32 t
 machine (who p) = isU32 p
 machine (take t) = isU32 t
-machine (return t m) = isU32 t && isU64 (m .0)
+machine (sigreturn t m) = isU32 t && isU64 (m .0)

@@ -9,7 +9,9 @@ use Rattle.lists.specs.Lists.{any, isSome}
 use Rattle.sigset.specs.declared.SigSet.{SigSet}
 use Rattle.sigset.specs.Set.{isUnmaskable}
 use Rattle.types.specs.declared.Action.{Action}
-use Rattle.rules.specs.Types.{Call, clear, addProcess, addThread, endProcess, endThread, kill, queue, action, mask, pending, look, who, take, return}
+use Rattle.rules.specs.Types.{Call, clear, addProcess, addThread, endProcess, endThread, kill, sigqueue}
+use Rattle.rules.specs.Types.{sigaction, sigmask, sigpending, look, who, take, sigreturn, Kind, clearing, adding}
+use Rattle.rules.specs.Types.{queueing, taking, other, kindOf}
 use Rattle.rules.specs.View.{View, targetQueue, liveProcess, liveThread, theProcess, theThread}
 use Rattle.rules.specs.Store.{Store, view, isFreeProcess, isFreeThread}
 use Rattle.rules.specs.Sound.{goodId, lengthsRight, sound}
@@ -98,38 +100,37 @@ module _ (v : View) where
 
   unfoldable pub rows : Call → List Row
   rows clear = []
-  rows (addProcess id real effective saved session thread m) =
-      einval (badId id || badId thread) ∷ eexist (liveProcess v id || liveThread v thread) ∷ eagain (noProcessPlace || noThreadPlace) ∷ []
+  rows (addProcess new) =
+      einval (badId (new .id) || badId (new .thread))
+      ∷ eexist (liveProcess v (new .id) || liveThread v (new .thread))
+      ∷ eagain (noProcessPlace || noThreadPlace)
+      ∷ []
   rows (addThread creator id) = einval (badId id) ∷ esrch (noThreadLive creator) ∷ eexist (liveThread v id) ∷ eagain noThreadPlace ∷ []
   rows (endProcess id) = esrch (noProcessLive id) ∷ []
   rows (endThread id) = esrch (noThreadLive id) ∷ []
   rows (kill by to t s) = einval (overLast s) ∷ esrch (noProcessLive by || badTarget to t) ∷ eperm (mayNot by to s) ∷ []
-  rows (queue by to t s value) = einval (overLast s) ∷ esrch (noProcessLive by || badTarget to t) ∷ eperm (mayNot by to s) ∷ eagain (noRoom to t s) ∷ []
-  rows (action p s new) = einval (badAction s new) ∷ esrch (noProcessLive p) ∷ []
-  rows (mask t way set) = einval (badWay way set) ∷ esrch (noThreadLive t) ∷ []
-  rows (pending t) = esrch (noThreadLive t) ∷ []
+  rows (sigqueue by to t s value) =
+      einval (overLast s) ∷ esrch (noProcessLive by || badTarget to t) ∷ eperm (mayNot by to s)
+      ∷ eagain (noRoom to t s) ∷ []
+  rows (sigaction p s new) = einval (badAction s new) ∷ esrch (noProcessLive p) ∷ []
+  rows (sigmask t way set) = einval (badWay way set) ∷ esrch (noThreadLive t) ∷ []
+  rows (sigpending t) = esrch (noThreadLive t) ∷ []
   rows (look t) = esrch (noThreadLive t) ∷ []
   rows (who p) = esrch (noProcessLive p) ∷ []
   rows (take t) = esrch (noThreadLive t) ∷ []
-  rows (return t saved) = esrch (noThreadLive t) ∷ []
+  rows (sigreturn t saved) = esrch (noThreadLive t) ∷ []
 
 -- ---- 14 EFAULT: "a lent table has another length than above, or the store is not sound (clearing checks lengths only)"
 
+abbrev pub clears : {c : Call} → Kind c → Bool
+clears clearing = true
+clears (adding new) = false
+clears (queueing by to t s value) = false
+clears (taking t) = false
+clears other = false
+
 unfoldable pub isClear : Call → Bool
-isClear clear = true
-isClear (addProcess id real effective saved session thread m) = false
-isClear (addThread creator id) = false
-isClear (endProcess id) = false
-isClear (endThread id) = false
-isClear (kill by to t s) = false
-isClear (queue by to t s value) = false
-isClear (action p s new) = false
-isClear (mask t way set) = false
-isClear (pending t) = false
-isClear (look t) = false
-isClear (who p) = false
-isClear (take t) = false
-isClear (return t saved) = false
+isClear c = clears (kindOf c)
 
 unfoldable pub fault : Store → Call → Row
 fault st c = record { applies = not (cond (isClear c) (lengthsRight st) (sound st)); errno = EFAULT }

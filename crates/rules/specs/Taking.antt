@@ -105,7 +105,8 @@ deliver t a s =
 -- "answers handler, signal, record .., flags, saved mask"
 unfoldable pub delivered : Thread → Action → Siginfo → Taken
 delivered t a r =
-    cond (eqb (a .handler) sigDfl) (outcomeAnswer (outcome (r .signal)) (r .signal)) (Handler (a .handler) (r .signal) r (a .flags) (t .mask))
+    cond (eqb (a .handler) sigDfl) (outcomeAnswer (outcome (r .signal)) (r .signal))
+    (Handler (a .handler) (r .signal) r (a .flags) (t .mask))
 
 module _ (v : View) where
   -- the record or the mark leaves its queue first

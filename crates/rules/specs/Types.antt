@@ -8,6 +8,7 @@ use Rattle.sigset.specs.declared.SigSet.{SigSet}
 use Rattle.sigset.specs.Set.{empty}
 use Rattle.types.specs.declared.Action.{Action}
 use Rattle.types.specs.declared.Siginfo.{Siginfo}
+use Rattle.types.specs.declared.NewProcess.{NewProcess}
 use Rattle.types.specs.declared.Next as declared
 use Rattle.types.specs.declared.Next.the-variants as next
 use Rattle.types.specs.Values.{defaultAction}
@@ -47,20 +48,45 @@ noThread = record { id = 0; process = 0; mask = empty }
 
 pub data Call : Type 0 where
   clear : Call
-  addProcess : (id real effective saved session thread : ℕ) (mask : SigSet) → Call
+  addProcess : (new : NewProcess) → Call
   addThread : (creator id : ℕ) → Call
   endProcess : (id : ℕ) → Call
   endThread : (id : ℕ) → Call
   kill : (by to thread signal : ℕ) → Call
-  queue : (by to thread signal value : ℕ) → Call
+  sigqueue : (by to thread signal value : ℕ) → Call
   -- without a new action it enquires
-  action : (process signal : ℕ) (new : Option Action) → Call
-  mask : (thread way : ℕ) (set : Option SigSet) → Call
-  pending : (thread : ℕ) → Call
+  sigaction : (process signal : ℕ) (new : Option Action) → Call
+  sigmask : (thread way : ℕ) (set : Option SigSet) → Call
+  sigpending : (thread : ℕ) → Call
   look : (thread : ℕ) → Call
   who : (process : ℕ) → Call
   take : (thread : ℕ) → Call
-  return : (thread : ℕ) (mask : SigSet) → Call
+  sigreturn : (thread : ℕ) (mask : SigSet) → Call
+
+-- ---- kinds of calls, for what is asked of any call and is the same for most
+
+pub data Kind : Call → Type 0 where
+  clearing : Kind clear
+  adding : (new : NewProcess) → Kind (addProcess new)
+  queueing : (by to thread signal value : ℕ) → Kind (sigqueue by to thread signal value)
+  taking : (thread : ℕ) → Kind (take thread)
+  other : {c : Call} → Kind c
+
+abbrev pub kindOf : (c : Call) → Kind c
+kindOf clear = clearing
+kindOf (addProcess new) = adding new
+kindOf (addThread creator id) = other
+kindOf (endProcess id) = other
+kindOf (endThread id) = other
+kindOf (kill by to t s) = other
+kindOf (sigqueue by to t s value) = queueing by to t s value
+kindOf (sigaction p s new) = other
+kindOf (sigmask t way set) = other
+kindOf (sigpending t) = other
+kindOf (look t) = other
+kindOf (who p) = other
+kindOf (take t) = taking t
+kindOf (sigreturn t saved) = other
 
 -- ---- the answers are those of crate types: Sent, Taken, Reply, Answer
 

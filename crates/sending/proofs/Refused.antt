@@ -9,7 +9,7 @@ use Rattle.limits.specs.Limits.{signals, recordLimit, EPERM, ESRCH, EAGAIN, EFA
 use Rattle.lists.specs.Lists.{any, All}
 use Rattle.lists.proofs.Bools.{clash, and-left, or-fst-false, or-snd-false}
 use Rattle.types.specs.declared.Siginfo.{Siginfo}
-use Rattle.rules.specs.Types.{kill, queue}
+use Rattle.rules.specs.Types.{kill, sigqueue}
 use Rattle.rules.specs.View.{View, isProcess, targetQueue, liveProcess, theProcess}
 use Rattle.rules.specs.Store.{view}
 use Rattle.rules.specs.Sending.{maySignal, Generation, generation, infoOf, sendChanges, needsRecord}
@@ -106,12 +106,12 @@ module _ (l : Lent) (by to t s : ℕ) where
 -- ---- a send with a value: the rows of a plain one, and one more
 
 module _ (l : Lent) (by to t s value : ℕ) where
-  queue-refused : (n : ℕ) → n ≡ refusalOn (kill by to t s) l → (n ≡ 0 → ⊥) → n ≡ refusalOn (queue by to t s value) l
+  queue-refused : (n : ℕ) → n ≡ refusalOn (kill by to t s) l → (n ≡ 0 → ⊥) → n ≡ refusalOn (sigqueue by to t s value) l
   unfolding rows isClear
   queue-refused n e z =
       let v : View = viewOf l in
       let k : n ≡ rowsOn (rows v (kill by to t s)) l = e ∙ rows-given (kill by to t s) l refl in
-      k ∙ rows-before (rows v (kill by to t s)) (eagain (noRoom v to t s) ∷ []) l (λ y. z (k ∙ y)) ∙ sym (rows-given (queue by to t s value) l refl)
+      k ∙ rows-before (rows v (kill by to t s)) (eagain (noRoom v to t s) ∷ []) l (λ y. z (k ∙ y)) ∙ sym (rows-given (sigqueue by to t s value) l refl)
 
   module _ (e : refusalOn (kill by to t s) l ≡ 0) where
     plain-off : All Off (rows (viewOf l) (kill by to t s))
@@ -121,25 +121,25 @@ module _ (l : Lent) (by to t s value : ℕ) where
     unfolding isClear
     plain-sound = accepted-tables-sound (kill by to t s) l refl e
 
-    queue-full : noRoom (viewOf l) to t s ≡ true → EAGAIN ≡ refusalOn (queue by to t s value) l
+    queue-full : noRoom (viewOf l) to t s ≡ true → EAGAIN ≡ refusalOn (sigqueue by to t s value) l
     unfolding rows isClear
     queue-full h =
-        refuses-at (queue by to t s value) l refl plain-sound (rows (viewOf l) (kill by to t s)) (eagain (noRoom (viewOf l) to t s)) [] refl plain-off h
+        refuses-at (sigqueue by to t s value) l refl plain-sound (rows (viewOf l) (kill by to t s)) (eagain (noRoom (viewOf l) to t s)) [] refl plain-off h
 
-    queue-passes : noRoom (viewOf l) to t s ≡ false → 0 ≡ refusalOn (queue by to t s value) l
+    queue-passes : noRoom (viewOf l) to t s ≡ false → 0 ≡ refusalOn (sigqueue by to t s value) l
     unfolding rows isClear
-    queue-passes h = refuses-none (queue by to t s value) l refl plain-sound (plain-off .0, (plain-off .1 .0, (plain-off .1 .1 .0, (h, tt))))
+    queue-passes h = refuses-none (sigqueue by to t s value) l refl plain-sound (plain-off .0, (plain-off .1 .0, (plain-off .1 .1 .0, (h, tt))))
 
-  module _ (e : refusalOn (queue by to t s value) l ≡ 0) where
+  module _ (e : refusalOn (sigqueue by to t s value) l ≡ 0) where
     queue-allowed : Allowed l by to t s
     unfolding rows isClear
     queue-allowed =
-        let k = accepted-rows (queue by to t s value) l e in
-        allowed-by l by to t s (accepted-tables-sound (queue by to t s value) l refl e) (k .0) (k .1 .0)
+        let k = accepted-rows (sigqueue by to t s value) l e in
+        allowed-by l by to t s (accepted-tables-sound (sigqueue by to t s value) l refl e) (k .0) (k .1 .0)
 
     queue-room : noRoom (viewOf l) to t s ≡ false
     unfolding rows
-    queue-room = accepted-rows (queue by to t s value) l e .1 .1 .1 .0
+    queue-room = accepted-rows (sigqueue by to t s value) l e .1 .1 .1 .0
 
 -- ---- either send
 

@@ -2,7 +2,7 @@
 use Prim.Native.Nat.{ℕ}
 use mathlib.Core.Path.{_≡_}
 use mathlib.Core.Bool.{Bool, cond}
-use Rattle.rules.specs.Types.{Call, kill, queue}
+use Rattle.rules.specs.Types.{Call, kill, sigqueue}
 use Rattle.rules.specs.View.{targetQueue}
 use Rattle.rules.specs.Sending.{generation, infoOf}
 use Rattle.sound.specs.Lent.{Lent, viewOf}
@@ -13,7 +13,7 @@ use Rattle.sending.specs.declared.Decision.the-variants as cases
 
 -- the call that a send is
 abbrev pub sendCall : (queued : Bool) (by to thread signal value : ℕ) → Call
-sendCall queued by to t s value = cond queued (queue by to t s value) (kill by to t s)
+sendCall queued by to t s value = cond queued (sigqueue by to t s value) (kill by to t s)
 
 module _ (l : Lent) (queued : Bool) (by to t s value : ℕ) where
   -- the number of the refusal, or the generation and the record where there is none

@@ -364,7 +364,7 @@ pub fn sigqueue(
     signal: u32,
     value: u64,
 ) -> Answer
-    ensures { λ r. ⌜ stepped (call.queue by to thread signal value) r ps ts tb pb ⌝ }
+    ensures { λ r. ⌜ stepped (call.sigqueue by to thread signal value) r ps ts tb pb ⌝ }
 {
     send(ps, ts, tb, pb, true, by, to, thread, signal, value)
 }

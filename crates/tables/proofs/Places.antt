@@ -16,6 +16,7 @@ use Rattle.lists.proofs.Rows.{getD-row, getD-rows, rows-sets, rows-put, take-se
 use Rattle.lists.proofs.Finds.{find-absent, find-alike}
 use Rattle.sigset.specs.declared.SigSet.{SigSet}
 use Rattle.types.specs.declared.Action.{Action}
+use Rattle.types.specs.declared.NewProcess.{NewProcess}
 use Rattle.types.specs.Values.{defaultAction}
 use Rattle.rules.specs.Types.{Process, Thread, noProcess, noThread}
 use Rattle.rules.specs.View.{isProcess, isThread, actionOf}
@@ -166,13 +167,16 @@ threads-cleared ws after long e =
 
 -- ---- a free place filled, one field after the other
 
-abbrev withFields : (id real effective saved session : ℕ) → Place Process
-withFields id real effective saved session =
-    withField processSession session (withField processSaved saved (withField processEffective effective (withField processReal real (withField processId id freeProcess))))
+abbrev withFields : NewProcess → Place Process
+withFields new =
+    withField processSession (new .session)
+    (withField processSaved (new .saved)
+    (withField processEffective (new .effective)
+    (withField processReal (new .real) (withField processId (new .id) freeProcess))))
 
-added-fields : (id real effective saved session : ℕ) → withFields id real effective saved session ≡ placed (addedProcess id real effective saved session)
+added-fields : (new : NewProcess) → withFields new ≡ placed (addedProcess new)
 unfolding withField headed headTo addedProcess
-added-fields id real effective saved session = refl
+added-fields new = refl
 
 abbrev withThreadFields : (id process mask : ℕ) → Place Thread
 withThreadFields id process mask = withThreadField threadMask mask (withThreadField threadProcess process (withThreadField threadId id freeThread))
@@ -188,17 +192,18 @@ putField xs place field v = set xs place (withField field v (getD xs place freeP
 abbrev putThreadField : List (Place Thread) → (place field v : ℕ) → List (Place Thread)
 putThreadField xs place field v = set xs place (withThreadField field v (getD xs place freeThread))
 
-pub process-filled : (xs x₀ x₁ x₂ x₃ x₄ x₅ : List (Place Process)) (place : ℕ) (id real effective saved session : ℕ) → place < length xs
-    → x₀ ≡ set xs place freeProcess → x₁ ≡ putField x₀ place processId id → x₂ ≡ putField x₁ place processReal real
-    → x₃ ≡ putField x₂ place processEffective effective → x₄ ≡ putField x₃ place processSaved saved → x₅ ≡ putField x₄ place processSession session
-    → x₅ ≡ set xs place (placed (addedProcess id real effective saved session))
-process-filled xs x₀ x₁ x₂ x₃ x₄ x₅ place id real effective saved session h e₀ e₁ e₂ e₃ e₄ e₅ =
-    set-again freeProcess (withField processSession session) xs x₄ x₅ place _ h
-    (set-again freeProcess (withField processSaved saved) xs x₃ x₄ place _ h
-    (set-again freeProcess (withField processEffective effective) xs x₂ x₃ place _ h
-    (set-again freeProcess (withField processReal real) xs x₁ x₂ place _ h
-    (set-again freeProcess (withField processId id) xs x₀ x₁ place _ h e₀ e₁) e₂) e₃) e₄) e₅
-    ∙ ap (set xs place) (added-fields id real effective saved session)
+pub process-filled : (xs x₀ x₁ x₂ x₃ x₄ x₅ : List (Place Process)) (place : ℕ) (new : NewProcess) → place < length xs
+    → x₀ ≡ set xs place freeProcess → x₁ ≡ putField x₀ place processId (new .id) → x₂
+    ≡ putField x₁ place processReal (new .real)
+    → x₃ ≡ putField x₂ place processEffective (new .effective) → x₄ ≡ putField x₃ place processSaved (new .saved)
+    → x₅ ≡ putField x₄ place processSession (new .session) → x₅ ≡ set xs place (placed (addedProcess new))
+process-filled xs x₀ x₁ x₂ x₃ x₄ x₅ place new h e₀ e₁ e₂ e₃ e₄ e₅ =
+    set-again freeProcess (withField processSession (new .session)) xs x₄ x₅ place _ h
+    (set-again freeProcess (withField processSaved (new .saved)) xs x₃ x₄ place _ h
+    (set-again freeProcess (withField processEffective (new .effective)) xs x₂ x₃ place _ h
+    (set-again freeProcess (withField processReal (new .real)) xs x₁ x₂ place _ h
+    (set-again freeProcess (withField processId (new .id)) xs x₀ x₁ place _ h e₀ e₁) e₂) e₃) e₄) e₅
+    ∙ ap (set xs place) (added-fields new)
 
 pub thread-filled : (xs x₀ x₁ x₂ x₃ : List (Place Thread)) (place : ℕ) (id process : ℕ) (mask : SigSet) → place < length xs
     → x₀ ≡ set xs place freeThread → x₁ ≡ putThreadField x₀ place threadId id → x₂ ≡ putThreadField x₁ place threadProcess process

@@ -30,6 +30,7 @@ use limits::THREAD_TABLE;
 use limits::THREAD_WORDS;
 use sigset::SigSet;
 use types::Action;
+use types::NewProcess;
 
 // ---- one word of a place: every field of a head and of a thread is read and written by these four, at its named offset
 
@@ -205,24 +206,21 @@ pub fn clear_threads(ts: &mut [u64])
 }
 
 // A new process into a place, whatever it held.
-pub fn fill_process(
-    ps: &mut [u64],
-    place: usize,
-    id: u32,
-    real: u32,
-    effective: u32,
-    saved: u32,
-    session: u32,
-)
+pub fn fill_process(ps: &mut [u64], place: usize, new: NewProcess)
     requires { ⌜ (length (now ps) ≡ processTable) × (place < processPlaces) ⌝ }
-    ensures { λ _. ⌜ processesOf (now (ps .exit)) ≡ set (processesOf (now (ps .entry))) place (placed (addedProcess id real effective saved session)) ⌝ }
+    ensures { λ _. ⌜ processesOf (now (ps .exit)) ≡ set (processesOf (now (ps .entry))) place (placed (addedProcess new)) ⌝ }
 {
+    let id = new.id as u64;
+    let real = new.real as u64;
+    let effective = new.effective as u64;
+    let saved = new.saved as u64;
+    let session = new.session as u64;
     clear_process(ps, place);
-    put_field(ps, place, PROCESS_ID, id as u64);
-    put_field(ps, place, PROCESS_REAL, real as u64);
-    put_field(ps, place, PROCESS_EFFECTIVE, effective as u64);
-    put_field(ps, place, PROCESS_SAVED, saved as u64);
-    put_field(ps, place, PROCESS_SESSION, session as u64);
+    put_field(ps, place, PROCESS_ID, id);
+    put_field(ps, place, PROCESS_REAL, real);
+    put_field(ps, place, PROCESS_EFFECTIVE, effective);
+    put_field(ps, place, PROCESS_SAVED, saved);
+    put_field(ps, place, PROCESS_SESSION, session);
 }
 
 // A new thread into a place, whatever it held.

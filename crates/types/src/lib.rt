@@ -31,6 +31,18 @@ pub struct Siginfo {
     pub value: u64,
 }
 
+// A process to add: its ids, its first thread and that thread's mask.
+pub struct NewProcess {
+    pub id: u32,
+    // user ids
+    pub real: u32,
+    pub effective: u32,
+    pub saved: u32,
+    pub session: u32,
+    pub thread: u32,
+    pub mask: SigSet,
+}
+
 // ---- what the calls answer, in document 01's words
 
 // A send's answer.

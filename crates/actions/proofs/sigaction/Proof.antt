@@ -2,7 +2,7 @@
 use mathlib.Core.Path.{sym, ap, _∙_}
 use native.Mathlib.Omega.{arith}
 use Rattle.siginfo.proofs.Numbers.{bytes-each}
-use Rattle.rules.specs.Types.{action}
+use Rattle.rules.specs.Types.{sigaction}
 use Rattle.sound.proofs.Facts.{processes-long, process-listed}
 use Rattle.sound.specs.Lent.{lent, given}
 use Rattle.answers.proofs.Endings.{refused-ends}
@@ -21,7 +21,7 @@ returns c =
     let new = newAction (a .args .new) in
     let n = c .before .action-refusal .result in
     let e = c .before .action-refusal .ensures in
-    refused-ends (action p s new) l n e (c .if1 .taken)
+    refused-ends (sigaction p s new) l n e (c .if1 .taken)
 
 action-of-requires : tie.Need-action-of-requires
 action-of-requires c κs =

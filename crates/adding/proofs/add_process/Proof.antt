@@ -12,7 +12,7 @@ returns c =
     let r = c .before in
     let a = r .before .before .before .before .before .before .before .before .before in
     process-refused (given (a .args .ps) (a .args .ts) (a .args .tb) (a .args .pb))
-    (a .args .id) (a .args .thread) (r .add-process-refusal .result) (r .add-process-refusal .ensures) (a .args .real) (a .args .effective) (a .args .saved) (a .args .session) (a .args .mask) (c .if1 .taken)
+    (a .args .new) (r .add-process-refusal .result) (r .add-process-refusal .ensures) (c .if1 .taken)
 
 new-process-requires : tie.Need-new-process-requires
 new-process-requires c κs =
@@ -20,26 +20,26 @@ new-process-requires c κs =
     let r = i .before in
     let a = r .before .before .before .before .before .before .before .before .before in
     process-room (given (a .args .ps) (a .args .ts) (a .args .tb) (a .args .pb))
-    (a .args .id) (a .args .thread) (r .add-process-refusal .result) (r .add-process-refusal .ensures) (i .if1 .left)
+    (a .args .new) (r .add-process-refusal .result) (r .add-process-refusal .ensures) (i .if1 .left)
 
 new-thread-requires : tie.Need-new-thread-requires
 new-thread-requires c κs =
-    let i = c .before .before .before .before .before .before in
+    let i = c .before .before .before .before .before .before .before in
     let r = i .before in
     let a = r .before .before .before .before .before .before .before .before .before in
     first-thread-room (given (a .args .ps) (a .args .ts) (a .args .tb) (a .args .pb))
-    (a .args .id) (a .args .thread) (r .add-process-refusal .result) (r .add-process-refusal .ensures) (i .if1 .left)
+    (a .args .new) (r .add-process-refusal .result) (r .add-process-refusal .ensures) (i .if1 .left)
 
 returns-2 : tie.Need-returns-2
 returns-2 c =
     let t = c .before .before in
-    let p = t .before .before .before .before .before in
+    let p = t .before .before .before .before .before .before in
     let i = p .before .before in
     let r = i .before in
     let k = r .before .before .before .before .before in
     let a = k .before .before .before .before in
     process-added (given (a .args .ps) (a .args .ts) (a .args .tb) (a .args .pb))
-    (a .args .id) (a .args .thread) (r .add-process-refusal .result) (r .add-process-refusal .ensures) (a .args .real) (a .args .effective) (a .args .saved) (a .args .session) (a .args .mask)
+    (a .args .new) (r .add-process-refusal .result) (r .add-process-refusal .ensures)
     (p .new-process .last .0) (t .new-thread .last .0) (t .before .maskable .result) (t .before .maskable .ensures) (p .new-process .ensures) (t .new-thread .ensures)
     (i .if1 .left) (search needs) (search needs)
     (bytes-each (a .args .tb .now) (λ i. omega (arith, k .before .slice-known3 .given i)))

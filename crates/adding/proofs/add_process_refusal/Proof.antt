@@ -12,7 +12,8 @@ returns : tie.Need-returns
 returns c =
     let s = c .before in
     let a = s .before .before .before .before .before in
-    process-fault (given (a .args .ps) (a .args .ts) (a .args .tb) (a .args .pb)) (a .args .id) (a .args .thread) (s .sound .result) (s .sound .ensures) (c .if1 .taken)
+    process-fault (given (a .args .ps) (a .args .ts) (a .args .tb) (a .args .pb)) (a .args .new)
+    (s .sound .result) (s .sound .ensures) (c .if1 .taken)
 
 returns-2 : tie.Need-returns-2
 returns-2 c =
@@ -20,7 +21,7 @@ returns-2 c =
     let s = i .before .before .before in
     let a = s .before .before .before .before .before in
     process-bad (given (a .args .ps) (a .args .ts) (a .args .tb) (a .args .pb))
-    (a .args .id) (a .args .thread) (s .sound .result) (s .sound .ensures) (i .before .before .if1 .left)
+    (a .args .new) (s .sound .result) (s .sound .ensures) (i .before .before .if1 .left)
     (i .before .is-id .result) (i .is-id2 .result) (i .before .is-id .ensures) (i .is-id2 .ensures) (c .if2 .taken)
 
 is-process-requires : tie.Need-is-process-requires
@@ -44,7 +45,7 @@ returns-3 c =
     let s = i .before .before .before in
     let a = s .before .before .before .before .before in
     process-there (given (a .args .ps) (a .args .ts) (a .args .tb) (a .args .pb))
-    (a .args .id) (a .args .thread) (s .sound .result) (s .sound .ensures) (i .before .before .if1 .left)
+    (a .args .new) (s .sound .result) (s .sound .ensures) (i .before .before .if1 .left)
     (i .before .is-id .result) (i .is-id2 .result) (i .before .is-id .ensures) (i .is-id2 .ensures) (t .before .before .if2 .left)
     (t .before .is-process .result) (t .is-thread .result) (t .before .is-process .ensures) (t .is-thread .ensures) (c .if3 .taken)
 
@@ -72,7 +73,7 @@ returns-4 c =
     let s = i .before .before .before in
     let a = s .before .before .before .before .before in
     process-full (given (a .args .ps) (a .args .ts) (a .args .tb) (a .args .pb))
-    (a .args .id) (a .args .thread) (s .sound .result) (s .sound .ensures) (i .before .before .if1 .left)
+    (a .args .new) (s .sound .result) (s .sound .ensures) (i .before .before .if1 .left)
     (i .before .is-id .result) (i .is-id2 .result) (i .before .is-id .ensures) (i .is-id2 .ensures) (t .before .before .if2 .left)
     (t .before .is-process .result) (t .is-thread .result) (t .before .is-process .ensures) (t .is-thread .ensures) (q .before .before .if3 .left)
     (q .before .has-process-place .result) (q .has-thread-place .result) (q .before .has-process-place .ensures) (q .has-thread-place .ensures) (c .if4 .taken)
@@ -85,7 +86,7 @@ returns-5 c =
     let s = i .before .before .before in
     let a = s .before .before .before .before .before in
     process-accepted (given (a .args .ps) (a .args .ts) (a .args .tb) (a .args .pb))
-    (a .args .id) (a .args .thread) (s .sound .result) (s .sound .ensures) (i .before .before .if1 .left)
+    (a .args .new) (s .sound .result) (s .sound .ensures) (i .before .before .if1 .left)
     (i .before .is-id .result) (i .is-id2 .result) (i .before .is-id .ensures) (i .is-id2 .ensures) (t .before .before .if2 .left)
     (t .before .is-process .result) (t .is-thread .result) (t .before .is-process .ensures) (t .is-thread .ensures) (q .before .before .if3 .left)
     (q .before .has-process-place .result) (q .has-thread-place .result) (q .before .has-process-place .ensures) (q .has-thread-place .ensures) (c .if4 .left)
@@ -96,7 +97,9 @@ add-process-refusal-spec =
     (tie.spec
     (λ c κs. search needs)
     returns
+    (λ c. search needs)
     (λ c κs. search needs)
+    (λ c. search needs)
     (λ c κs. search needs)
     returns-2
     is-process-requires

@@ -9,11 +9,15 @@ use Rattle.boundary.proofs.next_words.Tie as tie
 
 returns : tie.Need-returns
 unfolding padded nextWords
-returns c = words-case nextWords (c .before .before .before .args .next) _ (c .before .enum-told .given .1) (c .short .result) (c .short .ensures)
+returns c =
+    words-case nextWords (c .before .before .before .args .next) _ (c .before .enum-told .given .1) (c .short .result)
+    (c .short .ensures)
 
 returns-2 : tie.Need-returns-2
 unfolding padded nextWords
-returns-2 c = words-case nextWords (c .before .before .before .before .args .next) _ (c .before .before .next .given .1) (c .short2 .result) (c .short2 .ensures)
+returns-2 c =
+    words-case nextWords (c .before .before .before .before .args .next) _ (c .before .before .next .given .1)
+    (c .short2 .result) (c .short2 .ensures)
 
 returns-3 : tie.Need-returns-3
 unfolding padded nextWords infoWords

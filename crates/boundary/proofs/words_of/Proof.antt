@@ -13,7 +13,9 @@ returns c = words-case wordsOf (c .before .before .args .answer) _ (c .enum-told
 
 returns-2 : tie.Need-returns-2
 unfolding padded wordsOf
-returns-2 c = words-case wordsOf (c .before .before .before .before .args .answer) _ (c .before .before .answer .given .1) (c .reply-words .result) (c .reply-words .ensures)
+returns-2 c =
+    words-case wordsOf (c .before .before .before .before .args .answer) _ (c .before .before .answer .given .1)
+    (c .reply-words .result) (c .reply-words .ensures)
 
 pub words-of-spec : {M : Type 1} → statement M
 words-of-spec =

@@ -27,7 +27,7 @@ returns c =
     let d = w .before .before in
     let a = d .before .before .before in
     let ps = a .args .ps .now in
-    let new = placed (addedProcess (a .args .id) (a .args .real) (a .args .effective) (a .args .saved) (a .args .session)) in
+    let new = placed (addedProcess (a .args .new)) in
     w .fill-process .ensures ∙ ap (λ i. set (processesOf ps) i new) (d .free-process .ensures) ∙ filled-place isFreeProcess new (processesOf ps)
 
 pub new-process-spec : {M : Type 1} → statement M

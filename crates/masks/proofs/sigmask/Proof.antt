@@ -2,7 +2,7 @@
 use mathlib.Core.Path.{refl, sym, ap, _∙_}
 use native.Mathlib.Omega.{arith}
 use Rattle.siginfo.proofs.Numbers.{bytes-each}
-use Rattle.rules.specs.Types.{mask}
+use Rattle.rules.specs.Types.{sigmask}
 use Rattle.sound.proofs.Facts.{threads-long, thread-listed}
 use Rattle.sound.specs.Lent.{lent, given}
 use Rattle.answers.proofs.Endings.{refused-ends}
@@ -21,7 +21,7 @@ returns c =
     let set = newSet (a .args .set) in
     let n = c .before .mask-refusal .result in
     let e = c .before .mask-refusal .ensures in
-    refused-ends (mask t way set) l n e (c .if1 .taken)
+    refused-ends (sigmask t way set) l n e (c .if1 .taken)
 
 mask-of-requires : tie.Need-mask-of-requires
 mask-of-requires c κs =

@@ -1,5 +1,5 @@
 -- `sigpending` meets its contract: refused, or the pending set. Assumes nothing.
-use Rattle.rules.specs.Types.{pending}
+use Rattle.rules.specs.Types.{sigpending}
 use Rattle.sound.specs.Lent.{given}
 use Rattle.answers.proofs.Endings.{answer-of, refused-ends}
 use Rattle.answers.proofs.Rows.{live-thread}
@@ -13,7 +13,7 @@ returns c =
     let a = c .before .before .before .before .before .before in
     let l = given (a .args .ps) (a .args .ts) (a .args .tb) (a .args .pb) in
     let n = c .before .thread-refusal .result in
-    answer-of (refused-ends (pending (a .args .thread)) l n (pending-refusal l (a .args .thread) n (c .before .thread-refusal .ensures)) (c .if1 .taken))
+    answer-of (refused-ends (sigpending (a .args .thread)) l n (pending-refusal l (a .args .thread) n (c .before .thread-refusal .ensures)) (c .if1 .taken))
 
 blocked-requires : tie.Need-blocked-requires
 blocked-requires c κs =

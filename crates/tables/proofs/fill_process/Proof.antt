@@ -14,8 +14,8 @@ returns c =
     let p₂ = p₃ .before .before .before .before in
     let p₁ = p₂ .before .before .before .before in
     let p₀ = p₁ .before .before .before .before in
-    let a = p₀ .before .before .before in
-    process-filled (processesOf (a .args .ps .now)) _ _ _ _ _ _ (a .args .place) (a .args .id) (a .args .real) (a .args .effective) (a .args .saved) (a .args .session)
+    let a = p₀ .before .before .before .before .before .before .before .before in
+    process-filled (processesOf (a .args .ps .now)) _ _ _ _ _ _ (a .args .place) (a .args .new)
     (rw length-processesOf (a .pre .1))
     (p₀ .clear-process .ensures) (p₁ .put-field .ensures) (p₂ .put-field2 .ensures) (p₃ .put-field3 .ensures) (p₄ .put-field4 .ensures) (p₅ .put-field5 .ensures)
 
@@ -23,6 +23,11 @@ pub fill-process-spec : {M : Type 1} → statement M
 fill-process-spec =
     tie.close
     (tie.spec
+    (λ c. search needs)
+    (λ c. search needs)
+    (λ c. search needs)
+    (λ c. search needs)
+    (λ c. search needs)
     (λ c κs. search needs)
     (λ c κs. search needs)
     (λ c κs. search needs)
