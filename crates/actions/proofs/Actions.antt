@@ -1,4 +1,5 @@
--- How sigaction ends: its refusal by rows, what acceptance gives the work, and the tables and answer after it. Assumes nothing.
+-- How sigaction ends: its refusal by rows, what acceptance gives the work, and the tables and answer after it.
+-- Assumes nothing.
 use Prim.Native.Nat.{ℕ, _≤_}
 use mathlib.Core.Path.{_≡_, refl, sym, ap, _∙_}
 use mathlib.Core.Bool.{true, false}
@@ -52,7 +53,9 @@ module _ (l : Lent) (p s : ℕ) (new : Option Action) where
     module _ (b : badAction s new ≡ false) where
       pub action-gone : noProcessLive (viewOf l) p ≡ true → ESRCH ≡ refusalOn (sigaction p s new) l
       unfolding rows isClear
-      action-gone g = refuses-at (sigaction p s new) l refl e (einval (badAction s new) ∷ []) (esrch (noProcessLive (viewOf l) p)) [] refl (b, tt) g
+      action-gone g =
+          refuses-at (sigaction p s new) l refl e (einval (badAction s new) ∷ [])
+          (esrch (noProcessLive (viewOf l) p)) [] refl (b, tt) g
 
       pub action-none : noProcessLive (viewOf l) p ≡ false → 0 ≡ refusalOn (sigaction p s new) l
       unfolding rows isClear
@@ -98,7 +101,10 @@ module _ (l : Lent) (p s : ℕ) (new : Option Action) where
       action-ready =
           let d = action-accepted in
           ready-as
-          (record { sound = d .sound; fit = action-fits (decoded l) (store-sound l (d .sound)) p s new (d .fine) (d .live) })
+          (record {
+            sound = d .sound;
+            fit = action-fits (decoded l) (store-sound l (d .sound)) p s new (d .fine) (d .live);
+          })
           these
 
       pub action-stored : (old : Action) → old ≡ actionOf (processNamed (l .processes) p) s

@@ -1,4 +1,5 @@
--- A process or a thread that is accepted finds a free place, and the tables say what the rules' changes make. Assumes nothing.
+-- A process or a thread that is accepted finds a free place, and the tables say what the rules' changes make.
+-- Assumes nothing.
 use Prim.Native.Nat.{ℕ}
 use mathlib.Core.Path.{_≡_, refl, sym, ap, ap₂, _∙_}
 use mathlib.Core.Bool.{true, false, not, _||_}
@@ -44,7 +45,8 @@ module _ (l : Lent) (new : NewProcess) (n : ℕ) (r : n ≡ refusalOn (addProces
     unfolding rows
     places = accepted-rows (addProcess new) l (sym r ∙ z) .1 .1 .0
 
-    pub process-room : (length (l .processes) ≡ processTable) × (any isFreeProcess (heldProcesses (l .processes)) ≡ true)
+    pub process-room : (length (l .processes) ≡ processTable)
+        × (any isFreeProcess (heldProcesses (l .processes)) ≡ true)
     unfolding noProcessPlace view decoded
     process-room = (
       right-processes l process-long,
@@ -69,7 +71,8 @@ module _ (l : Lent) (new : NewProcess) (n : ℕ) (r : n ≡ refusalOn (addProces
   module _ (ps′ ts′ : List ℕ) (given : SigSet) (g : given ≡ maskable (new .mask))
       (p : processesOf ps′ ≡ fill isFreeProcess (addedProcess new) (processesOf (l .processes)))
       (t : threadsOf ts′ ≡ fill isFreeThread (threadOf (new .thread) (new .id) given) (threadsOf (l .threads))) where
-    process-made : decoded (lent ps′ ts′ (l .threadBuffer) (l .processBuffer)) ≡ applyAll (changes (viewOf l) (addProcess new))
+    process-made : decoded (lent ps′ ts′ (l .threadBuffer) (l .processBuffer))
+        ≡ applyAll (changes (viewOf l) (addProcess new))
         (decoded l)
     unfolding decoded changes addProcessChanges applyAll apply
     process-made =
@@ -78,7 +81,8 @@ module _ (l : Lent) (new : NewProcess) (n : ℕ) (r : n ≡ refusalOn (addProces
         t ∙ ap (λ (m : SigSet). fill isFreeThread (threadOf (new .thread) (new .id) m) (threadsOf (l .threads))) g in
         with-all (lent ps′ ts′ (l .threadBuffer) (l .processBuffer)) p f refl refl
 
-    pub process-added : n ≡ 0 → length ps′ ≡ length (l .processes) → length ts′ ≡ length (l .threads) → Bytes (l .threadBuffer) → Bytes (l .processBuffer)
+    pub process-added : n ≡ 0 → length ps′ ≡ length (l .processes) → length ts′ ≡ length (l .threads)
+        → Bytes (l .threadBuffer) → Bytes (l .processBuffer)
         → Ends (Accepted Done) (lent ps′ ts′ (l .threadBuffer) (l .processBuffer))
     unfolding reply
     process-added z lp lt bt bp =
@@ -100,7 +104,9 @@ module _ (l : Lent) (creator id n : ℕ) (r : n ≡ refusalOn (addThread creator
     unfolding isClear
     tables-sound = accepted-tables-sound (addThread creator id) l refl (sym r ∙ z)
 
-    pub creator-owned : (length (l .threads) ≡ threadTable) × ((any (isThread creator) (heldThreads (l .threads)) ≡ true) × (goodId (threadNamed (l .threads) creator .process) ≡ true))
+    pub creator-owned : (length (l .threads) ≡ threadTable)
+        × ((any (isThread creator) (heldThreads (l .threads)) ≡ true)
+        × (goodId (threadNamed (l .threads) creator .process) ≡ true))
     unfolding rows noThreadLive
     creator-owned = owner-known l tables-sound creator (not-false (liveThread (viewOf l) creator) (off .1 .0))
 
@@ -109,20 +115,27 @@ module _ (l : Lent) (creator id n : ℕ) (r : n ≡ refusalOn (addThread creator
 
     pub thread-room : (length (l .threads) ≡ threadTable) × (any isFreeThread (heldThreads (l .threads)) ≡ true)
     unfolding rows noThreadPlace view decoded
-    thread-room = (threads-long l tables-sound, not-false (any isFreeThread (heldThreads (l .threads))) (off .1 .1 .1 .0))
+    thread-room =
+        (threads-long l tables-sound, not-false (any isFreeThread (heldThreads (l .threads))) (off .1 .1 .1 .0))
 
-    module _ (ts′ : List ℕ) (process : ℕ) (mask : SigSet) (o : process ≡ threadNamed (l .threads) creator .process) (m : mask ≡ threadNamed (l .threads) creator .mask)
+    module _ (ts′ : List ℕ) (process : ℕ) (mask : SigSet) (o : process ≡ threadNamed (l .threads) creator .process)
+        (m : mask ≡ threadNamed (l .threads) creator .mask)
         (t : threadsOf ts′ ≡ fill isFreeThread (threadOf id process mask) (threadsOf (l .threads))) where
-      thread-made : decoded (lent (l .processes) ts′ (l .threadBuffer) (l .processBuffer)) ≡ applyAll (changes (viewOf l) (addThread creator id)) (decoded l)
+      thread-made : decoded (lent (l .processes) ts′ (l .threadBuffer) (l .processBuffer))
+          ≡ applyAll (changes (viewOf l) (addThread creator id)) (decoded l)
       unfolding decoded changes addThreadChanges applyAll apply theThread view
       thread-made =
-          let f : threadsOf ts′ ≡ fill isFreeThread (threadOf id (threadNamed (l .threads) creator .process) (threadNamed (l .threads) creator .mask)) (threadsOf (l .threads)) =
+          let f : threadsOf ts′ ≡ fill isFreeThread
+          (threadOf id (threadNamed (l .threads) creator .process) (threadNamed (l .threads) creator .mask))
+          (threadsOf (l .threads)) =
           t ∙ ap₂ (λ (k : ℕ) (s : SigSet). fill isFreeThread (threadOf id k s) (threadsOf (l .threads))) o m in
           with-all (lent (l .processes) ts′ (l .threadBuffer) (l .processBuffer)) refl f refl refl
 
       pub thread-added : length ts′ ≡ length (l .threads) → Bytes (l .threadBuffer) → Bytes (l .processBuffer)
-          → (lent (l .processes) ts′ (l .threadBuffer) (l .processBuffer), Accepted Done) ≡ stepOn (addThread creator id) l
+          → (lent (l .processes) ts′ (l .threadBuffer) (l .processBuffer), Accepted Done)
+          ≡ stepOn (addThread creator id) l
       unfolding reply
       thread-added lt bt bp =
-          accepted-ends (addThread creator id) l (sym r ∙ z) Done refl (lent (l .processes) ts′ (l .threadBuffer) (l .processBuffer))
+          accepted-ends (addThread creator id) l (sym r ∙ z) Done refl
+          (lent (l .processes) ts′ (l .threadBuffer) (l .processBuffer))
           (record { processes = refl; threads = lt; threadBuffer = refl; processBuffer = refl }) bt bp thread-made

@@ -53,7 +53,8 @@ module _ (l : Lent) (new : NewProcess) where
       unfolding rows isClear
       process-bad q = refuses-at call l refl sound-so [] bad (there ∷ full ∷ []) refl tt (bad-is true q)
 
-      module _ (q : (not g || not h) ≡ false) (p t : Bool) (ep : p ≡ any (isProcess (new .id)) (heldProcesses (l .processes)))
+      module _ (q : (not g || not h) ≡ false) (p t : Bool)
+          (ep : p ≡ any (isProcess (new .id)) (heldProcesses (l .processes)))
           (et : t ≡ any (isThread (new .thread)) (heldThreads (l .threads))) where
         there-is : (b : Bool) → (p || t) ≡ b → there .applies ≡ b
         unfolding liveProcess liveThread view decoded
@@ -61,9 +62,11 @@ module _ (l : Lent) (new : NewProcess) where
 
         pub process-there : (p || t) ≡ true → answered EEXIST
         unfolding rows isClear
-        process-there w = refuses-at call l refl sound-so (bad ∷ []) there (full ∷ []) refl (bad-is false q, tt) (there-is true w)
+        process-there w =
+            refuses-at call l refl sound-so (bad ∷ []) there (full ∷ []) refl (bad-is false q, tt) (there-is true w)
 
-        module _ (w : (p || t) ≡ false) (a b : Bool) (ea : a ≡ any isFreeProcess (heldProcesses (l .processes))) (eb : b ≡ any isFreeThread (heldThreads (l .threads))) where
+        module _ (w : (p || t) ≡ false) (a b : Bool) (ea : a ≡ any isFreeProcess (heldProcesses (l .processes)))
+            (eb : b ≡ any isFreeThread (heldThreads (l .threads))) where
           full-is : (x : Bool) → (not a || not b) ≡ x → full .applies ≡ x
           unfolding noProcessPlace noThreadPlace view decoded
           full-is x f = ap₂ (λ (y z : Bool). not y || not z) (sym ea) (sym eb) ∙ f
@@ -71,8 +74,10 @@ module _ (l : Lent) (new : NewProcess) where
           pub process-full : (not a || not b) ≡ true → answered EAGAIN
           unfolding rows isClear
           process-full f =
-              refuses-at call l refl sound-so (bad ∷ there ∷ []) full [] refl (bad-is false q, (there-is false w, tt)) (full-is true f)
+              refuses-at call l refl sound-so (bad ∷ there ∷ []) full [] refl (bad-is false q, (there-is false w, tt))
+              (full-is true f)
 
           pub process-accepted : (not a || not b) ≡ false → answered 0
           unfolding rows isClear
-          process-accepted f = refuses-none call l refl sound-so (bad-is false q, (there-is false w, (full-is false f, tt)))
+          process-accepted f =
+              refuses-none call l refl sound-so (bad-is false q, (there-is false w, (full-is false f, tt)))

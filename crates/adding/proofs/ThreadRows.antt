@@ -51,7 +51,8 @@ module _ (l : Lent) (creator id : ℕ) where
 
       pub thread-bad : not g ≡ true → answered EINVAL
       unfolding rows isClear
-      thread-bad q = refuses-at (addThread creator id) l refl sound-so [] bad (gone ∷ there ∷ full ∷ []) refl tt (bad-is true q)
+      thread-bad q =
+          refuses-at (addThread creator id) l refl sound-so [] bad (gone ∷ there ∷ full ∷ []) refl tt (bad-is true q)
 
       module _ (q : not g ≡ false) (p : Bool) (ep : p ≡ any (isThread creator) (heldThreads (l .threads))) where
         gone-is : (b : Bool) → not p ≡ b → gone .applies ≡ b
@@ -59,7 +60,9 @@ module _ (l : Lent) (creator id : ℕ) where
 
         pub thread-gone : not p ≡ true → answered ESRCH
         unfolding rows isClear
-        thread-gone w = refuses-at (addThread creator id) l refl sound-so (bad ∷ []) gone (there ∷ full ∷ []) refl (bad-is false q, tt) (gone-is true w)
+        thread-gone w =
+            refuses-at (addThread creator id) l refl sound-so (bad ∷ []) gone (there ∷ full ∷ []) refl
+            (bad-is false q, tt) (gone-is true w)
 
         module _ (w : not p ≡ false) (t : Bool) (et : t ≡ any (isThread id) (heldThreads (l .threads))) where
           there-is : (b : Bool) → t ≡ b → there .applies ≡ b
@@ -69,7 +72,8 @@ module _ (l : Lent) (creator id : ℕ) where
           pub thread-there : t ≡ true → answered EEXIST
           unfolding rows isClear
           thread-there f =
-              refuses-at (addThread creator id) l refl sound-so (bad ∷ gone ∷ []) there (full ∷ []) refl (bad-is false q, (gone-is false w, tt)) (there-is true f)
+              refuses-at (addThread creator id) l refl sound-so (bad ∷ gone ∷ []) there (full ∷ []) refl
+              (bad-is false q, (gone-is false w, tt)) (there-is true f)
 
           module _ (f : t ≡ false) (a : Bool) (ea : a ≡ any isFreeThread (heldThreads (l .threads))) where
             full-is : (b : Bool) → not a ≡ b → full .applies ≡ b

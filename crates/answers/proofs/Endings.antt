@@ -1,4 +1,5 @@
--- How a call ends: refused, or accepted with the tables that the rules' changes leave. One law for every call. Assumes nothing.
+-- How a call ends: refused, or accepted with the tables that the rules' changes leave.
+-- One law for every call. Assumes nothing.
 use Prim.Native.Nat.{ℕ}
 use mathlib.Core.Path.{_≡_, refl, sym, ap, _∙_}
 use mathlib.Core.Bool.{Bool, true, false, cond}
@@ -30,7 +31,8 @@ use Rattle.answers.specs.Step.{encoded, refusalOn, rowsOn, committed, st
 
 -- ---- words and bytes are determined by what they say
 
-pub words-of : (l : Lent) → lengthsAre l ≡ true → Bytes (l .threadBuffer) → Bytes (l .processBuffer) → encoded (decoded l) ≡ l
+pub words-of : (l : Lent) → lengthsAre l ≡ true → Bytes (l .threadBuffer) → Bytes (l .processBuffer)
+    → encoded (decoded l) ≡ l
 unfolding encoded decoded
 words-of l e bt bp =
     let a : processWordsOf (processesOf (l .processes)) ≡ l .processes =
@@ -74,7 +76,9 @@ module _ (c : Call) (l : Lent) where
 
   pub accepted-long : refusalOn c l ≡ 0 → lengthsAre l ≡ true
   unfolding refusalOn
-  accepted-long e = split (lengthsAre l) (λ a. a) (λ a. clash (ap (λ (n : ℕ). eqb n 0) (sym (ap (λ (b : Bool). cond b (refusalOf (decoded l) c) EFAULT) a) ∙ e)) refl)
+  accepted-long e =
+      split (lengthsAre l) (λ a. a) (λ a.
+      clash (ap (λ (n : ℕ). eqb n 0) (sym (ap (λ (b : Bool). cond b (refusalOf (decoded l) c) EFAULT) a) ∙ e)) refl)
 
   pub accepted-rules : refusalOn c l ≡ 0 → refusalOf (decoded l) c ≡ 0
   unfolding refusalOn
@@ -97,7 +101,8 @@ module _ (c : Call) (l : Lent) where
     refused-step =
         split (lengthsAre l)
         (λ a.
-        let r : refusalOn c l ≡ refusalOf (decoded l) c = ap (λ (b : Bool). cond b (refusalOf (decoded l) c) EFAULT) a in
+        let r : refusalOn c l ≡ refusalOf (decoded l) c =
+        ap (λ (b : Bool). cond b (refusalOf (decoded l) c) EFAULT) a in
         let s : step c (decoded l) .1 ≡ Refused (refusalOf (decoded l) c) = refused-number c (decoded l)
         (λ z. n (r ∙ z)) in
         rw (a, s))
@@ -116,7 +121,8 @@ module _ (c : Call) (l : Lent) where
     unfolding step finish stages runStages
     step-is = ap (λ (n : ℕ). finish n c (decoded l)) (accepted-rules e)
 
-    pub accepted-step : stepOn c l ≡ (encoded (applyAll (changes (viewOf l) c) (decoded l)), Accepted (reply (viewOf l) c))
+    pub accepted-step : stepOn c l
+        ≡ (encoded (applyAll (changes (viewOf l) c) (decoded l)), Accepted (reply (viewOf l) c))
     unfolding stepOn committed isRefused
     accepted-step = rw (accepted-long e, step-is)
 
@@ -128,7 +134,8 @@ module _ (c : Call) (l : Lent) where
     -- a call that changes nothing
     pub tables-same : Bytes (l .threadBuffer) → Bytes (l .processBuffer) → changes (viewOf l) c ≡ [] → l ≡ stepOn c l .0
     unfolding applyAll
-    tables-same bt bp h = tables-after l (accepted-long e) bt bp (sym (ap (λ (cs : List Change). applyAll cs (decoded l)) h))
+    tables-same bt bp h =
+        tables-after l (accepted-long e) bt bp (sym (ap (λ (cs : List Change). applyAll cs (decoded l)) h))
 
     -- of a call that only answers, all there is to show
     pub answer-after : (a : Reply) → a ≡ reply (viewOf l) c → Accepted a ≡ stepOn c l .1
@@ -161,9 +168,11 @@ module _ (c : Call) (l : Lent) where
       λ i. (refused-tables c l k i, (ap Refused r ∙ refused-answer c l k) i)
 
   module _ (e : refusalOn c l ≡ 0) (a : Reply) (h : a ≡ reply (viewOf l) c) where
-    pub same-ends : Bytes (l .threadBuffer) → Bytes (l .processBuffer) → changes (viewOf l) c ≡ [] → (l, Accepted a) ≡ stepOn c l
+    pub same-ends : Bytes (l .threadBuffer) → Bytes (l .processBuffer) → changes (viewOf l) c ≡ []
+        → (l, Accepted a) ≡ stepOn c l
     same-ends bt bp k = λ i. (tables-same c l e bt bp k i, answer-after c l e a h i)
 
     pub accepted-ends : (m : Lent) → AsLong l m → Bytes (m .threadBuffer) → Bytes (m .processBuffer)
         → decoded m ≡ applyAll (changes (viewOf l) c) (decoded l) → (m, Accepted a) ≡ stepOn c l
-    accepted-ends m s bt bp k = λ i. (tables-after c l e m (long-after l m s (accepted-long c l e)) bt bp k i, answer-after c l e a h i)
+    accepted-ends m s bt bp k =
+        λ i. (tables-after c l e m (long-after l m s (accepted-long c l e)) bt bp k i, answer-after c l e a h i)

@@ -1,4 +1,5 @@
--- The rows of a refusal as code tries them: the first that applies is the one given; and what the row of who is not live tells. Assumes nothing.
+-- The rows of a refusal as code tries them: the first that applies is the one given;
+-- and what the row of who is not live tells. Assumes nothing.
 use Prim.Native.Nat.{ℕ}
 use mathlib.Core.Path.{_≡_, refl, sym, ap, _∙_}
 use mathlib.Core.Bool.{Bool, true, false, cond}
@@ -18,8 +19,10 @@ use Rattle.answers.proofs.Endings.{rows-fault, rows-sound, rows-given, 
 -- ---- any rows
 
 module _ (l : Lent) (s : soundTables l ≡ true) where
-  pub rows-at : (before : List Row) (r : Row) (after : List Row) → All Off before → r .applies ≡ true → r .errno ≡ rowsOn (before ++ (r ∷ after)) l
-  rows-at before r after off on = rows-sound (before ++ (r ∷ after)) l s (r .errno) (sym (first-given before r after off on))
+  pub rows-at : (before : List Row) (r : Row) (after : List Row) → All Off before → r .applies ≡ true
+      → r .errno ≡ rowsOn (before ++ (r ∷ after)) l
+  rows-at before r after off on =
+      rows-sound (before ++ (r ∷ after)) l s (r .errno) (sym (first-given before r after off on))
 
   pub rows-none : (rs : List Row) → All Off rs → 0 ≡ rowsOn rs l
   rows-none rs off = rows-sound rs l s 0 (sym (none-given rs off))
@@ -47,9 +50,11 @@ module _ (c : Call) (l : Lent) (k : isClear c ≡ false) where
   refuses-fault s = rows-fault (rows (viewOf l) c) l s ∙ sym (rows-given c l k)
 
   module _ (s : soundTables l ≡ true) where
-    pub refuses-at : (before : List Row) (r : Row) (after : List Row) → rows (viewOf l) c ≡ before ++ (r ∷ after) → All Off before
+    pub refuses-at : (before : List Row) (r : Row) (after : List Row) → rows (viewOf l) c ≡ before ++ (r ∷ after)
+        → All Off before
         → r .applies ≡ true → r .errno ≡ refusalOn c l
-    refuses-at before r after e off on = rows-at l s before r after off on ∙ ap (λ (rs : List Row). rowsOn rs l) (sym e) ∙ sym (rows-given c l k)
+    refuses-at before r after e off on =
+        rows-at l s before r after off on ∙ ap (λ (rs : List Row). rowsOn rs l) (sym e) ∙ sym (rows-given c l k)
 
     pub refuses-none : All Off (rows (viewOf l) c) → 0 ≡ refusalOn c l
     refuses-none off = rows-none l s (rows (viewOf l) c) off ∙ sym (rows-given c l k)
@@ -57,14 +62,20 @@ module _ (c : Call) (l : Lent) (k : isClear c ≡ false) where
 -- ---- the one row of many calls, from the number that another function found
 
 module _ (l : Lent) (id n : ℕ) where
-  pub live-process : n ≡ rowsOn (esrch (noProcessLive (viewOf l) id) ∷ []) l → n ≡ 0 → (soundTables l ≡ true) × (liveProcess (viewOf l) id ≡ true)
+  pub live-process : n ≡ rowsOn (esrch (noProcessLive (viewOf l) id) ∷ []) l → n ≡ 0
+      → (soundTables l ≡ true) × (liveProcess (viewOf l) id ≡ true)
   unfolding rows isClear noProcessLive
   live-process e z =
-      let k : refusalOn (endProcess id) l ≡ 0 = rows-given (endProcess id) l refl ∙ sym e ∙ z in
-      (accepted-tables-sound (endProcess id) l refl k, not-false (liveProcess (viewOf l) id) (accepted-rows (endProcess id) l k .0))
+      let k : refusalOn (endProcess id) l ≡ 0 = rows-given (endProcess id) l refl ∙ sym e ∙ z in (
+        accepted-tables-sound (endProcess id) l refl k,
+        not-false (liveProcess (viewOf l) id) (accepted-rows (endProcess id) l k .0),
+      )
 
-  pub live-thread : n ≡ rowsOn (esrch (noThreadLive (viewOf l) id) ∷ []) l → n ≡ 0 → (soundTables l ≡ true) × (liveThread (viewOf l) id ≡ true)
+  pub live-thread : n ≡ rowsOn (esrch (noThreadLive (viewOf l) id) ∷ []) l → n ≡ 0
+      → (soundTables l ≡ true) × (liveThread (viewOf l) id ≡ true)
   unfolding rows isClear noThreadLive
   live-thread e z =
-      let k : refusalOn (endThread id) l ≡ 0 = rows-given (endThread id) l refl ∙ sym e ∙ z in
-      (accepted-tables-sound (endThread id) l refl k, not-false (liveThread (viewOf l) id) (accepted-rows (endThread id) l k .0))
+      let k : refusalOn (endThread id) l ≡ 0 = rows-given (endThread id) l refl ∙ sym e ∙ z in (
+        accepted-tables-sound (endThread id) l refl k,
+        not-false (liveThread (viewOf l) id) (accepted-rows (endThread id) l k .0),
+      )

@@ -17,9 +17,11 @@ use Rattle.sound.specs.Lent.{Lent, lent, decoded, lengthsAre, soundTables, Slic
 -- the words and bytes that say it
 unfoldable pub encoded : Store → Lent
 encoded st =
-    lent (processWordsOf (st .processes)) (threadWordsOf (st .threads)) (slotBytes (st .threadBuffer)) (slotBytes (st .processBuffer))
+    lent (processWordsOf (st .processes)) (threadWordsOf (st .threads)) (slotBytes (st .threadBuffer))
+    (slotBytes (st .processBuffer))
 
--- "a lent table has another length than above", or else the rows of the rules, which begin with the store that is not sound; 0 where none applies
+-- "a lent table has another length than above", or else the rows of the rules,
+-- which begin with the store that is not sound; 0 where none applies
 unfoldable pub refusalOn : Call → Lent → ℕ
 refusalOn c l = cond (lengthsAre l) (refusalOf (decoded l) c) EFAULT
 

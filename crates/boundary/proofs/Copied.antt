@@ -12,8 +12,11 @@ module _ (out words : List ℕ) (i : ℕ) (l : List ℕ) (w : length words ≡ a
   pub written-length : answerWords ≤ length out → (i ≤ answerWords) × (l ≡ paste out 0 words i) → length l ≡ length out
   written-length r h = ap length (h .1) ∙ paste-long words out i (omega (arith, w, h .0)) (omega (arith, r, h .0))
 
-  pub written-more : answerWords ≤ length out → (i ≤ answerWords) × (l ≡ paste out 0 words i) → i < answerWords → set l i (getD words i 0) ≡ paste out 0 words (i + 1)
-  written-more r h b = ap (λ (x : List ℕ). set x i (getD words i 0)) (h .1) ∙ paste-more words out i 0 (omega (arith, w, b)) (omega (arith, r, b))
+  pub written-more : answerWords ≤ length out → (i ≤ answerWords) × (l ≡ paste out 0 words i) → i < answerWords
+      → set l i (getD words i 0) ≡ paste out 0 words (i + 1)
+  written-more r h b =
+      ap (λ (x : List ℕ). set x i (getD words i 0)) (h .1)
+      ∙ paste-more words out i 0 (omega (arith, w, b)) (omega (arith, r, b))
 
   pub written-all : (i ≤ answerWords) × (l ≡ paste out 0 words i) → i ≡ answerWords → l ≡ words ++ drop answerWords out
   written-all h e =

@@ -27,8 +27,10 @@ pub call-bounds : (n : ℕ) → isCall n ≡ true → (callClear ≤ n) × (n �
 unfolding isCall
 call-bounds n e =
     let low : Bool = ltb n callClear in
-    let high : Bool = ltb callSigreturn n in
-    (ltb-false n callClear (not-true low (and-fst (not low) (not high) e)), ltb-false callSigreturn n (not-true high (and-snd (not low) (not high) e)))
+    let high : Bool = ltb callSigreturn n in (
+      ltb-false n callClear (not-true low (and-fst (not low) (not high) e)),
+      ltb-false callSigreturn n (not-true high (and-snd (not low) (not high) e)),
+    )
 
 -- n is none of the first k numbers from 1 on
 abbrev pub Passed : ℕ → ℕ → Type 0

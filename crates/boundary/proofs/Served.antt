@@ -16,7 +16,8 @@ use Rattle.rules.specs.Types.{Call}
 use Rattle.sound.specs.Lent.{Lent, lengthsAre, soundTables}
 use Rattle.answers.specs.Step.{stepOn}
 use Rattle.answers.proofs.Endings.{tables-of, answer-of}
-use Rattle.boundary.specs.Boundary.{Arguments, isCall, numbered, wordsOf, errnoOf, written, usable, accepted, serveOn, servedBy, served}
+use Rattle.boundary.specs.Boundary.{Arguments, isCall, numbered, wordsOf, errnoOf, written, usable, accepted}
+use Rattle.boundary.specs.Boundary.{serveOn, servedBy, served}
 
 -- ---- errno 14's row
 
@@ -44,13 +45,15 @@ module _ (n room : ℕ) (t : accepted n room ≡ true) where
 
   pub accepted-room : answerWords ≤ room
   unfolding accepted
-  accepted-room = ltb-false room answerWords (not-true (ltb room answerWords) (and-snd (isCall n) (not (ltb room answerWords)) t))
+  accepted-room =
+      ltb-false room answerWords (not-true (ltb room answerWords) (and-snd (isCall n) (not (ltb room answerWords)) t))
 
 -- ---- the end of a call
 
 kept-words : (a : Answer) (out : List ℕ) → (errnoOf a ≡ 0 → ⊥) → out ≡ written a out
 unfolding written
-kept-words a out f = sym (cond-false (padded 0 answerWords (wordsOf a) ++ drop answerWords out) out (ne-eqb (errnoOf a) 0 f))
+kept-words a out f =
+    sym (cond-false (padded 0 answerWords (wordsOf a) ++ drop answerWords out) out (ne-eqb (errnoOf a) 0 f))
 
 no-errno : (b : Bool) → errnoOf (Refused (cond b EINVAL EFAULT)) ≡ 0 → ⊥
 unfolding errnoOf
@@ -77,7 +80,8 @@ module _ (n : ℕ) (g : Arguments) (l : Lent) (out : List ℕ) where
       (cond-false (stepOn (numbered n g) l) (l, Refused (cond (usable n l) EINVAL EFAULT)) f) r l out e refl
       (kept-words (Refused (cond (usable n l) EINVAL EFAULT)) out (no-errno (usable n l)))
 
-  module _ (t : accepted n room ≡ true) (c : Call) (e : c ≡ numbered n g) (a : Answer) (m : Lent) (h : (m, a) ≡ stepOn c l) where
+  module _ (t : accepted n room ≡ true) (c : Call) (e : c ≡ numbered n g) (a : Answer) (m : Lent)
+      (h : (m, a) ≡ stepOn c l) where
     is-step : serveOn n g room l ≡ stepOn c l
     unfolding serveOn
     is-step =
@@ -96,5 +100,7 @@ module _ (n : ℕ) (g : Arguments) (l : Lent) (out : List ℕ) where
         let none : errnoOf (stepOn c l .1) ≡ 0 = ap errnoOf (sym (answer-of h)) ∙ sym i ∙ z in
         ends (stepOn c l) is-step 0 m o (sym none) (tables-of h)
         (p
-        ∙ ap (λ (x : List ℕ). x ++ drop answerWords out) (w ∙ ap (λ (x : Answer). padded 0 answerWords (wordsOf x)) (answer-of h))
-        ∙ sym (cond-true (padded 0 answerWords (wordsOf (stepOn c l .1)) ++ drop answerWords out) out (eq-eqb (errnoOf (stepOn c l .1)) 0 none)))
+        ∙ ap (λ (x : List ℕ). x ++ drop answerWords out)
+        (w ∙ ap (λ (x : Answer). padded 0 answerWords (wordsOf x)) (answer-of h))
+        ∙ sym (cond-true (padded 0 answerWords (wordsOf (stepOn c l .1)) ++ drop answerWords out) out
+        (eq-eqb (errnoOf (stepOn c l .1)) 0 none)))

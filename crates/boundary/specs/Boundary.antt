@@ -5,7 +5,11 @@ use mathlib.Core.List.{List, [], _∷_, _++_}
 use mathlib.Core.Option.{Option, some, none}
 use lib.Dec.{eqb, ltb}
 use lib.ListN.{getD, drop, length}
-use Rattle.limits.specs.Limits.{EFAULT, EINVAL, callClear, callSigreturn, answerDone, answerTested, answerActed, answerDropped, answerAbsorbed, answerMarked, answerKept, answerOldAction, answerOldMask, answerPendingSet, answerNextNothing, answerNextMark, answerNextRecord, answerCanTake, answerNoneCan, answerNothing, answerHandler, answerEnd, answerStop, answerNoAction, answerWords}
+use Rattle.limits.specs.Limits.{EFAULT, EINVAL, callClear, callSigreturn, answerDone, answerTested, answerActed}
+use Rattle.limits.specs.Limits.{answerDropped, answerAbsorbed, answerMarked, answerKept, answerOldAction, answerOldMask}
+use Rattle.limits.specs.Limits.{answerPendingSet, answerNextNothing, answerNextMark, answerNextRecord, answerCanTake}
+use Rattle.limits.specs.Limits.{answerNoneCan, answerNothing, answerHandler, answerEnd, answerStop, answerNoAction}
+use Rattle.limits.specs.Limits.{answerWords}
 use Rattle.lists.specs.Lists.{padded}
 use Rattle.sigset.specs.Set.{bits}
 use Rattle.types.specs.declared.Siginfo.{Siginfo}
@@ -46,7 +50,8 @@ arguments a b c d e f x y z = record { a = a; b = b; c = c; d = d; e = e; f = f;
 unfoldable pub whereGiven : {A : Type 0} → ℕ → A → Option A
 whereGiven n v = cond (eqb n 0) none (some v)
 
--- each call with its arguments in the documented order, those of 32 bits from a on and those of 64 from x on; what it has no use for is not read
+-- each call with its arguments in the documented order, those of 32 bits from a on and those of 64 from x on;
+-- what it has no use for is not read
 unfoldable pub callsOf : Arguments → List Call
 callsOf g =
     clear
@@ -122,7 +127,8 @@ unfoldable pub errnoOf : Answer → ℕ
 errnoOf (Refused n) = n
 errnoOf (Accepted r) = 0
 
--- the lent words after a call: the answer's from the first on, with zeros up to the longest answer's; "Every refusal writes nothing"
+-- the lent words after a call: the answer's from the first on, with zeros up to the longest answer's;
+-- "Every refusal writes nothing"
 unfoldable pub written : Answer → List ℕ → List ℕ
 written a out = cond (eqb (errnoOf a) 0) (padded 0 answerWords (wordsOf a) ++ drop answerWords out) out
 

@@ -1,4 +1,5 @@
--- A call by its value ends as the call itself; one that changes nothing leaves every table as it was, refused or not. Assumes nothing.
+-- A call by its value ends as the call itself; one that changes nothing leaves every table as it was, refused or not.
+-- Assumes nothing.
 use mathlib.Core.Path.{_≡_, refl, sym, ap, _∙_}
 use mathlib.Core.List.{[]}
 use lib.Dec.{eqb}

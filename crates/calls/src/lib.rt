@@ -99,7 +99,8 @@ fn ask(ps: &[u64], ts: &[u64], tb: &[u8], pb: &[u8], c: Asking) -> Answer
     }
 }
 
-// One call on the lent tables. Any tables and any arguments are answered; a refused call leaves every table exactly as it was.
+// One call on the lent tables. Any tables and any arguments are answered;
+// a refused call leaves every table exactly as it was.
 pub fn step(ps: &mut [u64], ts: &mut [u64], tb: &mut [u8], pb: &mut [u8], c: Call) -> Answer
     ensures { λ r. ⌜ stepped (callOf c) r ps ts tb pb ⌝ }
 {

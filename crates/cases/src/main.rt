@@ -1,5 +1,6 @@
-// Document 01's "Numbers to run against": tables of calls, made one after the other through the boundary's entry, and a line for each number with what
-// was answered. Signals that are taken have a flagless handler unless the case says otherwise, and a return follows each take.
+// Document 01's "Numbers to run against": tables of calls,
+// made one after the other through the boundary's entry, and a line for each number with what was answered.
+// Signals that are taken have a flagless handler unless the case says otherwise, and a return follows each take.
 use limits::ANSWER_HANDLER;
 use limits::ANSWER_WORDS;
 use limits::BUFFER_BYTES;
@@ -302,7 +303,8 @@ fn defaults(k: u64) -> Row {
 
 // ---- a row
 
-// Is the answer written? The call's number, four arguments of 32 bits, and three of 64; two more of 32 bits are read by add_process alone.
+// Is the answer written? The call's number, four arguments of 32 bits, and three of 64;
+// two more of 32 bits are read by add_process alone.
 struct Call(bool, u32, u32, u32, u32, u32, u64, u64, u64);
 
 fn call_of(row: Row, saved: u64) -> Call {

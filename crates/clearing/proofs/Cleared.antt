@@ -32,7 +32,8 @@ module _ (l : Lent) (b : Bool) (e : b ≡ lengthsAre l) where
   pub clear-long : not b ≡ false → lengthsAre l ≡ true
   clear-long f = sym e ∙ not-false b f
 
-  pub clear-done : not b ≡ false → (m : Lent) → AsLong l m → Bytes (m .threadBuffer) → Bytes (m .processBuffer) → decoded m ≡ apply forget (decoded l)
+  pub clear-done : not b ≡ false → (m : Lent) → AsLong l m → Bytes (m .threadBuffer) → Bytes (m .processBuffer)
+      → decoded m ≡ apply forget (decoded l)
       → (m, Accepted Done) ≡ stepOn clear l
   unfolding reply changes applyAll
   clear-done f m s bt bp h =

@@ -12,7 +12,8 @@ use Rattle.sound.specs.Lent.{Lent, decoded, viewOf, soundTables}
 use Rattle.sound.proofs.Facts.{as-long, right-lengths, store-sound}
 
 pub sound-after : (ch : Change) (l l′ : Lent) → soundTables l ≡ true → fits (viewOf l) ch ≡ true
-    → length (l′ .processes) ≡ length (l .processes) → length (l′ .threads) ≡ length (l .threads) → length (l′ .threadBuffer) ≡ length (l .threadBuffer) → length (l′ .processBuffer) ≡ length (l .processBuffer)
+    → length (l′ .processes) ≡ length (l .processes) → length (l′ .threads) ≡ length (l .threads)
+    → length (l′ .threadBuffer) ≡ length (l .threadBuffer) → length (l′ .processBuffer) ≡ length (l .processBuffer)
     → decoded l′ ≡ apply ch (decoded l) → soundTables l′ ≡ true
 unfolding soundTables
 sound-after ch l l′ e f p t b q k =

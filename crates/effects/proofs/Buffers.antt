@@ -1,4 +1,5 @@
--- A record more at the end of its buffer, or the oldest of a queue and signal less, is what the rules' change makes of the store. Assumes nothing.
+-- A record more at the end of its buffer, or the oldest of a queue and signal less,
+-- is what the rules' change makes of the store. Assumes nothing.
 use Prim.Native.Nat.{ℕ, _<_}
 use mathlib.Core.Path.{_≡_, refl, sym, ap, _∙_}
 use mathlib.Core.Bool.{true, false}
@@ -31,15 +32,19 @@ module _ (l : Lent) where
   unfolding view
   append-room e r f =
       let v = viewOf l in
-      room l e (r .process) (target-process v (r .process) (r .thread) (queue-target v (r .process) (r .thread) (append-queue v r f))) (append-below v r f)
+      room l e (r .process)
+      (target-process v (r .process) (r .thread) (queue-target v (r .process) (r .thread) (append-queue v r f)))
+      (append-below v r f)
 
   module _ (r : Siginfo) where
-    pub append-process : eqb (r .thread) 0 ≡ true → (pb′ : List ℕ) → slotsOf pb′ ≡ onSlots (appended r) (slotsOf (l .processBuffer))
+    pub append-process : eqb (r .thread) 0 ≡ true → (pb′ : List ℕ)
+        → slotsOf pb′ ≡ onSlots (appended r) (slotsOf (l .processBuffer))
         → decoded (lent (l .processes) (l .threads) (l .threadBuffer) pb′) ≡ apply (append r) (decoded l)
     unfolding apply decoded appended
     append-process z pb′ k = rw z (with-all (lent (l .processes) (l .threads) (l .threadBuffer) pb′) refl refl refl k)
 
-    pub append-thread : eqb (r .thread) 0 ≡ false → (tb′ : List ℕ) → slotsOf tb′ ≡ onSlots (appended r) (slotsOf (l .threadBuffer))
+    pub append-thread : eqb (r .thread) 0 ≡ false → (tb′ : List ℕ)
+        → slotsOf tb′ ≡ onSlots (appended r) (slotsOf (l .threadBuffer))
         → decoded (lent (l .processes) (l .threads) tb′ (l .processBuffer)) ≡ apply (append r) (decoded l)
     unfolding apply decoded appended
     append-thread z tb′ k = rw z (with-all (lent (l .processes) (l .threads) tb′ (l .processBuffer)) refl refl k refl)
@@ -47,12 +52,15 @@ module _ (l : Lent) where
   -- ---- the oldest
 
   module _ (q : Queue) (s k : ℕ) where
-    oldest-slots : (b : List ℕ) → k ≡ find (inQueue q s) (recordsOf b) → onSlots (removeAt k) (slotsOf b) ≡ onSlots (dropFirst (inQueue q s)) (slotsOf b)
+    oldest-slots : (b : List ℕ) → k ≡ find (inQueue q s) (recordsOf b)
+        → onSlots (removeAt k) (slotsOf b) ≡ onSlots (dropFirst (inQueue q s)) (slotsOf b)
     unfolding onSlots recordsOf
     oldest-slots b here =
-        ap (padded noSiginfo bufferRecords) (ap (λ i. removeAt i (used (slotsOf b))) here ∙ drop-oldest (inQueue q s) (used (slotsOf b)))
+        ap (padded noSiginfo bufferRecords)
+        (ap (λ i. removeAt i (used (slotsOf b))) here ∙ drop-oldest (inQueue q s) (used (slotsOf b)))
 
-    oldest-inside : (b : List ℕ) → k ≡ find (inQueue q s) (recordsOf b) → any (inQueue q s) (recordsOf b) ≡ true → k < length (recordsOf b)
+    oldest-inside : (b : List ℕ) → k ≡ find (inQueue q s) (recordsOf b) → any (inQueue q s) (recordsOf b) ≡ true
+        → k < length (recordsOf b)
     oldest-inside b here e = rw here (find-any (inQueue q s) (recordsOf b) e)
 
     module _ (f : fits (viewOf l) (dropOldest q s) ≡ true) where
@@ -60,20 +68,28 @@ module _ (l : Lent) where
       unfolding fits view
       there = sym (isSome-first (inQueue q s) (recordsFor q (decoded l))) ∙ f
 
-      pub oldest-process : eqb (q .thread) 0 ≡ true → k ≡ find (inQueue q s) (recordsOf (l .processBuffer)) → k < length (recordsOf (l .processBuffer))
+      pub oldest-process : eqb (q .thread) 0 ≡ true → k ≡ find (inQueue q s) (recordsOf (l .processBuffer))
+          → k < length (recordsOf (l .processBuffer))
       unfolding recordsFor recordsOf decoded
       oldest-process z here = oldest-inside (l .processBuffer) here (rw z at there)
 
-      pub oldest-thread : eqb (q .thread) 0 ≡ false → k ≡ find (inQueue q s) (recordsOf (l .threadBuffer)) → k < length (recordsOf (l .threadBuffer))
+      pub oldest-thread : eqb (q .thread) 0 ≡ false → k ≡ find (inQueue q s) (recordsOf (l .threadBuffer))
+          → k < length (recordsOf (l .threadBuffer))
       unfolding recordsFor recordsOf decoded
       oldest-thread z here = oldest-inside (l .threadBuffer) here (rw z at there)
 
-    pub drop-process : eqb (q .thread) 0 ≡ true → k ≡ find (inQueue q s) (recordsOf (l .processBuffer)) → (pb′ : List ℕ) → slotsOf pb′ ≡ onSlots (removeAt k) (slotsOf (l .processBuffer))
+    pub drop-process : eqb (q .thread) 0 ≡ true → k ≡ find (inQueue q s) (recordsOf (l .processBuffer)) → (pb′ : List ℕ)
+        → slotsOf pb′ ≡ onSlots (removeAt k) (slotsOf (l .processBuffer))
         → decoded (lent (l .processes) (l .threads) (l .threadBuffer) pb′) ≡ apply (dropOldest q s) (decoded l)
     unfolding apply decoded
-    drop-process z here pb′ e = rw z (with-all (lent (l .processes) (l .threads) (l .threadBuffer) pb′) refl refl refl (e ∙ oldest-slots (l .processBuffer) here))
+    drop-process z here pb′ e =
+        rw z (with-all (lent (l .processes) (l .threads) (l .threadBuffer) pb′) refl refl refl
+        (e ∙ oldest-slots (l .processBuffer) here))
 
-    pub drop-thread : eqb (q .thread) 0 ≡ false → k ≡ find (inQueue q s) (recordsOf (l .threadBuffer)) → (tb′ : List ℕ) → slotsOf tb′ ≡ onSlots (removeAt k) (slotsOf (l .threadBuffer))
+    pub drop-thread : eqb (q .thread) 0 ≡ false → k ≡ find (inQueue q s) (recordsOf (l .threadBuffer)) → (tb′ : List ℕ)
+        → slotsOf tb′ ≡ onSlots (removeAt k) (slotsOf (l .threadBuffer))
         → decoded (lent (l .processes) (l .threads) tb′ (l .processBuffer)) ≡ apply (dropOldest q s) (decoded l)
     unfolding apply decoded
-    drop-thread z here tb′ e = rw z (with-all (lent (l .processes) (l .threads) tb′ (l .processBuffer)) refl refl (e ∙ oldest-slots (l .threadBuffer) here) refl)
+    drop-thread z here tb′ e =
+        rw z (with-all (lent (l .processes) (l .threads) tb′ (l .processBuffer)) refl refl
+        (e ∙ oldest-slots (l .threadBuffer) here) refl)

@@ -43,7 +43,8 @@ module _ (xs ys : List Change) (st : Store) where
 
   module _ (st′ : Store) (e : st′ ≡ applyAll xs st) where
     pub second-part-fits : fitsAll (xs ++ ys) st ≡ true → fitsAll ys st′ ≡ true
-    second-part-fits f = ap (fitsAll ys) e ∙ and-snd (fitsAll xs st) (fitsAll ys (applyAll xs st)) (sym (fitsAll-append xs ys st) ∙ f)
+    second-part-fits f =
+        ap (fitsAll ys) e ∙ and-snd (fitsAll xs st) (fitsAll ys (applyAll xs st)) (sym (fitsAll-append xs ys st) ∙ f)
 
     pub then-part : (st″ : Store) → st″ ≡ applyAll ys st′ → st″ ≡ applyAll (xs ++ ys) st
     then-part st″ h = h ∙ ap (applyAll ys) e ∙ sym (applyAll-append xs ys st)

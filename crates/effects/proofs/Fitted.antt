@@ -12,7 +12,8 @@ use Rattle.sigset.specs.Set.{Signal}
 use Rattle.types.specs.declared.Action.{Action}
 use Rattle.types.specs.declared.Siginfo.{Siginfo}
 use Rattle.rules.specs.Types.{Queue}
-use Rattle.rules.specs.View.{View, removeProcess, removeThread, setStopped, setAction, setMask, setMark, clearMark, append, discard, queueOf, liveProcess, liveThread, theThread}
+use Rattle.rules.specs.View.{View, removeProcess, removeThread, setStopped, setAction, setMask, setMark, clearMark}
+use Rattle.rules.specs.View.{append, discard, queueOf, liveProcess, liveThread, theThread}
 use Rattle.rules.specs.Sound.{unmasked, nameable}
 use Rattle.rules.specs.Adding.{otherThread}
 use Rattle.rules.specs.Fitting.{liveQueue, admits, fits}
@@ -61,9 +62,12 @@ module _ (v : View) where
   module _ (r : Siginfo) (f : fits v (append r) ≡ true) where
     pub append-queue : liveQueue v (queueOf r) ≡ true
     unfolding fits admits
-    append-queue = and-fst (liveQueue v (queueOf r)) _ (and-fst (admits v (queueOf r) (r .signal)) _ (and-snd (eqb (r .code) siQueue) _ f))
+    append-queue =
+        and-fst (liveQueue v (queueOf r)) _
+        (and-fst (admits v (queueOf r) (r .signal)) _ (and-snd (eqb (r .code) siQueue) _ f))
 
     pub append-below : v .queued (r .process) < recordLimit
     unfolding fits
     append-below =
-        ltb-true (v .queued (r .process)) recordLimit (and-snd (admits v (queueOf r) (r .signal)) _ (and-snd (eqb (r .code) siQueue) _ f))
+        ltb-true (v .queued (r .process)) recordLimit
+        (and-snd (admits v (queueOf r) (r .signal)) _ (and-snd (eqb (r .code) siQueue) _ f))

@@ -1,4 +1,5 @@
--- Marks read, changed and stored at a place are those of the place with its marks changed; and a turn of the loops over the threads of a process. Assumes nothing.
+-- Marks read, changed and stored at a place are those of the place with its marks changed;
+-- and a turn of the loops over the threads of a process. Assumes nothing.
 use Prim.Native.Nat.{ℕ, _+_, _≤_, _<_}
 use mathlib.Core.Path.{_≡_, sym, ap, _∙_}
 use mathlib.Core.Bool.{true, false, not, _&&_, cond}
@@ -17,7 +18,8 @@ use Rattle.sigset.specs.Set.{bits}
 use Rattle.rules.specs.Types.{Process, Thread}
 use Rattle.rules.specs.View.{isProcess, isThread, belongsTo}
 use Rattle.rules.specs.Store.{Place, freeThread, vacate}
-use Rattle.tables.specs.Tables.{processesOf, threadsOf, heldProcesses, heldThreads, processAt, threadAt, headTo, headed, threadTo, threadFrom, withField, withThreadField}
+use Rattle.tables.specs.Tables.{processesOf, threadsOf, heldProcesses, heldThreads, processAt, threadAt, headTo, headed}
+use Rattle.tables.specs.Tables.{threadTo, threadFrom, withField, withThreadField}
 use Rattle.tables.proofs.Words.{length-threadsOf}
 use Rattle.effects.specs.declared.Marking.{Marking}
 use Rattle.effects.specs.Effects.{markedBy, withMarking, withMarkingOf}
@@ -25,28 +27,36 @@ use Rattle.effects.specs.Effects.{markedBy, withMarking, withMarkingOf}
 -- ---- one place: u is the word that was read, m what it became
 
 module _ (how : Marking) (u : ℕ) (m : SigSet) (e : m ≡ markedBy how (bits u)) where
-  process-marked : (x : Place Process) → u ≡ getD (headTo x) processMarks 0 → withField processMarks (m .0) x ≡ withMarking how x
+  process-marked : (x : Place Process) → u ≡ getD (headTo x) processMarks 0
+      → withField processMarks (m .0) x ≡ withMarking how x
   unfolding withField headed headTo withMarking
   process-marked x k =
       ap (λ (n : SigSet). record { holds = x .holds; marks = n }) (e ∙ ap (λ w. markedBy how (bits w)) k)
 
-  thread-marked : (x : Place Thread) → u ≡ getD (threadTo x) threadMarks 0 → withThreadField threadMarks (m .0) x ≡ withMarking how x
+  thread-marked : (x : Place Thread) → u ≡ getD (threadTo x) threadMarks 0
+      → withThreadField threadMarks (m .0) x ≡ withMarking how x
   unfolding withThreadField threadFrom threadTo withMarking
   thread-marked x k =
       ap (λ (n : SigSet). record { holds = x .holds; marks = n }) (e ∙ ap (λ w. markedBy how (bits w)) k)
 
   module _ (ws ws′ : List ℕ) (n place : ℕ) where
-    pub process-marks-changed : place ≡ find (isProcess n) (heldProcesses ws) → u ≡ getD (headTo (processAt ws place)) processMarks 0
+    pub process-marks-changed : place ≡ find (isProcess n) (heldProcesses ws)
+        → u ≡ getD (headTo (processAt ws place)) processMarks 0
         → processesOf ws′ ≡ set (processesOf ws) place (withField processMarks (m .0) (processAt ws place))
-        → processesOf ws′ ≡ set (processesOf ws) (find (isProcess n) (heldProcesses ws)) (withMarking how (processAt ws (find (isProcess n) (heldProcesses ws))))
+        → processesOf ws′ ≡ set (processesOf ws) (find (isProcess n) (heldProcesses ws))
+        (withMarking how (processAt ws (find (isProcess n) (heldProcesses ws))))
     process-marks-changed here k z =
-        z ∙ ap (set (processesOf ws) place) (process-marked (processAt ws place) k) ∙ ap (λ i. set (processesOf ws) i (withMarking how (processAt ws i))) here
+        z ∙ ap (set (processesOf ws) place) (process-marked (processAt ws place) k)
+        ∙ ap (λ i. set (processesOf ws) i (withMarking how (processAt ws i))) here
 
-    pub thread-marks-changed : place ≡ find (isThread n) (heldThreads ws) → u ≡ getD (threadTo (threadAt ws place)) threadMarks 0
+    pub thread-marks-changed : place ≡ find (isThread n) (heldThreads ws)
+        → u ≡ getD (threadTo (threadAt ws place)) threadMarks 0
         → threadsOf ws′ ≡ set (threadsOf ws) place (withThreadField threadMarks (m .0) (threadAt ws place))
-        → threadsOf ws′ ≡ set (threadsOf ws) (find (isThread n) (heldThreads ws)) (withMarking how (threadAt ws (find (isThread n) (heldThreads ws))))
+        → threadsOf ws′ ≡ set (threadsOf ws) (find (isThread n) (heldThreads ws))
+        (withMarking how (threadAt ws (find (isThread n) (heldThreads ws))))
     thread-marks-changed here k z =
-        z ∙ ap (set (threadsOf ws) place) (thread-marked (threadAt ws place) k) ∙ ap (λ i. set (threadsOf ws) i (withMarking how (threadAt ws i))) here
+        z ∙ ap (set (threadsOf ws) place) (thread-marked (threadAt ws place) k)
+        ∙ ap (λ i. set (threadsOf ws) i (withMarking how (threadAt ws i))) here
 
 -- ---- a loop over all threads: those below i are as f leaves them; w is the process that was read
 
@@ -59,11 +69,13 @@ module _ (f : Place Thread → Place Thread) where
   pub passing-start : (ts : List ℕ) → length ts ≡ threadTable → Passing ts ts 0
   passing-start ts l = record { below = omega arith; long = l; changed = mapped-none f (threadsOf ts) }
 
-  pub passing-done : (ts₀ ts : List ℕ) (i : ℕ) → threadPlaces ≤ i → Passing ts₀ ts i → threadsOf ts ≡ map f (threadsOf ts₀)
+  pub passing-done : (ts₀ ts : List ℕ) (i : ℕ) → threadPlaces ≤ i → Passing ts₀ ts i
+      → threadsOf ts ≡ map f (threadsOf ts₀)
   passing-done ts₀ ts i h k = k .changed ∙ mapped-done f (threadsOf ts₀) i (omega (arith, length-threadsOf ts₀))
 
   module _ (ts₀ ts : List ℕ) (i : ℕ) (k : Passing ts₀ ts i) (h : i < threadPlaces) (ts′ : List ℕ) where
-    pub passing-step : (t : Place Thread) → t ≡ f (threadAt ts i) → length ts′ ≡ length ts → threadsOf ts′ ≡ set (threadsOf ts) i t → Passing ts₀ ts′ (i + 1)
+    pub passing-step : (t : Place Thread) → t ≡ f (threadAt ts i) → length ts′ ≡ length ts
+        → threadsOf ts′ ≡ set (threadsOf ts) i t → Passing ts₀ ts′ (i + 1)
     passing-step t e l z =
         let h₀ : i < length (threadsOf ts₀) = omega (arith, length-threadsOf ts₀) in
         record {
@@ -83,7 +95,8 @@ module _ (f : Place Thread → Place Thread) where
 
 module _ (p w : ℕ) (x : Place Thread) (e : w ≡ getD (threadTo x) threadProcess 0) where
   module _ (how : Marking) where
-    pub marks-changed-here : (u : ℕ) (m : SigSet) → w ≡ p → u ≡ getD (threadTo x) threadMarks 0 → m ≡ markedBy how (bits u)
+    pub marks-changed-here : (u : ℕ) (m : SigSet) → w ≡ p → u ≡ getD (threadTo x) threadMarks 0
+        → m ≡ markedBy how (bits u)
         → withThreadField threadMarks (m .0) x ≡ withMarkingOf p how x
     unfolding withMarkingOf threadTo
     marks-changed-here u m z k d =

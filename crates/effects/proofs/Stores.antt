@@ -21,5 +21,6 @@ module _ (p s : ℕ) (a : Action) where
   stores-not-ignored i = cond-false _ _ i
 
   -- the signal's set as the code has it
-  pub stores-both : ignored a s ≡ true → (g : SigSet) → g ≡ ofSignal s → storeChanges p s a ≡ discard p g ∷ setAction p s a ∷ []
+  pub stores-both : ignored a s ≡ true → (g : SigSet) → g ≡ ofSignal s
+      → storeChanges p s a ≡ discard p g ∷ setAction p s a ∷ []
   stores-both i g o = stores-ignored i ∙ ap (λ (x : SigSet). discard p x ∷ setAction p s a ∷ []) (sym o)

@@ -1,12 +1,14 @@
-// Each primitive change of the rules, on the lent tables: what they say after it is what the rules' `apply` makes of what they said before, and
-// sound tables stay sound. A table that a change does not touch is lent to it for reading: soundness is of all four.
+// Each primitive change of the rules, on the lent tables:
+// what they say after it is what the rules' `apply` makes of what they said before, and sound tables stay sound.
+// A table that a change does not touch is lent to it for reading: soundness is of all four.
 ghost use mathlib.Core.Path.{_≡_};
 ghost use mathlib.Core.Bool.{true};
 ghost use mathlib.Core.List.{[], _∷_, map};
 ghost use lib.ListN.{length, set};
 ghost use Rattle.limits.specs.Limits.{threadTable, processTable};
 ghost use Rattle.lists.specs.Lists.{any, find};
-ghost use Rattle.rules.specs.View.{isProcess, isThread, belongsTo, targetQueue, forget, removeProcess, removeThread, setStopped, setAction, setMask, setMark, clearMark, append, dropOldest, discard};
+ghost use Rattle.rules.specs.View.{isProcess, isThread, belongsTo, targetQueue, forget, removeProcess, removeThread};
+ghost use Rattle.rules.specs.View.{setStopped, setAction, setMask, setMark, clearMark, append, dropOldest, discard};
 ghost use Rattle.rules.specs.Store.{freeThread, isFreeProcess, isFreeThread, vacate, fill, apply};
 ghost use Rattle.rules.specs.Actions.{storeChanges};
 ghost use Rattle.rules.specs.Adding.{addedProcess};
@@ -47,7 +49,8 @@ fn marked(m: SigSet, how: Marking) -> SigSet
 fn change_process_marks(ps: &mut [u64], process: u32, how: Marking)
     requires { ⌜ length (now ps) ≡ processTable ⌝ }
     requires { ⌜ any (isProcess process) (heldProcesses (now ps)) ≡ true ⌝ }
-    ensures { λ _. ⌜ processesOf (now (ps .exit)) ≡ set (processesOf (now (ps .entry))) (find (isProcess process) (heldProcesses (now (ps .entry))))
+    ensures { λ _. ⌜ processesOf (now (ps .exit))
+        ≡ set (processesOf (now (ps .entry))) (find (isProcess process) (heldProcesses (now (ps .entry))))
         (withMarking how (processAt (now (ps .entry)) (find (isProcess process) (heldProcesses (now (ps .entry)))))) ⌝ }
 {
     let place = tables::find_process(ps, process as u64);
@@ -59,7 +62,8 @@ fn change_process_marks(ps: &mut [u64], process: u32, how: Marking)
 fn change_thread_marks(ts: &mut [u64], thread: u32, how: Marking)
     requires { ⌜ length (now ts) ≡ threadTable ⌝ }
     requires { ⌜ any (isThread thread) (heldThreads (now ts)) ≡ true ⌝ }
-    ensures { λ _. ⌜ threadsOf (now (ts .exit)) ≡ set (threadsOf (now (ts .entry))) (find (isThread thread) (heldThreads (now (ts .entry))))
+    ensures { λ _. ⌜ threadsOf (now (ts .exit))
+        ≡ set (threadsOf (now (ts .entry))) (find (isThread thread) (heldThreads (now (ts .entry))))
         (withMarking how (threadAt (now (ts .entry)) (find (isThread thread) (heldThreads (now (ts .entry)))))) ⌝ }
 {
     let place = tables::find_thread(ts, thread as u64);
@@ -245,7 +249,8 @@ pub fn set_mask(ps: &[u64], ts: &mut [u64], tb: &[u8], pb: &[u8], thread: u32, m
 pub fn new_process(ps: &mut [u64], new: NewProcess)
     requires { ⌜ length (now ps) ≡ processTable ⌝ }
     requires { ⌜ any isFreeProcess (heldProcesses (now ps)) ≡ true ⌝ }
-    ensures { λ _. ⌜ processesOf (now (ps .exit)) ≡ fill isFreeProcess (addedProcess new) (processesOf (now (ps .entry))) ⌝ }
+    ensures { λ _. ⌜ processesOf (now (ps .exit))
+        ≡ fill isFreeProcess (addedProcess new) (processesOf (now (ps .entry))) ⌝ }
 {
     let place = tables::free_process(ps);
     tables::fill_process(ps, place, new);
@@ -255,7 +260,8 @@ pub fn new_process(ps: &mut [u64], new: NewProcess)
 pub fn new_thread(ts: &mut [u64], id: u32, process: u32, mask: SigSet)
     requires { ⌜ length (now ts) ≡ threadTable ⌝ }
     requires { ⌜ any isFreeThread (heldThreads (now ts)) ≡ true ⌝ }
-    ensures { λ _. ⌜ threadsOf (now (ts .exit)) ≡ fill isFreeThread (threadOf id process mask) (threadsOf (now (ts .entry))) ⌝ }
+    ensures { λ _. ⌜ threadsOf (now (ts .exit))
+        ≡ fill isFreeThread (threadOf id process mask) (threadsOf (now (ts .entry))) ⌝ }
 {
     let place = tables::free_thread(ts);
     tables::fill_thread(ts, place, id, process, mask);
@@ -264,7 +270,8 @@ pub fn new_thread(ts: &mut [u64], id: u32, process: u32, mask: SigSet)
 // The places of all threads of a process become free.
 fn vacate_threads(ts: &mut [u64], process: u32)
     requires { ⌜ length (now ts) ≡ threadTable ⌝ }
-    ensures { λ _. ⌜ threadsOf (now (ts .exit)) ≡ vacate freeThread (belongsTo process) (threadsOf (now (ts .entry))) ⌝ }
+    ensures { λ _. ⌜ threadsOf (now (ts .exit))
+        ≡ vacate freeThread (belongsTo process) (threadsOf (now (ts .entry))) ⌝ }
 {
     let mut i = 0;
     while i < THREAD_PLACES {

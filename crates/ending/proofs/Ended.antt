@@ -63,7 +63,8 @@ module _ (l : Lent) (e : soundTables l ≡ true) (thread : ℕ) (live : liveThre
   abbrev it : Thread
   it = theThread (view st) thread
 
-  module _ (process : ℕ) (o : process ≡ threadNamed (l .threads) thread .process) (b : Bool) (h : b ≡ any (isOther process thread) (heldThreads (l .threads))) where
+  module _ (process : ℕ) (o : process ≡ threadNamed (l .threads) thread .process) (b : Bool)
+      (h : b ≡ any (isOther process thread) (heldThreads (l .threads))) where
     owner : process ≡ it .process
     owner = sym (owner-is l thread process o)
 
@@ -75,7 +76,8 @@ module _ (l : Lent) (e : soundTables l ≡ true) (thread : ℕ) (live : liveThre
     another = h ∙ others-are (view st) it process thread owner its-id (heldThreads (l .threads))
 
     -- the one change
-    removal : (x : Bool) → b ≡ x → endThreadChanges (view st) it ≡ (cond x (removeThread thread) (removeProcess process) ∷ [])
+    removal : (x : Bool) → b ≡ x
+        → endThreadChanges (view st) it ≡ (cond x (removeThread thread) (removeProcess process) ∷ [])
     unfolding endThreadChanges
     removal x k =
         ap (λ (y : Bool). cond y (removeThread (it .id)) (removeProcess (it .process)) ∷ []) (sym another ∙ k)
@@ -91,10 +93,12 @@ module _ (l : Lent) (e : soundTables l ≡ true) (thread : ℕ) (live : liveThre
     pub process-ready : b ≡ false → Ready (removeProcess process ∷ []) l
     process-ready k = ready-as ending (removal false k)
 
-    pub thread-removed : b ≡ true → {m : Lent} → Changed (removeThread thread ∷ []) l m → Changed (endThreadChanges (view st) it) l m
+    pub thread-removed : b ≡ true → {m : Lent} → Changed (removeThread thread ∷ []) l m
+        → Changed (endThreadChanges (view st) it) l m
     thread-removed k d = made-as d (removal true k)
 
-    pub process-removed : b ≡ false → {m : Lent} → Changed (removeProcess process ∷ []) l m → Changed (endThreadChanges (view st) it) l m
+    pub process-removed : b ≡ false → {m : Lent} → Changed (removeProcess process ∷ []) l m
+        → Changed (endThreadChanges (view st) it) l m
     process-removed k d = made-as d (removal false k)
 
 module _ (l : Lent) (id n : ℕ) (r : n ≡ rowsOn (esrch (noThreadLive (viewOf l) id) ∷ []) l) where
@@ -111,7 +115,8 @@ module _ (l : Lent) (id n : ℕ) (r : n ≡ rowsOn (esrch (noThreadLive (viewOf 
     thread-can-end = live-thread l id n r z
 
     pub thread-ended : (m : Lent) → AsLong l m → Bytes (m .threadBuffer) → Bytes (m .processBuffer)
-        → Changed (endThreadChanges (viewOf l) (theThread (viewOf l) id)) l m → (m, Accepted Done) ≡ stepOn (endThread id) l
+        → Changed (endThreadChanges (viewOf l) (theThread (viewOf l) id)) l m
+        → (m, Accepted Done) ≡ stepOn (endThread id) l
     unfolding reply changes
     thread-ended m k bt bp d =
         accepted-ends (endThread id) l (sym thread-number ∙ z) Done refl m k bt bp (d .store)

@@ -61,7 +61,9 @@ fn has_other(ts: &[u64], process: u32, thread: u32) -> bool
 fn remove(ps: &mut [u64], ts: &mut [u64], tb: &mut [u8], pb: &mut [u8], thread: u32)
     requires { ⌜ soundTables (given ps ts tb pb) ≡ true ⌝ }
     requires { ⌜ liveThread (viewOf (given ps ts tb pb)) thread ≡ true ⌝ }
-    ensures { λ _. ⌜ changed (endThreadChanges (viewOf (before ps ts tb pb)) (theThread (viewOf (before ps ts tb pb)) thread)) ps ts tb pb ⌝ }
+    ensures { λ _. ⌜ changed
+        (endThreadChanges (viewOf (before ps ts tb pb)) (theThread (viewOf (before ps ts tb pb)) thread)) ps
+        ts tb pb ⌝ }
 {
     let process = view::process_of(ts, thread);
     if has_other(ts, process, thread) {

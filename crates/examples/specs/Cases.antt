@@ -1,11 +1,12 @@
--- "Numbers to run against": the starred rows, by computation, and the three "Readings that bit us". Each row is a list of calls from a cleared
--- store, and what they answer.
+-- "Numbers to run against": the starred rows, by computation, and the three "Readings that bit us".
+-- Each row is a list of calls from a cleared store, and what they answer.
 use Prim.Native.Nat.{ℕ, zero, suc}
 use mathlib.Core.Path.{_≡_, refl, ap, _∙_}
 use mathlib.Core.Bool.{true}
 use mathlib.Core.List.{List, [], _∷_, _++_}
 use mathlib.Core.Option.{some, none}
-use Rattle.limits.specs.Limits.{siQueue, recordLimit, saNodefer, saResethand, SIGKILL, SIGCHLD, SIGCONT, SIGSTOP, EINVAL, EAGAIN, ESRCH}
+use Rattle.limits.specs.Limits.{siQueue, recordLimit, saNodefer, saResethand, SIGKILL, SIGCHLD, SIGCONT, SIGSTOP}
+use Rattle.limits.specs.Limits.{EINVAL, EAGAIN, ESRCH}
 use Rattle.lists.specs.Lists.{All, all}
 use Rattle.sigset.specs.declared.SigSet.{SigSet}
 use Rattle.sigset.specs.Set.{bits, empty, ofSignal}
@@ -81,7 +82,8 @@ handlerCase flags m after =
           one empty ∷ sigaction 100 10 (some (handling flags m)) ∷ kill 100 100 0 10 ∷ take 200 ∷ maskNow
           ∷ sigreturn 200 empty ∷ [];
       expected =
-          done ∷ oldAction defaultAction ∷ marked ∷ handler 5000 10 (ofMark 10) flags empty ∷ oldMask (bits after) ∷ oldMask (bits after) ∷ [];
+          done ∷ oldAction defaultAction ∷ marked ∷ handler 5000 10 (ofMark 10) flags empty ∷ oldMask (bits after)
+          ∷ oldMask (bits after) ∷ [];
     }
 
 -- ---- the starred rows
@@ -110,7 +112,8 @@ case3 =
       expected = done ∷ oldMask (bits 6) ∷ refused EINVAL ∷ oldMask (bits 6) ∷ [];
     }
 
--- 4: "Signal 10 with action mask 2048 from mask 0: mask 2560. With NODEFER: 2048. Action mask all ones: 18446744073709289215."
+-- 4: "Signal 10 with action mask 2048 from mask 0: mask 2560. With NODEFER: 2048.
+-- Action mask all ones: 18446744073709289215."
 abbrev case4 : Case
 case4 = handlerCase 0 2048 2560
 
@@ -130,8 +133,8 @@ case5 =
           ∷ sigmask 200 1 (some (ofSignal 40)) ∷ (times 3 taken ++ (take 200 ∷ []));
       expected =
           done ∷ oldAction defaultAction ∷ kept ∷ kept ∷ kept ∷ nothing
-          ∷ oldMask (bits 549755813888) ∷ runs (sent 0 40 1) ∷ oldMask (bits 549755813888) ∷ runs (sent 0 40 2) ∷ oldMask (bits 549755813888)
-          ∷ runs (sent 0 40 3) ∷ oldMask (bits 549755813888) ∷ nothing ∷ [];
+          ∷ oldMask (bits 549755813888) ∷ runs (sent 0 40 1) ∷ oldMask (bits 549755813888) ∷ runs (sent 0 40 2)
+          ∷ oldMask (bits 549755813888) ∷ runs (sent 0 40 3) ∷ oldMask (bits 549755813888) ∷ nothing ∷ [];
     }
 
 -- 6: "35 then 34 queued: 34 first."
@@ -164,7 +167,8 @@ case8 =
           ++ (taken ++ (sigqueue 100 100 0 34 8 ∷ sigqueue 100 100 0 34 9 ∷ [])));
       expected =
           done ∷ oldAction defaultAction
-          ∷ (times recordLimit (kept ∷ []) ++ (refused EAGAIN ∷ runs (sent 0 34 7) ∷ oldMask (bits 8589934592) ∷ kept ∷ refused EAGAIN ∷ []));
+          ∷ (times recordLimit (kept ∷ [])
+          ++ (refused EAGAIN ∷ runs (sent 0 34 7) ∷ oldMask (bits 8589934592) ∷ kept ∷ refused EAGAIN ∷ []));
     }
 
 -- 10: "CHLD at default: dropped. KILL enquired: default; with a new action: 22."
@@ -178,11 +182,36 @@ case10 =
     }
 
 abbrev starredCases : List Case
-starredCases = case1 ∷ case2 ∷ case3 ∷ case4 ∷ case4Nodefer ∷ case4Full ∷ case5 ∷ case6 ∷ case6Queues ∷ case8 ∷ case10 ∷ []
+starredCases =
+    case1 ∷ case2 ∷ case3 ∷ case4 ∷ case4Nodefer ∷ case4Full ∷ case5 ∷ case6 ∷ case6Queues ∷ case8 ∷ case10 ∷ []
 
 pub starred : All Holds starredCases
 unfolding times computing quickComputing
-starred = (holds case1 refl refl, (holds case2 refl refl, (holds case3 refl refl, (holds case4 refl refl, (holds case4Nodefer refl refl, (holds case4Full refl refl, (holds case5 refl refl, (holds case6 refl refl, (holds case6Queues refl refl, (holds case8 refl refl, (holds case10 refl refl, tt)))))))))))
+starred = (
+  holds case1 refl refl,
+  (
+    holds case2 refl refl,
+    (
+      holds case3 refl refl,
+      (
+        holds case4 refl refl,
+        (
+          holds case4Nodefer refl refl,
+          (
+            holds case4Full refl refl,
+            (
+              holds case5 refl refl,
+              (
+                holds case6 refl refl,
+                (holds case6Queues refl refl, (holds case8 refl refl, (holds case10 refl refl, tt))),
+              ),
+            ),
+          ),
+        ),
+      ),
+    ),
+  ),
+)
 
 -- ---- "Readings that bit us"
 
@@ -194,7 +223,8 @@ unblocking =
       expected = done ∷ oldMask (bits 7) ∷ oldMask (bits 4) ∷ [];
     }
 
--- "CONT treated as unblockable": it stays pending while it is blocked, and is taken once it is not; the process runs at once
+-- "CONT treated as unblockable": it stays pending while it is blocked, and is taken once it is not;
+-- the process runs at once
 abbrev blockedCont : Case
 blockedCont =
     record {
@@ -203,8 +233,9 @@ blockedCont =
           ∷ take 200 ∷ kill 100 100 0 SIGCONT ∷ sigpending 200
           ∷ take 200 ∷ sigreturn 200 (ofSignal SIGCONT) ∷ take 200 ∷ sigmask 200 1 (some (ofSignal SIGCONT)) ∷ taken;
       expected =
-          done ∷ oldAction defaultAction ∷ oldAction defaultAction ∷ marked ∷ acted ∷ nothing ∷ marked ∷ pendingSet (bits 131072)
-          ∷ handler 5000 10 (ofMark 10) 0 (bits 131072) ∷ oldMask (bits 131584) ∷ nothing ∷ oldMask (bits 131072) ∷ runs (ofMark SIGCONT) ∷ oldMask (bits 131072) ∷ [];
+          done ∷ oldAction defaultAction ∷ oldAction defaultAction ∷ marked ∷ acted ∷ nothing ∷ marked
+          ∷ pendingSet (bits 131072) ∷ handler 5000 10 (ofMark 10) 0 (bits 131072) ∷ oldMask (bits 131584) ∷ nothing
+          ∷ oldMask (bits 131072) ∷ runs (ofMark SIGCONT) ∷ oldMask (bits 131072) ∷ [];
     }
 
 -- "RESETHAND taken to imply NODEFER": the signal is added to the mask, and the action is the default afterwards
@@ -234,7 +265,8 @@ noSignal =
       calls =
           one empty ∷ kill 100 100 0 4294967295 ∷ sigqueue 100 100 0 4294967295 1 ∷ sigaction 100 4294967295 none
           ∷ sigaction 100 0 none ∷ kill 100 100 0 65 ∷ kill 100 100 0 0 ∷ [];
-      expected = done ∷ refused EINVAL ∷ refused EINVAL ∷ refused EINVAL ∷ refused EINVAL ∷ refused EINVAL ∷ tested ∷ [];
+      expected =
+          done ∷ refused EINVAL ∷ refused EINVAL ∷ refused EINVAL ∷ refused EINVAL ∷ refused EINVAL ∷ tested ∷ [];
     }
 
 abbrev noId : Case
@@ -247,7 +279,8 @@ noId =
           ∷ look 0 ∷ who 0 ∷ sigpending 0 ∷ sigreturn 0 empty ∷ [];
       expected =
           refused EINVAL ∷ refused EINVAL ∷ refused EINVAL ∷ done ∷ refused ESRCH ∷ refused EINVAL
-          ∷ refused ESRCH ∷ refused ESRCH ∷ refused ESRCH ∷ refused ESRCH ∷ refused ESRCH ∷ refused ESRCH ∷ refused ESRCH ∷ refused ESRCH ∷ refused ESRCH ∷ refused ESRCH ∷ [];
+          ∷ refused ESRCH ∷ refused ESRCH ∷ refused ESRCH ∷ refused ESRCH ∷ refused ESRCH ∷ refused ESRCH
+          ∷ refused ESRCH ∷ refused ESRCH ∷ refused ESRCH ∷ refused ESRCH ∷ [];
     }
 
 -- a way of 7 is 22 before the thread is looked for, and without a set it is not looked at

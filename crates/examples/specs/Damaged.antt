@@ -1,12 +1,14 @@
--- Soundness, clause by clause: for each clause stores that it alone refuses, and stores at the edge that none refuses. Two parts have none of their own, since
--- they follow from what stands beside them: that a live id is at least 1, and that the thread is live of which a record names the process.
+-- Soundness, clause by clause: for each clause stores that it alone refuses, and stores at the edge that none refuses.
+-- Two parts have none of their own, since they follow from what stands beside them:
+-- that a live id is at least 1, and that the thread is live of which a record names the process.
 use Prim.Native.Nat.{ℕ, suc, _-_}
 use mathlib.Core.Path.{_≡_, refl}
 use mathlib.Core.Bool.{Bool, true, not, cond}
 use mathlib.Core.List.{List, [], _∷_, _++_, map}
 use lib.Dec.{eqb}
 use lib.ListN.{take as firsts, replicate}
-use Rattle.limits.specs.Limits.{processPlaces, threadPlaces, bufferRecords, signals, recordLimit, largestId, largestUser, knownFlags, siQueue, sigIgn, saSiginfo, SIGKILL, SIGSTOP, SIGCHLD, EFAULT}
+use Rattle.limits.specs.Limits.{processPlaces, threadPlaces, bufferRecords, signals, recordLimit, largestId}
+use Rattle.limits.specs.Limits.{largestUser, knownFlags, siQueue, sigIgn, saSiginfo, SIGKILL, SIGSTOP, SIGCHLD, EFAULT}
 use Rattle.lists.specs.Lists.{range}
 use Rattle.sigset.specs.declared.SigSet.{SigSet}
 use Rattle.sigset.specs.Set.{bits, empty}
@@ -14,9 +16,13 @@ use Rattle.types.specs.declared.Action.{Action}
 use Rattle.types.specs.declared.Siginfo.{Siginfo}
 use Rattle.types.specs.Values.{defaultAction}
 use Rattle.rules.specs.Types.{Process, Thread, Queue, kill, sigqueue, clear}
-use Rattle.rules.specs.View.{Change, newProcess, newThread, setStopped, setAction, setMask, setMark, append, processQueue, isProcess}
-use Rattle.rules.specs.Store.{Store, cleared, withAction, amend, mapMarks, isFreeProcess, isFreeThread, onProcesses, onThreads, onBuffer, applyAll}
-use Rattle.rules.specs.Sound.{lengthsRight, freeZero, idsInRange, idsDistinct, fieldsInRange, threadsOwned, processesHaveThreads, nothingUnmaskable, unmaskableDefault, allFlagsKnown, recordsLaidOut, limitKept, pendingOnce, nothingIgnored}
+use Rattle.rules.specs.View.{Change, newProcess, newThread, setStopped, setAction, setMask, setMark, append}
+use Rattle.rules.specs.View.{processQueue, isProcess}
+use Rattle.rules.specs.Store.{Store, cleared, withAction, amend, mapMarks, isFreeProcess, isFreeThread, onProcesses}
+use Rattle.rules.specs.Store.{onThreads, onBuffer, applyAll}
+use Rattle.rules.specs.Sound.{lengthsRight, freeZero, idsInRange, idsDistinct, fieldsInRange, threadsOwned}
+use Rattle.rules.specs.Sound.{processesHaveThreads, nothingUnmaskable, unmaskableDefault, allFlagsKnown, recordsLaidOut}
+use Rattle.rules.specs.Sound.{limitKept, pendingOnce, nothingIgnored}
 use Rattle.rules.specs.Calls.{run, step}
 use Rattle.rules.specs.Computing.{computing}
 use Rattle.examples.specs.Cases.{times}
@@ -25,8 +31,9 @@ use Rattle.examples.specs.Words.{adds, refused, done}
 -- what each clause says of a store, in the order of `sound`
 unfoldable pub verdicts : Store → List Bool
 verdicts st =
-    lengthsRight st ∷ freeZero st ∷ idsInRange st ∷ idsDistinct st ∷ fieldsInRange st ∷ threadsOwned st ∷ processesHaveThreads st ∷ nothingUnmaskable st
-    ∷ unmaskableDefault st ∷ allFlagsKnown st ∷ recordsLaidOut st ∷ limitKept st ∷ pendingOnce st ∷ nothingIgnored st ∷ []
+    lengthsRight st ∷ freeZero st ∷ idsInRange st ∷ idsDistinct st ∷ fieldsInRange st ∷ threadsOwned st
+    ∷ processesHaveThreads st ∷ nothingUnmaskable st ∷ unmaskableDefault st ∷ allFlagsKnown st ∷ recordsLaidOut st
+    ∷ limitKept st ∷ pendingOnce st ∷ nothingIgnored st ∷ []
 
 abbrev clauseCount : ℕ
 clauseCount = 14
@@ -37,7 +44,8 @@ onlyFails k = map (λ n. not (eqb n k)) (range 0 clauseCount)
 
 -- ---- the sample and what is made of it
 
--- processes 100 and 1 with a thread each; a mark of 2, a record of 3 in the thread's queue and one of 40 in the process's
+-- processes 100 and 1 with a thread each;
+-- a mark of 2, a record of 3 in the thread's queue and one of 40 in the process's
 unfoldable pub sample : Store
 sample =
     run
@@ -54,16 +62,34 @@ besides q r = onBuffer q (λ rs. rs ++ (r ∷ [])) sample
 
 abbrev onThreadSlots : (List Siginfo → List Siginfo) → Store → Store
 onThreadSlots g st =
-    record { processes = st .processes; threads = st .threads; threadBuffer = g (st .threadBuffer); processBuffer = st .processBuffer }
+    record {
+      processes = st .processes;
+      threads = st .threads;
+      threadBuffer = g (st .threadBuffer);
+      processBuffer = st .processBuffer;
+    }
 
 abbrev onProcessSlots : (List Siginfo → List Siginfo) → Store → Store
 onProcessSlots g st =
-    record { processes = st .processes; threads = st .threads; threadBuffer = st .threadBuffer; processBuffer = g (st .processBuffer) }
+    record {
+      processes = st .processes;
+      threads = st .threads;
+      threadBuffer = st .threadBuffer;
+      processBuffer = g (st .processBuffer);
+    }
 
 -- a process with these fields and the default actions
 abbrev processOf : (id real effective saved session stopped : ℕ) → Process
 processOf n r e s i b =
-    record { id = n; real = r; effective = e; saved = s; session = i; stopped = b; actions = replicate signals defaultAction }
+    record {
+      id = n;
+      real = r;
+      effective = e;
+      saved = s;
+      session = i;
+      stopped = b;
+      actions = replicate signals defaultAction;
+    }
 
 abbrev fewerActions : Process → Process
 fewerActions p =
@@ -97,7 +123,8 @@ info t s = infoOf 100 t s siQueue
 -- the sample with these fields, and no process, in the slot behind the records of the process buffer
 abbrev behind : (thread signal code sender uid value : ℕ) → Store
 behind t s code sender uid value =
-    besides (processQueue 100) (record { process = 0; thread = t; signal = s; code = code; sender = sender; uid = uid; value = value })
+    besides (processQueue 100)
+    (record { process = 0; thread = t; signal = s; code = code; sender = sender; uid = uid; value = value })
 
 abbrev threadQueue : Queue
 threadQueue = record { process = 100; thread = 200 }
@@ -284,10 +311,11 @@ pendings-needed = refl
 abbrev edges : List (List Change)
 edges =
     []
-    ∷ (newProcess (processOf largestId largestUser largestUser largestUser largestUser 0) ∷ newThread (threadOf largestId largestId) ∷ [])
-    ∷ (setStopped 100 1 ∷ setAction 100 10 (acting 18446744073709551615 knownFlags 18446744073709289215) ∷ setMask 200 (bits 18446744073709289215) ∷ [])
-    ∷ times (recordLimit - 2) (append (info 0 40) ∷ [])
-    ∷ []
+    ∷ (newProcess (processOf largestId largestUser largestUser largestUser largestUser 0)
+    ∷ newThread (threadOf largestId largestId) ∷ [])
+    ∷ (setStopped 100 1 ∷ setAction 100 10 (acting 18446744073709551615 knownFlags 18446744073709289215)
+    ∷ setMask 200 (bits 18446744073709289215) ∷ [])
+    ∷ times (recordLimit - 2) (append (info 0 40) ∷ []) ∷ []
 
 abbrev passed : List Change → List Bool
 passed cs = verdicts (changed cs)

@@ -1,4 +1,5 @@
--- The examples of docs/CALLS.md, line by line: each call and what it answers, by computation. The comments are the page's lines.
+-- The examples of docs/CALLS.md, line by line: each call and what it answers, by computation.
+-- The comments are the page's lines.
 use Prim.Native.Nat.{ℕ}
 use mathlib.Core.Path.{_≡_, refl, ap, _∙_}
 use mathlib.Core.Bool.{true}
@@ -150,7 +151,12 @@ story =
     -- who process=1 → none can
     ∷ (who 1, noneCan)
     -- take thread=200 → handler 5000 signal 40 record (100 200 40 -1 1 0 8) flags 4 saved 0
-    ∷ (take 200, handler 5000 40 (record { process = 100; thread = 200; signal = 40; code = 4294967295; sender = 1; uid = 0; value = 8 }) 4 empty)
+    ∷ (
+      take 200,
+      handler 5000 40
+          (record { process = 100; thread = 200; signal = 40; code = 4294967295; sender = 1; uid = 0; value = 8 }) 4
+          empty,
+    )
     -- mask thread=200 way=0 → old mask 549755815936
     ∷ (sigmask 200 0 none, oldMask (bits 549755815936))
     -- take thread=200 → nothing
@@ -158,7 +164,12 @@ story =
     -- return thread=200 mask=0 → old mask 549755815936
     ∷ (sigreturn 200 empty, oldMask (bits 549755815936))
     -- take thread=200 → handler 5000 signal 40 record (100 0 40 -1 100 1000 7) flags 4 saved 0
-    ∷ (take 200, handler 5000 40 (record { process = 100; thread = 0; signal = 40; code = 4294967295; sender = 100; uid = 1000; value = 7 }) 4 empty)
+    ∷ (
+      take 200,
+      handler 5000 40
+          (record { process = 100; thread = 0; signal = 40; code = 4294967295; sender = 100; uid = 1000; value = 7 }) 4
+          empty,
+    )
     -- return thread=200 mask=0 → old mask 549755815936
     ∷ (sigreturn 200 empty, oldMask (bits 549755815936))
     -- take thread=200 → nothing
@@ -168,7 +179,11 @@ story =
     -- kill by=1 to=100 thread=0 signal=10 → marked
     ∷ (kill 1 100 0 10, marked)
     -- take thread=201 → handler 6000 signal 10 record (100 0 10 0 0 0 0) flags 2147483652 saved 0
-    ∷ (take 201, handler 6000 10 (record { process = 100; thread = 0; signal = 10; code = 0; sender = 0; uid = 0; value = 0 }) 2147483652 empty)
+    ∷ (
+      take 201,
+      handler 6000 10 (record { process = 100; thread = 0; signal = 10; code = 0; sender = 0; uid = 0; value = 0 })
+          2147483652 empty,
+    )
     -- mask thread=201 way=0 → old mask 512
     ∷ (sigmask 201 0 none, oldMask (bits 512))
     -- return thread=201 mask=0 → old mask 512
@@ -212,10 +227,12 @@ linesBefore x = map called (firsts (x .lines) story)
 abbrev Finds : Look → Type 0
 Finds x = lookPart (x .thread) (run (linesBefore x) cleared .0) ≡ x .part
 
-finds : (x : Look) → all machine (linesBefore x) ≡ true → quickPart (x .thread) (quickRun (linesBefore x) cleared .0) ≡ x .part → Finds x
+finds : (x : Look) → all machine (linesBefore x) ≡ true
+    → quickPart (x .thread) (quickRun (linesBefore x) cleared .0) ≡ x .part → Finds x
 finds x u e =
     same-part (x .thread) (run (linesBefore x) cleared .0) (run-sound (linesBefore x) cleared u sound-cleared)
-    ∙ (ap (λ (y : Store × List Answer). quickPart (x .thread) (y .0)) (same-run (linesBefore x) cleared u sound-cleared) ∙ e)
+    ∙ (ap (λ (y : Store × List Answer). quickPart (x .thread) (y .0)) (same-run (linesBefore x) cleared u sound-cleared)
+    ∙ e)
 
 abbrev aMark : Look
 aMark = record { lines = 47; thread = 200; part = emptyPart }

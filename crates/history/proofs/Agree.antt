@@ -16,21 +16,28 @@ use Rattle.types.specs.declared.Siginfo.{Siginfo}
 use Rattle.types.specs.Values.{noSiginfo}
 use Rattle.rules.specs.Types.{Process, Thread, Queue, noProcess, noThread}
 use Rattle.rules.specs.Signals.{isSignal}
-use Rattle.rules.specs.View.{sameQueue, processQueue, Change, forget, newProcess, newThread, removeProcess, removeThread, setStopped, setAction, setMask, setMark, clearMark, append, dropOldest, discard, isProcess, isThread, belongsTo, inQueue, liveThread}
-use Rattle.rules.specs.Store.{Store, held, view, inUse, used, recordsFor, markIn, leftBy, processMark, threadMark, amend, onProcesses, freeProcess, freeThread, isFreeProcess, isFreeThread, withStopped, withAction, withMask, cleared, apply}
+use Rattle.rules.specs.View.{sameQueue, processQueue, Change, forget, newProcess, newThread, removeProcess}
+use Rattle.rules.specs.View.{removeThread, setStopped, setAction, setMask, setMark, clearMark, append, dropOldest}
+use Rattle.rules.specs.View.{discard, isProcess, isThread, belongsTo, inQueue, liveThread}
+use Rattle.rules.specs.Store.{Store, held, view, inUse, used, recordsFor, markIn, leftBy, processMark, threadMark}
+use Rattle.rules.specs.Store.{amend, onProcesses, freeProcess, freeThread, isFreeProcess, isFreeThread, withStopped}
+use Rattle.rules.specs.Store.{withAction, withMask, cleared, apply}
 use Rattle.rules.specs.Sound.{ifFree, processId, threadId, zeroProcess, zeroThread, nameable, freeZero, sound}
 use Rattle.rules.specs.Fitting.{admits, liveQueue, fits}
 use Rattle.rules.proofs.Clauses.{clauses}
 use Rattle.rules.proofs.DiscardPending.{discard-records, discard-marks}
 use Rattle.rules.proofs.Marks.{process-named, thread-named}
-use Rattle.rules.proofs.PendingInView.{seen-setMark-processes, seen-setMark-threads, seen-clearMark-processes, seen-clearMark-threads, seen-discard-processes, seen-discard-threads}
+use Rattle.rules.proofs.PendingInView.{seen-setMark-processes, seen-setMark-threads, seen-clearMark-processes}
+use Rattle.rules.proofs.PendingInView.{seen-clearMark-threads, seen-discard-processes, seen-discard-threads}
 use Rattle.rules.proofs.Slots.{zero-free}
 use Rattle.rules.proofs.Vacated.{held-vacated, free-process-unmarked, free-thread-unmarked}
 use Rattle.history.specs.Ledger as ledger
-use Rattle.history.specs.Ledger.{ofThread, ofSignals, Line, Ledger, emptyLedger, emptyLine, withMark, keepSend, takeSend, isAt, ofProcess, note}
+use Rattle.history.specs.Ledger.{ofThread, ofSignals, Line, Ledger, emptyLedger, emptyLine, withMark, keepSend}
+use Rattle.history.specs.Ledger.{takeSend, isAt, ofProcess, note}
 use Rattle.history.proofs.Relation.{Agrees}
 use Rattle.history.proofs.Records.{fitting-used, keep-left, both-buffers, append-records, drop-records}
-use Rattle.history.proofs.Marks.{remove-process-marks, remove-thread-marks, new-process-marks, new-thread-marks, set-marks, clear-marks}
+use Rattle.history.proofs.Marks.{remove-process-marks, remove-thread-marks, new-process-marks, new-thread-marks}
+use Rattle.history.proofs.Marks.{set-marks, clear-marks}
 
 -- ---- one line that may change
 
@@ -79,12 +86,14 @@ module _ (st : Store) (k : Ledger) (a : Agrees st k) where
   unfolding recordsFor markIn
   agrees-amended n g h =
       record {
-        processes = map-change held (isProcess n) _ g (λ x. refl) (st .processes) ∙ ap (change (isProcess n) g) (a .processes);
+        processes =
+            map-change held (isProcess n) _ g (λ x. refl) (st .processes) ∙ ap (change (isProcess n) g) (a .processes);
         threads = a .threads;
         records = a .records;
         marks = λ q s.
             ap (λ (m : Bool). isSignal s && (m || any (threadMark q s) (st .threads)))
-            (any-changed (processMark q s) _ _ (st .processes) (λ x _. ap (λ (i : ℕ). sameQueue q (processQueue i) && has (x .marks) s) (h (x .holds))))
+            (any-changed (processMark q s) _ _ (st .processes)
+            (λ x _. ap (λ (i : ℕ). sameQueue q (processQueue i) && has (x .marks) s) (h (x .holds))))
             ∙ a .marks q s;
       }
 
@@ -93,9 +102,13 @@ module _ (st : Store) (k : Ledger) (a : Agrees st k) where
   agrees-setMask n m =
       record {
         processes = a .processes;
-        threads = map-change held (isThread n) _ (withMask m) (λ x. refl) (st .threads) ∙ ap (change (isThread n) (withMask m)) (a .threads);
+        threads =
+            map-change held (isThread n) _ (withMask m) (λ x. refl) (st .threads)
+            ∙ ap (change (isThread n) (withMask m)) (a .threads);
         records = a .records;
-        marks = λ q s. ap (λ (b : Bool). isSignal s && (any (processMark q s) (st .processes) || b)) (any-changed (threadMark q s) _ _ (st .threads) (λ x _. refl)) ∙ a .marks q s;
+        marks =
+            λ q s. ap (λ (b : Bool). isSignal s && (any (processMark q s) (st .processes) || b))
+            (any-changed (threadMark q s) _ _ (st .threads) (λ x _. refl)) ∙ a .marks q s;
       }
 
   -- the lowest free place is filled
@@ -103,13 +116,15 @@ module _ (st : Store) (k : Ledger) (a : Agrees st k) where
   unfolding apply note recordsFor
   agrees-newProcess z p =
       record {
-        processes = map-replaceFirst held isFreeProcess _ (st .processes) ∙ ap (replaceFirst isFreeProcess p) (a .processes);
+        processes =
+            map-replaceFirst held isFreeProcess _ (st .processes) ∙ ap (replaceFirst isFreeProcess p) (a .processes);
         threads = a .threads;
         records = a .records;
         marks = λ q s. new-process-marks st q s z p ∙ a .marks q s;
       }
 
-  pub agrees-newThread : all (ifFree threadId zeroThread) (st .threads) ≡ true → (t : Thread) → Agrees (apply (newThread t) st) (note (newThread t) k)
+  pub agrees-newThread : all (ifFree threadId zeroThread) (st .threads) ≡ true → (t : Thread)
+      → Agrees (apply (newThread t) st) (note (newThread t) k)
   unfolding apply note recordsFor
   agrees-newThread z t =
       record {
@@ -124,13 +139,21 @@ module _ (st : Store) (k : Ledger) (a : Agrees st k) where
   unfolding apply note recordsFor
   agrees-removeProcess n z =
       record {
-        processes = held-vacated freeProcess (isProcess n) (st .processes) ∙ ap (change (isProcess n) (λ _. noProcess)) (a .processes);
-        threads = held-vacated freeThread (belongsTo n) (st .threads) ∙ ap (change (belongsTo n) (λ _. noThread)) (a .threads);
+        processes =
+            held-vacated freeProcess (isProcess n) (st .processes)
+            ∙ ap (change (isProcess n) (λ _. noProcess)) (a .processes);
+        threads =
+            held-vacated freeThread (belongsTo n) (st .threads)
+            ∙ ap (change (belongsTo n) (λ _. noThread)) (a .threads);
         records = λ q s.
-            ap (keep (inQueue q s)) (both-buffers (keep (λ (r : Siginfo). not (eqb (r .process) n))) (keep-within _) (eqb (q .thread) 0) (st .processBuffer) (st .threadBuffer))
+            ap (keep (inQueue q s))
+            (both-buffers (keep (λ (r : Siginfo). not (eqb (r .process) n))) (keep-within _) (eqb (q .thread) 0)
+            (st .processBuffer) (st .threadBuffer))
             ∙ keep-left (ofProcess n) (λ (r : Siginfo). not (eqb (r .process) n)) (λ r. refl) q s (recordsFor q st)
             ∙ made-part (eqb (q .process) n) (k .lines q s) sendsOf emptyLine _ (a .records q s);
-        marks = λ q s. remove-process-marks st q s n z ∙ unmarked (eqb (q .process) n) (k .lines q s) emptyLine refl (markIn st q s) (a .marks q s);
+        marks =
+            λ q s. remove-process-marks st q s n z
+            ∙ unmarked (eqb (q .process) n) (k .lines q s) emptyLine refl (markIn st q s) (a .marks q s);
       }
 
   agrees-removeThread : (n : ℕ) → eqb n 0 ≡ false → Agrees (apply (removeThread n) st) (note (removeThread n) k)
@@ -138,12 +161,17 @@ module _ (st : Store) (k : Ledger) (a : Agrees st k) where
   agrees-removeThread n z =
       record {
         processes = a .processes;
-        threads = held-vacated freeThread (isThread n) (st .threads) ∙ ap (change (isThread n) (λ _. noThread)) (a .threads);
+        threads =
+            held-vacated freeThread (isThread n) (st .threads) ∙ ap (change (isThread n) (λ _. noThread)) (a .threads);
         records = λ q s.
-            ap (keep (inQueue q s)) (both-buffers (keep (λ (r : Siginfo). not (eqb (r .thread) n))) (keep-within _) (eqb (q .thread) 0) (st .processBuffer) (st .threadBuffer))
+            ap (keep (inQueue q s))
+            (both-buffers (keep (λ (r : Siginfo). not (eqb (r .thread) n))) (keep-within _) (eqb (q .thread) 0)
+            (st .processBuffer) (st .threadBuffer))
             ∙ keep-left (ofThread n) (λ (r : Siginfo). not (eqb (r .thread) n)) (λ r. refl) q s (recordsFor q st)
             ∙ made-part (eqb (q .thread) n) (k .lines q s) sendsOf emptyLine _ (a .records q s);
-        marks = λ q s. remove-thread-marks st q s n z ∙ unmarked (eqb (q .thread) n) (k .lines q s) emptyLine refl (markIn st q s) (a .marks q s);
+        marks =
+            λ q s. remove-thread-marks st q s n z
+            ∙ unmarked (eqb (q .thread) n) (k .lines q s) emptyLine refl (markIn st q s) (a .marks q s);
       }
 
   agrees-discard : (n : ℕ) (x : SigSet) → Agrees (apply (discard n x) st) (note (discard n x) k)
@@ -156,10 +184,13 @@ module _ (st : Store) (k : Ledger) (a : Agrees st k) where
             ap (keep (inQueue q s)) (discard-records n x st q)
             ∙ keep-left (ofSignals n x) (leftBy n x) (λ r. refl) q s (recordsFor q st)
             ∙ made-part (eqb (q .process) n && has x s) (k .lines q s) sendsOf emptyLine _ (a .records q s);
-        marks = λ q s. discard-marks n x st q s ∙ unmarked (eqb (q .process) n && has x s) (k .lines q s) emptyLine refl (markIn st q s) (a .marks q s);
+        marks =
+            λ q s. discard-marks n x st q s
+            ∙ unmarked (eqb (q .process) n && has x s) (k .lines q s) emptyLine refl (markIn st q s) (a .marks q s);
       }
 
-  agrees-setMark : (j : Queue) (n : ℕ) → admits (view st) j n ≡ true → Agrees (apply (setMark j n) st) (note (setMark j n) k)
+  agrees-setMark : (j : Queue) (n : ℕ) → admits (view st) j n ≡ true
+      → Agrees (apply (setMark j n) st) (note (setMark j n) k)
   unfolding note admits nameable
   agrees-setMark j n f =
       let f1 = and-snd (liveQueue (view st) j) _ f in
@@ -167,8 +198,12 @@ module _ (st : Store) (k : Ledger) (a : Agrees st k) where
       record {
         processes = unfold view in seen-setMark-processes st j n ∙ a .processes;
         threads = unfold view in seen-setMark-threads st j n ∙ a .threads;
-        records = λ q s. unfold apply recordsFor in a .records q s ∙ sym (left-part (isAt j n q s) (k .lines q s) sendsOf (withMark true) refl);
-        marks = λ q s. set-marks st q s j n (and-fst (liveQueue (view st) j) _ f) i ∙ marked (isAt j n q s) (k .lines q s) (markIn st q s) (a .marks q s);
+        records =
+            λ q s. unfold apply recordsFor in
+            a .records q s ∙ sym (left-part (isAt j n q s) (k .lines q s) sendsOf (withMark true) refl);
+        marks =
+            λ q s. set-marks st q s j n (and-fst (liveQueue (view st) j) _ f) i
+            ∙ marked (isAt j n q s) (k .lines q s) (markIn st q s) (a .marks q s);
       }
 
   agrees-clearMark : (j : Queue) (n : ℕ) → Agrees (apply (clearMark j n) st) (note (clearMark j n) k)
@@ -177,8 +212,12 @@ module _ (st : Store) (k : Ledger) (a : Agrees st k) where
       record {
         processes = unfold view in seen-clearMark-processes st j n ∙ a .processes;
         threads = unfold view in seen-clearMark-threads st j n ∙ a .threads;
-        records = λ q s. unfold apply recordsFor in a .records q s ∙ sym (left-part (isAt j n q s) (k .lines q s) sendsOf (withMark false) refl);
-        marks = λ q s. clear-marks st q s j n ∙ unmarked (isAt j n q s) (k .lines q s) (withMark false) refl (markIn st q s) (a .marks q s);
+        records =
+            λ q s. unfold apply recordsFor in
+            a .records q s ∙ sym (left-part (isAt j n q s) (k .lines q s) sendsOf (withMark false) refl);
+        marks =
+            λ q s. clear-marks st q s j n
+            ∙ unmarked (isAt j n q s) (k .lines q s) (withMark false) refl (markIn st q s) (a .marks q s);
       }
 
   agrees-append : (r : Siginfo) → inUse r ≡ true → Agrees (apply (append r) st) (note (append r) k)
@@ -191,7 +230,9 @@ module _ (st : Store) (k : Ledger) (a : Agrees st k) where
             append-records r u st q s
             ∙ ap (λ (rs : List Siginfo). cond (inQueue q s r) (rs ++ (r ∷ [])) rs) (a .records q s)
             ∙ sym (cond-map sendsOf (inQueue q s r) (keepSend r (k .lines q s)) (k .lines q s));
-        marks = λ q s. unfold apply markIn in a .marks q s ∙ sym (left-part (inQueue q s r) (k .lines q s) markOf (keepSend r) refl);
+        marks =
+            λ q s. unfold apply markIn in
+            a .marks q s ∙ sym (left-part (inQueue q s r) (k .lines q s) markOf (keepSend r) refl);
       }
 
   agrees-dropOldest : (j : Queue) (n : ℕ) → Agrees (apply (dropOldest j n) st) (note (dropOldest j n) k)
@@ -204,7 +245,9 @@ module _ (st : Store) (k : Ledger) (a : Agrees st k) where
             drop-records j n st q s
             ∙ ap (λ (rs : List Siginfo). cond (isAt j n q s) (tail rs) rs) (a .records q s)
             ∙ sym (cond-map sendsOf (isAt j n q s) (takeSend (k .lines q s)) (k .lines q s));
-        marks = λ q s. unfold apply markIn in a .marks q s ∙ sym (left-part (isAt j n q s) (k .lines q s) markOf takeSend refl);
+        marks =
+            λ q s. unfold apply markIn in
+            a .marks q s ∙ sym (left-part (isAt j n q s) (k .lines q s) markOf takeSend refl);
       }
 
 -- ---- cleared tables
@@ -212,13 +255,17 @@ module _ (st : Store) (k : Ledger) (a : Agrees st k) where
 -- nothing is recorded there, and nothing is marked
 no-records : (q : Queue) (s : ℕ) → keep (inQueue q s) (recordsFor q cleared) ≡ []
 unfolding recordsFor cleared used keep
-no-records q s = ap (λ (rs : List Siginfo). keep (inQueue q s) (used rs)) (cond-same (eqb (q .thread) 0) (replicate bufferRecords noSiginfo)) ∙ ap (keep (inQueue q s)) (leading-replicate inUse noSiginfo zero-free bufferRecords)
+no-records q s =
+    ap (λ (rs : List Siginfo). keep (inQueue q s) (used rs))
+    (cond-same (eqb (q .thread) 0) (replicate bufferRecords noSiginfo))
+    ∙ ap (keep (inQueue q s)) (leading-replicate inUse noSiginfo zero-free bufferRecords)
 
 no-marks : (q : Queue) (s : ℕ) → markIn cleared q s ≡ false
 unfolding markIn cleared
 no-marks q s =
     and-right (isSignal s)
-    (or-both (any-replicate (processMark q s) freeProcess (free-process-unmarked q s) processPlaces) (any-replicate (threadMark q s) freeThread (free-thread-unmarked q s) threadPlaces))
+    (or-both (any-replicate (processMark q s) freeProcess (free-process-unmarked q s) processPlaces)
+    (any-replicate (threadMark q s) freeThread (free-thread-unmarked q s) threadPlaces))
 
 pub agrees-start : Agrees cleared emptyLedger
 unfolding cleared emptyLedger
@@ -230,13 +277,15 @@ agrees-forget st k = record { processes = refl; threads = refl; records = no-rec
 
 -- ---- every change
 
-pub agrees-change : (ch : Change) (st : Store) (k : Ledger) → sound st ≡ true → fits (view st) ch ≡ true → Agrees st k → Agrees (apply ch st) (note ch k)
+pub agrees-change : (ch : Change) (st : Store) (k : Ledger) → sound st ≡ true → fits (view st) ch ≡ true → Agrees st k
+    → Agrees (apply ch st) (note ch k)
 unfolding fits
 agrees-change forget st k e f a = agrees-forget st k
 agrees-change (newProcess p) st k e f a = clash f refl
 agrees-change (newThread t) st k e f a = agrees-newThread st k a (free-threads st (clauses st e .freePlaces)) t
 agrees-change (removeProcess n) st k e f a = agrees-removeProcess st k a n (process-named st n f)
-agrees-change (removeThread n) st k e f a = agrees-removeThread st k a n (thread-named st n (and-fst (liveThread (view st) n) _ f))
+agrees-change (removeThread n) st k e f a =
+    agrees-removeThread st k a n (thread-named st n (and-fst (liveThread (view st) n) _ f))
 agrees-change (setStopped n b) st k e f a = unfold apply note in agrees-amended st k a n (withStopped b) (λ p. refl)
 agrees-change (setAction n s c) st k e f a = unfold apply note in agrees-amended st k a n (withAction s c) (λ p. refl)
 agrees-change (setMask n m) st k e f a = agrees-setMask st k a n m

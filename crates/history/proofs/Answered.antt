@@ -1,4 +1,5 @@
--- A call's refusal and answer are what is read in the ledger; none is 14; room is what the ledger counts. Assumes nothing.
+-- A call's refusal and answer are what is read in the ledger; none is 14; room is what the ledger counts.
+-- Assumes nothing.
 use Prim.Native.Nat.{ℕ, zero, suc, _≤_}
 use mathlib.Core.Path.{_≡_, refl, sym, ap, ap₂, _∙_}
 use mathlib.Core.Bool.{Bool, true, false, _&&_, cond}
@@ -53,13 +54,15 @@ module _ (k : Ledger) (c : Call) where
 
 pub never-fault : (k : Ledger) (c : Call) → isRefusedWith EFAULT (ledgerAnswer k c) ≡ false
 unfolding ledgerRefusal
-never-fault k c = refused-with k c EFAULT refl ∙ not-true (eqb (ledgerRefusal k c) EFAULT) (rows-no-fault (ledgerView k) c)
+never-fault k c =
+    refused-with k c EFAULT refl ∙ not-true (eqb (ledgerRefusal k c) EFAULT) (rows-no-fault (ledgerView k) c)
 
 -- ---- room
 
 -- a queued send has one row more than a plain one, the last
 last-row : (x y z w : Bool)
-    → eqb (refusal (einval x ∷ esrch y ∷ eperm z ∷ eagain w ∷ [])) EAGAIN ≡ (eqb (refusal (einval x ∷ esrch y ∷ eperm z ∷ [])) 0 && w)
+    → eqb (refusal (einval x ∷ esrch y ∷ eperm z ∷ eagain w ∷ [])) EAGAIN
+    ≡ (eqb (refusal (einval x ∷ esrch y ∷ eperm z ∷ [])) 0 && w)
 unfolding refusal
 last-row true y z w = refl
 last-row false true z w = refl
@@ -80,10 +83,12 @@ module _ (st : Store) (k : Ledger) (h : Holds st k) where
 
   pub room-counted : (by to t s value : ℕ) → isRefusedWith EAGAIN (ledgerAnswer k (sigqueue by to t s value))
       ≡ (eqb (refusal (rows (ledgerView k) (kill by to t s))) 0
-      && (needsRecord (generation (ledgerView k) true (targetQueue to t) s) && eqb (pendingWhere k (ofProcess to)) recordLimit))
+      && (needsRecord (generation (ledgerView k) true (targetQueue to t) s)
+      && eqb (pendingWhere k (ofProcess to)) recordLimit))
   unfolding ledgerRefusal rows noRoom
   room-counted by to t s value =
       refused-with k (sigqueue by to t s value) EAGAIN refl
       ∙ last-row _ _ _ (noRoom (ledgerView k) to t s)
-      ∙ ap (λ (b : Bool). eqb (refusal (rows (ledgerView k) (kill by to t s))) 0 && (needsRecord (generation (ledgerView k) true (targetQueue to t) s) && b))
+      ∙ ap (λ (b : Bool). eqb (refusal (rows (ledgerView k) (kill by to t s))) 0
+      && (needsRecord (generation (ledgerView k) true (targetQueue to t) s) && b))
       (unfold ledgerView in full (pendingWhere k (ofProcess to)) (pending-limit to))

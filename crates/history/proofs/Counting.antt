@@ -1,4 +1,5 @@
--- What an accepted call does to the ledger's counts: a kept send is counted once, a taken one once, and no other call counts either. Assumes nothing.
+-- What an accepted call does to the ledger's counts: a kept send is counted once, a taken one once,
+-- and no other call counts either. Assumes nothing.
 use Prim.Native.Nat.{ℕ, _+_}
 use mathlib.Core.Path.{_≡_, refl, sym, ap, ap₂, _∙_, subst}
 use mathlib.Core.Logic.{_⊎_, inl, inr, ⊎-map}
@@ -10,7 +11,9 @@ use Rattle.lists.specs.Lists.{All}
 use Rattle.lists.proofs.Bools.{split, and-both, cond-true}
 use Rattle.types.specs.declared.Siginfo.{Siginfo}
 use Rattle.rules.specs.Types.{Queue, Next, nextRecord, Call, sigqueue, take}
-use Rattle.rules.specs.View.{View, Change, forget, newProcess, newThread, removeProcess, removeThread, setStopped, setAction, setMask, setMark, clearMark, append, dropOldest, discard, sameQueue, targetQueue, inQueue, theThread, threadAction}
+use Rattle.rules.specs.View.{View, Change, forget, newProcess, newThread, removeProcess, removeThread, setStopped}
+use Rattle.rules.specs.View.{setAction, setMask, setMark, clearMark, append, dropOldest, discard, sameQueue}
+use Rattle.rules.specs.View.{targetQueue, inQueue, theThread, threadAction}
 use Rattle.rules.specs.Sending.{Generation, keeping, generation, infoOf, jobControl, sendChanges}
 use Rattle.rules.specs.Taking.{next, deliver, takeChanges}
 use Rattle.rules.specs.Asking.{takenBy}
@@ -18,7 +21,8 @@ use Rattle.rules.specs.Calls.{send, changes}
 use Rattle.rules.proofs.CallChanges.{Quiet, Keeps, changes-made, job-made, deliver-made}
 use Rattle.rules.proofs.Marks.{same-queue}
 use Rattle.queue.proofs.Signals.{eqb-comm}
-use Rattle.history.specs.Ledger.{ofThread, ofSignals, Counts, Line, Ledger, everywhere, ofProcess, isAt, keepSend, oneOf, takeSend, emptyLine, withMark, onLines, emptying, note, noteAll}
+use Rattle.history.specs.Ledger.{ofThread, ofSignals, Counts, Line, Ledger, everywhere, ofProcess, isAt, keepSend}
+use Rattle.history.specs.Ledger.{oneOf, takeSend, emptyLine, withMark, onLines, emptying, note, noteAll}
 use Rattle.history.proofs.Records.{at-queue, at-signal}
 
 -- ---- lines and ledgers in which sends are discarded at the most
@@ -72,7 +76,9 @@ lines-fade g h false x = same-faded x
 emptying-fades : (p : Queue → ℕ → Bool) (k : Ledger) → Fades k (emptying p k)
 emptying-fades p k =
     record {
-      lines = λ q s. lines-fade emptyLine (λ x. record { kept = refl; taken = refl; sends = inr refl }) (p q s) (k .lines q s);
+      lines =
+          λ q s. lines-fade emptyLine (λ x. record { kept = refl; taken = refl; sends = inr refl }) (p q s)
+          (k .lines q s);
       kept = refl;
       taken = refl;
     }
@@ -80,7 +86,9 @@ emptying-fades p k =
 marking-fades : (m : Bool) (q : Queue) (s : ℕ) (k : Ledger) → Fades k (onLines (isAt q s) (withMark m) k)
 marking-fades m q s k =
     record {
-      lines = λ q′ s′. lines-fade (withMark m) (λ x. record { kept = refl; taken = refl; sends = inl refl }) (isAt q s q′ s′) (k .lines q′ s′);
+      lines =
+          λ q′ s′. lines-fade (withMark m) (λ x. record { kept = refl; taken = refl; sends = inl refl })
+          (isAt q s q′ s′) (k .lines q′ s′);
       kept = refl;
       taken = refl;
     }
@@ -165,17 +173,20 @@ pub fades-taken : (k k′ : Ledger) → Fades k k′ → Steady taken k k′
 fades-taken k k′ f = record { lines = λ q s. f .lines q s .taken; total = f .taken }
 
 -- a record that goes is not kept, and one that comes is not taken
-line-steady : (f : Counts → ℕ) (g : Line → Line) → ((x : Line) → f (g x .counts) ≡ f (x .counts)) → (b : Bool) (x : Line) → f (cond b (g x) x .counts) ≡ f (x .counts)
+line-steady : (f : Counts → ℕ) (g : Line → Line) → ((x : Line) → f (g x .counts) ≡ f (x .counts))
+    → (b : Bool) (x : Line) → f (cond b (g x) x .counts) ≡ f (x .counts)
 line-steady f g h true x = h x
 line-steady f g h false x = refl
 
 drop-keeps : (q : Queue) (s : ℕ) (k : Ledger) → Steady kept k (note (dropOldest q s) k)
 unfolding note
-drop-keeps q s k = record { lines = λ q′ s′. line-steady kept takeSend (λ x. refl) (isAt q s q′ s′) (k .lines q′ s′); total = refl }
+drop-keeps q s k =
+    record { lines = λ q′ s′. line-steady kept takeSend (λ x. refl) (isAt q s q′ s′) (k .lines q′ s′); total = refl }
 
 append-takes : (r : Siginfo) (k : Ledger) → Steady taken k (note (append r) k)
 unfolding note
-append-takes r k = record { lines = λ q s. line-steady taken (keepSend r) (λ x. refl) (inQueue q s r) (k .lines q s); total = refl }
+append-takes r k =
+    record { lines = λ q s. line-steady taken (keepSend r) (λ x. refl) (inQueue q s r) (k .lines q s); total = refl }
 
 -- ---- a call that keeps nothing, and one that takes nothing
 
@@ -183,12 +194,15 @@ module _ (k : Ledger) (v : View) (c : Call) where
   pub kept-steady : ((r : Siginfo) → Keeps v c r → ⊥) → Steady kept k (noteAll (changes v c) k)
   kept-steady n =
       steady-all kept (changes v c) k
-      (changes-made (Steadying kept) (steadying kept fades-kept) v c (λ r e. absurd (n r e)) (λ q s r e. drop-keeps q s))
+      (changes-made (Steadying kept) (steadying kept fades-kept) v c (λ r e. absurd (n r e))
+      (λ q s r e. drop-keeps q s))
 
-  pub taken-steady : ((q : Queue) (s : ℕ) (r : Siginfo) → takenBy v c ≡ nextRecord q s r → ⊥) → Steady taken k (noteAll (changes v c) k)
+  pub taken-steady : ((q : Queue) (s : ℕ) (r : Siginfo) → takenBy v c ≡ nextRecord q s r → ⊥)
+      → Steady taken k (noteAll (changes v c) k)
   taken-steady n =
       steady-all taken (changes v c) k
-      (changes-made (Steadying taken) (steadying taken fades-taken) v c (λ r e. append-takes r) (λ q s r e. absurd (n q s r e)))
+      (changes-made (Steadying taken) (steadying taken fades-taken) v c (λ r e. append-takes r)
+      (λ q s r e. absurd (n q s r e)))
 
 -- ---- a send that is kept: job control, and then the record
 
@@ -204,7 +218,8 @@ module _ (k : Ledger) (v : View) (by to t s value : ℕ) (e : generation v true 
   kept-last : noteAll (changes v (sigqueue by to t s value)) k ≡ note (append (infoOf v by to t s value)) controlled
   unfolding changes send sendChanges infoOf noteAll
   kept-last =
-      ap (λ (f : Generation). noteAll (sendChanges f (infoOf v by to t s value)) k) e ∙ noteAll-append (jobControl to s) (append (infoOf v by to t s value) ∷ []) k
+      ap (λ (f : Generation). noteAll (sendChanges f (infoOf v by to t s value)) k) e
+      ∙ noteAll-append (jobControl to s) (append (infoOf v by to t s value) ∷ []) k
 
   controlled-kept : Steady kept k controlled
   controlled-kept = fades-kept k controlled (fades-all (jobControl to s) k (job-made Fading discard-pending to s))
@@ -214,10 +229,14 @@ module _ (k : Ledger) (v : View) (by to t s value : ℕ) (e : generation v true 
   unfolding note infoOf inQueue
   kept-one q n =
       ap (λ (x : Ledger). x .lines q n .counts .kept) kept-last
-      ∙ ap (λ (b : Bool). cond (sameQueue q (targetQueue to t) && b) (keepSend (infoOf v by to t s value) (controlled .lines q n)) (controlled .lines q n) .counts .kept) (eqb-comm s n)
+      ∙ ap (λ (b : Bool). cond (sameQueue q (targetQueue to t) && b)
+      (keepSend (infoOf v by to t s value) (controlled .lines q n)) (controlled .lines q n) .counts .kept)
+      (eqb-comm s n)
       ∙ more (isAt (targetQueue to t) s q n)
     where
-      more : (b : Bool) → cond b (keepSend (infoOf v by to t s value) (controlled .lines q n)) (controlled .lines q n) .counts .kept ≡ k .lines q n .counts .kept + cond b 1 0
+      more : (b : Bool)
+          → cond b (keepSend (infoOf v by to t s value) (controlled .lines q n)) (controlled .lines q n) .counts .kept
+          ≡ k .lines q n .counts .kept + cond b 1 0
       more true = ap (λ m. m + 1) (controlled-kept .lines q n)
       more false = controlled-kept .lines q n ∙ omega arith
 
@@ -227,7 +246,8 @@ module _ (k : Ledger) (v : View) (by to t s value : ℕ) (e : generation v true 
 
 -- ---- a take of a send: the oldest goes, and then what it sets off
 
-module _ (k : Ledger) (v : View) (t : ℕ) (q : Queue) (s : ℕ) (r : Siginfo) (e : next v (theThread v t) ≡ nextRecord q s r) where
+module _ (k : Ledger) (v : View) (t : ℕ) (q : Queue) (s : ℕ) (r : Siginfo)
+    (e : next v (theThread v t) ≡ nextRecord q s r) where
   abbrev relieved : Ledger
   relieved = note (dropOldest q s) k
 
@@ -239,11 +259,14 @@ module _ (k : Ledger) (v : View) (t : ℕ) (q : Queue) (s : ℕ) (r : Siginfo) (
   taken-first = ap (λ (n : Next). noteAll (takeChanges v (theThread v t) n) k) e
 
   delivered-fades : Fades relieved (noteAll delivering relieved)
-  delivered-fades = fades-all delivering relieved (deliver-made Fading discard-pending (theThread v t) (threadAction v (theThread v t) s) s)
+  delivered-fades =
+      fades-all delivering relieved
+      (deliver-made Fading discard-pending (theThread v t) (threadAction v (theThread v t) s) s)
 
   -- o: there is a send to take
   module _ (o : oneOf (k .lines q s .sends) ≡ 1) where
-    pub taken-one : (q′ : Queue) (s′ : ℕ) → noteAll (changes v (take t)) k .lines q′ s′ .counts .taken ≡ k .lines q′ s′ .counts .taken + cond (isAt q s q′ s′) 1 0
+    pub taken-one : (q′ : Queue) (s′ : ℕ) → noteAll (changes v (take t)) k .lines q′ s′ .counts .taken
+        ≡ k .lines q′ s′ .counts .taken + cond (isAt q s q′ s′) 1 0
     unfolding note
     taken-one q′ s′ =
         ap (λ (x : Ledger). x .lines q′ s′ .counts .taken) taken-first
@@ -251,16 +274,23 @@ module _ (k : Ledger) (v : View) (t : ℕ) (q : Queue) (s : ℕ) (r : Siginfo) (
         ∙ split (isAt q s q′ s′)
         (λ i.
         rw i
-        (ap (λ m. k .lines q′ s′ .counts .taken + m) (ap₂ (λ (a : Queue) (n : ℕ). oneOf (k .lines a n .sends)) (at-queue q q′ s s′ i) (at-signal q q′ s s′ i) ∙ o)))
+        (ap (λ m. k .lines q′ s′ .counts .taken + m)
+        (ap₂ (λ (a : Queue) (n : ℕ). oneOf (k .lines a n .sends)) (at-queue q q′ s s′ i) (at-signal q q′ s s′ i) ∙ o)))
         (λ i. rw i (omega arith))
 
     pub taken-total : noteAll (changes v (take t)) k .total .taken ≡ k .total .taken + 1
     unfolding note
-    taken-total = ap (λ (x : Ledger). x .total .taken) taken-first ∙ delivered-fades .taken ∙ ap (λ m. k .total .taken + m) o
+    taken-total =
+        ap (λ (x : Ledger). x .total .taken) taken-first ∙ delivered-fades .taken ∙ ap (λ m. k .total .taken + m) o
 
-  pub taken-gone : (noteAll (changes v (take t)) k .lines q s .sends ≡ tail (k .lines q s .sends)) ⊎ (noteAll (changes v (take t)) k .lines q s .sends ≡ [])
+  pub taken-gone : (noteAll (changes v (take t)) k .lines q s .sends ≡ tail (k .lines q s .sends))
+      ⊎ (noteAll (changes v (take t)) k .lines q s .sends ≡ [])
   unfolding note
-  taken-gone = ⊎-map (λ a. ap (λ (x : Ledger). x .lines q s .sends) taken-first ∙ a ∙ here) (λ a. ap (λ (x : Ledger). x .lines q s .sends) taken-first ∙ a) (delivered-fades .lines q s .sends)
+  taken-gone =
+      ⊎-map (λ a. ap (λ (x : Ledger). x .lines q s .sends) taken-first ∙ a ∙ here)
+      (λ a. ap (λ (x : Ledger). x .lines q s .sends) taken-first ∙ a) (delivered-fades .lines q s .sends)
     where
       here : cond (isAt q s q s) (takeSend (k .lines q s)) (k .lines q s) .sends ≡ tail (k .lines q s .sends)
-      here = ap (λ (x : Line). x .sends) (cond-true (takeSend (k .lines q s)) (k .lines q s) (and-both (same-queue q q refl) (eq-eqb s s refl)))
+      here =
+          ap (λ (x : Line). x .sends)
+          (cond-true (takeSend (k .lines q s)) (k .lines q s) (and-both (same-queue q q refl) (eq-eqb s s refl)))

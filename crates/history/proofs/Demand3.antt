@@ -21,14 +21,18 @@ use Rattle.sound.specs.Lent.{Lent, decoded, lengthsAre, soundTables}
 use Rattle.answers.specs.Step.{encoded, stepOn}
 use Rattle.calls.specs.Calls.{callOf}
 use Rattle.history.specs.Ledger.{Ledger, emptyLedger, ledgerView, ledgerAnswer, enter, enterAll}
-use Rattle.history.specs.History.{clearedTables, tablesAfter, entryOf, entriesOf, ledgerAfter, isRefusedWith, isKept, keepsAt, takesAt, takesOne}
+use Rattle.history.specs.History.{clearedTables, tablesAfter, entryOf, entriesOf, ledgerAfter, isRefusedWith}
+use Rattle.history.specs.History.{isKept, keepsAt, takesAt, takesOne}
 use Rattle.history.specs.Claim.{Took, Claim, Demand3}
 use Rattle.history.proofs.Answered.{same-answer, never-fault, room-counted, pending-limit}
-use Rattle.history.proofs.Encoded.{answer-on, decoded-on, sound-on, encoded-on, decoded-cleared, encoded-cleared, sound-clearedTables}
+use Rattle.history.proofs.Encoded.{answer-on, decoded-on, sound-on, encoded-on, decoded-cleared, encoded-cleared}
+use Rattle.history.proofs.Encoded.{sound-clearedTables}
 use Rattle.history.proofs.Holds.{Holds, holds-step, holds-start}
 use Rattle.history.proofs.Looks.{same-look}
 use Rattle.history.proofs.Relation.{Agrees}
-use Rattle.history.proofs.Tallies.{then, accepted-answer, accepted-then, take-accepted, asked, kept-counted, kept-in-total, taken-counted, taken-in-total, taken-allowed, taken-oldest, taken-answer}
+use Rattle.history.proofs.Tallies.{then, accepted-answer, accepted-then, take-accepted, asked, kept-counted}
+use Rattle.history.proofs.Tallies.{kept-in-total, taken-counted, taken-in-total, taken-allowed, taken-oldest}
+use Rattle.history.proofs.Tallies.{taken-answer}
 use Rattle.history.proofs.Counting.{taken-gone}
 use Rattle.history.proofs.Widths.{Widths, widths-cleared, widths-step}
 
@@ -68,24 +72,31 @@ module _ (l : Lent) (k : Ledger) (r : Reached l k) where
   reached-step c u =
       record {
         sound = sound-on c l u (r .sound) (r .widths);
-        widths = subst Widths (sym (decoded-on c l u (r .sound) (r .widths))) (widths-step c (decoded l) u (r .holds .isSound) (r .widths));
+        widths =
+            subst Widths (sym (decoded-on c l u (r .sound) (r .widths)))
+            (widths-step c (decoded l) u (r .holds .isSound) (r .widths));
         whole = encoded-on c l u (r .sound) (r .widths) (r .whole);
         holds =
             subst (λ st. Holds st (enter (entryOf c l) k)) (sym (decoded-on c l u (r .sound) (r .widths)))
-            (subst (λ (a : Answer). Holds (step c (decoded l) .0) (enter (record { call = c; refused = isRefused a }) k)) (sym (answer-on c l long))
+            (subst
+            (λ (a : Answer). Holds (step c (decoded l) .0) (enter (record { call = c; refused = isRefused a }) k))
+            (sym (answer-on c l long))
             (holds-step c (decoded l) k u (r .holds)));
       }
 
-reached-list : (cs : List Call) (l : Lent) (k : Ledger) → all machine cs ≡ true → Reached l k → Reached (tablesAfter cs l) (enterAll (entriesOf cs l) k)
+reached-list : (cs : List Call) (l : Lent) (k : Ledger) → all machine cs ≡ true → Reached l k
+    → Reached (tablesAfter cs l) (enterAll (entriesOf cs l) k)
 unfolding tablesAfter entriesOf enterAll all
 reached-list [] l k u r = r
 reached-list (c ∷ cs) l k u r =
-    reached-list cs (stepOn c l .0) (enter (entryOf c l) k) (and-snd (machine c) (all machine cs) u) (reached-step l k r c (and-fst (machine c) (all machine cs) u))
+    reached-list cs (stepOn c l .0) (enter (entryOf c l) k) (and-snd (machine c) (all machine cs) u)
+    (reached-step l k r c (and-fst (machine c) (all machine cs) u))
 
 -- ---- the claim
 
 module _ (l : Lent) (k : Ledger) (r : Reached l k) where
-  takes : (t : ℕ) → liveThread (ledgerView k) t ≡ true → (q : Queue) (s : ℕ) (x : Siginfo) → next (ledgerView k) (theThread (ledgerView k) t) ≡ nextRecord q s x → Took l k t q s x
+  takes : (t : ℕ) → liveThread (ledgerView k) t ≡ true → (q : Queue) (s : ℕ) (x : Siginfo)
+      → next (ledgerView k) (theThread (ledgerView k) t) ≡ nextRecord q s x → Took l k t q s x
   takes t a q s x e =
       let after = told l k r (take t) ∙ accepted-then k (take t) (take-accepted k t a) in
       record {
@@ -93,7 +104,8 @@ module _ (l : Lent) (k : Ledger) (r : Reached l k) where
         oldest = taken-oldest k t q s x e;
         answers = answers l k r (take t) ∙ accepted-answer k (take t) (take-accepted k t a) ∙ taken-answer k t q s x e;
         gone =
-            ⊎-map (λ g. ap (λ (y : Ledger). y .lines q s .sends) after ∙ g) (λ g. ap (λ (y : Ledger). y .lines q s .sends) after ∙ g)
+            ⊎-map (λ g. ap (λ (y : Ledger). y .lines q s .sends) after ∙ g)
+            (λ g. ap (λ (y : Ledger). y .lines q s .sends) after ∙ g)
             (taken-gone k (ledgerView k) t q s x e);
       }
 
@@ -113,12 +125,14 @@ module _ (l : Lent) (k : Ledger) (r : Reached l k) where
         asking = λ t h. ap yieldsOne (answers l k r (take t)) ∙ asked k t h;
         balance = λ q s.
             r .holds .beside .balanced q s .counts
-            ∙ ap (λ (rs : List Siginfo). k .lines q s .counts .taken + k .lines q s .counts .discarded + length rs) (sym (a .records q s));
+            ∙ ap (λ (rs : List Siginfo). k .lines q s .counts .taken + k .lines q s .counts .discarded + length rs)
+            (sym (a .records q s));
         total = r .holds .beside .total;
         keptCounted = λ c q s.
             ap (λ (x : Ledger). x .lines q s .counts .kept) (told l k r c)
             ∙ kept-counted k c q s
-            ∙ ap (λ (x : Answer). k .lines q s .counts .kept + cond (isKept x && keepsAt c q s) 1 0) (sym (answers l k r c));
+            ∙ ap (λ (x : Answer). k .lines q s .counts .kept + cond (isKept x && keepsAt c q s) 1 0)
+            (sym (answers l k r c));
         keptTotal = λ c.
             ap (λ (x : Ledger). x .total .kept) (told l k r c)
             ∙ kept-in-total k c
@@ -126,7 +140,8 @@ module _ (l : Lent) (k : Ledger) (r : Reached l k) where
         takenCounted = λ c q s.
             ap (λ (x : Ledger). x .lines q s .counts .taken) (told l k r c)
             ∙ taken-counted k c q s
-            ∙ ap (λ (x : Answer). k .lines q s .counts .taken + cond (yieldsOne x && takesAt k c q s) 1 0) (sym (answers l k r c));
+            ∙ ap (λ (x : Answer). k .lines q s .counts .taken + cond (yieldsOne x && takesAt k c q s) 1 0)
+            (sym (answers l k r c));
         takenTotal = λ c.
             ap (λ (x : Ledger). x .total .taken) (told l k r c)
             ∙ taken-in-total k c

@@ -1,4 +1,5 @@
--- A call on the lent tables is the rules' call on what they say, and cleared tables say the cleared store. Assumes nothing.
+-- A call on the lent tables is the rules' call on what they say, and cleared tables say the cleared store.
+-- Assumes nothing.
 use Prim.Native.Nat.{_*_}
 use mathlib.Core.Path.{_≡_, refl, sym, ap, _∙_}
 use mathlib.Core.Bool.{true, false, not}
@@ -6,7 +7,8 @@ use mathlib.Core.List.{List}
 use lib.Dec.{eqb}
 use lib.ListN.{length, replicate}
 use borrow.Author.Tests.{eqb-true, eq-eqb}
-use Rattle.limits.specs.Limits.{signals, bufferRecords, bufferBytes, recordBytes, processPlaces, processWords, processTable, threadPlaces, threadWords, threadTable, EFAULT}
+use Rattle.limits.specs.Limits.{signals, bufferRecords, bufferBytes, recordBytes, processPlaces, processWords}
+use Rattle.limits.specs.Limits.{processTable, threadPlaces, threadWords, threadTable, EFAULT}
 use Rattle.lists.specs.Lists.{All}
 use Rattle.lists.specs.Rows.{flat}
 use Rattle.lists.proofs.Bools.{split, and-both, cond-true, cond-false}
@@ -29,7 +31,8 @@ use Rattle.rules.proofs.Refused.{refused-by-table, refused-keeps}
 use Rattle.rules.proofs.StaysSound.{step-sound}
 use Rattle.rules.proofs.Cleared.{sound-cleared}
 use Rattle.tables.specs.Tables.{processTo, threadTo, processWordsOf, threadWordsOf}
-use Rattle.tables.proofs.Words.{ActionsLong, words-forth, thread-words-forth, length-processWordsOf, length-threadWordsOf, free-process-words, free-thread-words}
+use Rattle.tables.proofs.Words.{ActionsLong, words-forth, thread-words-forth, length-processWordsOf}
+use Rattle.tables.proofs.Words.{length-threadWordsOf, free-process-words, free-thread-words}
 use Rattle.queue.specs.Queue.{slotsOf}
 use Rattle.sound.specs.Lent.{Lent, lent, decoded, lengthsAre, soundTables}
 use Rattle.sound.proofs.Facts.{right-lengths, store-sound}
@@ -110,7 +113,8 @@ module _ (c : Call) (l : Lent) (u : machine c ≡ true) (e : soundTables l ≡ t
   decoded-on =
       split (isRefused (step c (decoded l) .1))
       (λ r. ap decoded (refused-on c l right r) ∙ sym (refused-keeps c (decoded l) r))
-      (λ r. ap decoded (accepted-on c l right r) ∙ decoded-encoded (step c (decoded l) .0) after-sound (widths-step c (decoded l) u before-sound w))
+      (λ r. ap decoded (accepted-on c l right r)
+      ∙ decoded-encoded (step c (decoded l) .0) after-sound (widths-step c (decoded l) u before-sound w))
 
   -- they are its words and bytes
   pub encoded-on : encoded (decoded l) ≡ l → encoded (decoded (stepOn c l .0)) ≡ stepOn c l .0
@@ -154,7 +158,8 @@ decoded-cleared = ap decoded (sym encoded-cleared) ∙ decoded-encoded cleared s
 pub sound-clearedTables : soundTables clearedTables ≡ true
 unfolding soundTables
 sound-clearedTables =
-    and-both (ap lengthsAre (sym encoded-cleared) ∙ long-encoded cleared sound-cleared) (ap sound decoded-cleared ∙ sound-cleared)
+    and-both (ap lengthsAre (sym encoded-cleared) ∙ long-encoded cleared sound-cleared)
+    (ap sound decoded-cleared ∙ sound-cleared)
 
 -- what tables say has the right number of places, and clearing asks no more
 clear-accepted : (l : Lent) → refusalOf (decoded l) clear ≡ 0

@@ -43,7 +43,8 @@ pub record Holds (st : Store) (k : Ledger) : Type 0 where
 
 -- ---- a change, a list of them
 
-holds-change : (ch : Change) (st : Store) (k : Ledger) → fits (view st) ch ≡ true → Holds st k → Holds (apply ch st) (note ch k)
+holds-change : (ch : Change) (st : Store) (k : Ledger) → fits (view st) ch ≡ true → Holds st k
+    → Holds (apply ch st) (note ch k)
 holds-change ch st k f h =
     record {
       isSound = fits-keeps ch st (h .isSound) f;
@@ -55,7 +56,8 @@ holds-change ch st k f h =
           };
     }
 
-holds-changes : (cs : List Change) (st : Store) (k : Ledger) → fitsAll cs st ≡ true → Holds st k → Holds (applyAll cs st) (noteAll cs k)
+holds-changes : (cs : List Change) (st : Store) (k : Ledger) → fitsAll cs st ≡ true → Holds st k
+    → Holds (applyAll cs st) (noteAll cs k)
 unfolding fitsAll applyAll noteAll
 holds-changes [] st k f h = h
 holds-changes (c ∷ cs) st k f h =
@@ -68,8 +70,15 @@ pub same-view : (st : Store) (k : Ledger) → Holds st k → view st ≡ ledgerV
 unfolding view ledgerView
 same-view st k h =
     let a : Agrees st k = h .beside .agrees in
-    let o : (q : Queue) (s : ℕ) → first (inQueue q s) (recordsFor q st) ≡ head? (k .lines q s .sends) = λ q s. first-keep (inQueue q s) (recordsFor q st) ∙ ap head? (a .records q s) in
-    λ i. record { processes = a .processes i; threads = a .threads i; marks = λ q s. a .marks q s i; oldest = λ q s. o q s i; queued = λ n. same-queued st k (h .isSound) a n i }
+    let o : (q : Queue) (s : ℕ) → first (inQueue q s) (recordsFor q st) ≡ head? (k .lines q s .sends) =
+    λ q s. first-keep (inQueue q s) (recordsFor q st) ∙ ap head? (a .records q s) in
+    λ i. record {
+      processes = a .processes i;
+      threads = a .threads i;
+      marks = λ q s. a .marks q s i;
+      oldest = λ q s. o q s i;
+      queued = λ n. same-queued st k (h .isSound) a n i;
+    }
 
 -- ---- a call
 
@@ -82,9 +91,15 @@ module _ (p : Process) (t : Thread) (st : Store) (k : Ledger) (h : Holds st k) w
   unfolding applyAll noteAll
   beside-added =
       record {
-        agrees = agrees-newThread (apply (newProcess p) st) (note (newProcess p) k) (agrees-newProcess st k (h .beside .agrees) free p) (unfold apply in free-threads st free) t;
-        total = total-newThread t (apply (newProcess p) st) (note (newProcess p) k) (total-newProcess p st k (h .beside .total));
-        balanced = balanced-change (newThread t) (note (newProcess p) k) (balanced-change (newProcess p) k (h .beside .balanced));
+        agrees =
+            agrees-newThread (apply (newProcess p) st) (note (newProcess p) k)
+            (agrees-newProcess st k (h .beside .agrees) free p) (unfold apply in free-threads st free) t;
+        total =
+            total-newThread t (apply (newProcess p) st) (note (newProcess p) k)
+            (total-newProcess p st k (h .beside .total));
+        balanced =
+            balanced-change (newThread t) (note (newProcess p) k)
+            (balanced-change (newProcess p) k (h .beside .balanced));
       }
     where
       free : freeZero st ≡ true
@@ -115,7 +130,8 @@ holds-accepted : (c : Call) (st : Store) (k : Ledger) → machine c ≡ true →
 holds-accepted c = kind-holds (kindOf c) refl
 
 -- the ledger after an accepted call, by the view of the tables
-pub entered : (c : Call) (st : Store) (k : Ledger) → Holds st k → enter (record { call = c; refused = false }) k ≡ noteAll (changes (view st) c) k
+pub entered : (c : Call) (st : Store) (k : Ledger) → Holds st k
+    → enter (record { call = c; refused = false }) k ≡ noteAll (changes (view st) c) k
 unfolding enter stages noteStages
 entered c st k h = ap (λ (v : View). noteAll (changes v c) k) (sym (same-view st k h))
 
@@ -128,14 +144,16 @@ left-alone : (c : Call) (st : Store) (k : Ledger) → isRefused (step c st .1) �
 unfolding enter
 left-alone c st k n = cond-true k _ n
 
-pub holds-step : (c : Call) (st : Store) (k : Ledger) → machine c ≡ true → Holds st k → Holds (step c st .0) (enter (tellOf c st) k)
+pub holds-step : (c : Call) (st : Store) (k : Ledger) → machine c ≡ true → Holds st k
+    → Holds (step c st .0) (enter (tellOf c st) k)
 holds-step c st k u h =
     split (eqb (refusalOf st c) 0)
     (λ z.
     let e : refusalOf st c ≡ 0 = eqb-true (refusalOf st c) 0 z in
     let n : isRefused (step c st .1) ≡ false = refused-by-table c st ∙ ap not z in
     subst (λ (x : Store). Holds x (enter (tellOf c st) k)) (sym (accepted-step c st e))
-    (subst (λ (b : Bool). Holds (applyAll (changes (view st) c) st) (enter (record { call = c; refused = b }) k)) (sym n)
+    (subst (λ (b : Bool). Holds (applyAll (changes (view st) c) st) (enter (record { call = c; refused = b }) k))
+    (sym n)
     (subst (Holds (applyAll (changes (view st) c) st)) (sym (entered c st k h)) (holds-accepted c st k u e h))))
     (λ z.
     let n : isRefused (step c st .1) ≡ true = refused-by-table c st ∙ ap not z in
@@ -143,4 +161,8 @@ holds-step c st k u h =
     (subst (Holds st) (sym (left-alone c st k n)) h))
 
 pub holds-start : Holds cleared emptyLedger
-holds-start = record { isSound = sound-cleared; beside = record { agrees = agrees-start; total = total-start; balanced = balanced-start } }
+holds-start =
+    record {
+      isSound = sound-cleared;
+      beside = record { agrees = agrees-start; total = total-start; balanced = balanced-start };
+    }

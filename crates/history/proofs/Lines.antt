@@ -1,4 +1,5 @@
--- A line of the ledger: its counts balance, and its sends are those kept since it was emptied less those taken since. Assumes nothing.
+-- A line of the ledger: its counts balance, and its sends are those kept since it was emptied less those taken since.
+-- Assumes nothing.
 use Prim.Native.Nat.{ℕ, zero, suc, _+_, _≤_}
 use mathlib.Core.Path.{_≡_, refl, sym, ap, _∙_}
 use mathlib.Core.Bool.{Bool, true, false, cond}
@@ -7,8 +8,10 @@ use native.Mathlib.Omega.{arith}
 use lib.ListN.{length, length-append, length-drop, drop}
 use Rattle.types.specs.declared.Siginfo.{Siginfo}
 use Rattle.rules.specs.Types.{Queue}
-use Rattle.rules.specs.View.{Change, forget, newProcess, newThread, removeProcess, removeThread, setStopped, setAction, setMask, setMark, clearMark, append, dropOldest, discard, inQueue}
-use Rattle.history.specs.Ledger.{ofThread, ofSignals, Line, Ledger, emptyLedger, ofProcess, everywhere, keepSend, oneOf, takeSend, emptyLine, withMark, isAt, onLines, emptying, note}
+use Rattle.rules.specs.View.{Change, forget, newProcess, newThread, removeProcess, removeThread, setStopped, setAction}
+use Rattle.rules.specs.View.{setMask, setMark, clearMark, append, dropOldest, discard, inQueue}
+use Rattle.history.specs.Ledger.{ofThread, ofSignals, Line, Ledger, emptyLedger, ofProcess, everywhere, keepSend}
+use Rattle.history.specs.Ledger.{oneOf, takeSend, emptyLine, withMark, isAt, onLines, emptying, note}
 
 pub record Balanced (x : Line) : Type 0 where
   pub counts : x .counts .kept ≡ x .counts .taken + x .counts .discarded + length (x .sends)
@@ -41,7 +44,8 @@ keep-balanced : (r : Siginfo) (x : Line) → Balanced x → Balanced (keepSend r
 keep-balanced r x b =
     record {
       counts = omega (arith, b .counts, length-append (x .sends) (r ∷ []));
-      since = ap (λ (rs : List Siginfo). rs ++ (r ∷ [])) (b .since) ∙ drop-end (x .takenSince) (x .keptSince) r (b .few);
+      since =
+          ap (λ (rs : List Siginfo). rs ++ (r ∷ [])) (b .since) ∙ drop-end (x .takenSince) (x .keptSince) r (b .few);
       few = omega (arith, b .few, length-append (x .keptSince) (r ∷ []));
     }
 
@@ -49,8 +53,11 @@ take-balanced : (x : Line) → Balanced x → Balanced (takeSend x)
 take-balanced x b =
     record {
       counts = omega (arith, b .counts, one-left (x .sends));
-      since = ap tail (b .since) ∙ drop-one (x .takenSince) (x .keptSince) ∙ ap (λ (rs : List Siginfo). drop (x .takenSince + oneOf rs) (x .keptSince)) (sym (b .since));
-      few = omega (arith, b .few, one-left (x .sends), ap length (b .since), length-drop (x .takenSince) (x .keptSince));
+      since =
+          ap tail (b .since) ∙ drop-one (x .takenSince) (x .keptSince)
+          ∙ ap (λ (rs : List Siginfo). drop (x .takenSince + oneOf rs) (x .keptSince)) (sym (b .since));
+      few =
+          omega (arith, b .few, one-left (x .sends), ap length (b .since), length-drop (x .takenSince) (x .keptSince));
     }
 
 empty-balanced : (x : Line) → Balanced x → Balanced (emptyLine x)
@@ -69,7 +76,8 @@ unfolding emptyLedger
 balanced-start q s = record { counts = refl; since = refl; few = omega arith }
 
 -- those that pass the test change
-lines-balanced : (p : Queue → ℕ → Bool) (g : Line → Line) → ((x : Line) → Balanced x → Balanced (g x)) → (k : Ledger) → AllBalanced k → AllBalanced (onLines p g k)
+lines-balanced : (p : Queue → ℕ → Bool) (g : Line → Line) → ((x : Line) → Balanced x → Balanced (g x)) → (k : Ledger)
+    → AllBalanced k → AllBalanced (onLines p g k)
 lines-balanced p g h k b q s = go (p q s)
   where
     go : (c : Bool) → Balanced (cond c (g (k .lines q s)) (k .lines q s))

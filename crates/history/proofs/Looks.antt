@@ -37,13 +37,17 @@ use Rattle.history.proofs.Holds.{Holds, same-view}
 -- ---- one buffer
 
 -- the bytes of the slot in which the first record that passes stands
-slot-bytes : (p : Siginfo → Bool) (slots : List Siginfo) (r : Siginfo) → first p (used slots) ≡ some r → row recordBytes (slotBytes slots) (find p (used slots)) ≡ bytesOf r
+slot-bytes : (p : Siginfo → Bool) (slots : List Siginfo) (r : Siginfo) → first p (used slots) ≡ some r
+    → row recordBytes (slotBytes slots) (find p (used slots)) ≡ bytesOf r
 unfolding slotBytes
 slot-bytes p slots r e =
-    let i : find p (used slots) < length (used slots) = any-inside p (used slots) (length (used slots)) refl (some-first p (used slots) r e) in
-    row-flat bytesOf recordBytes noSiginfo slots (find p (used slots)) (All-every _ length-bytesOf slots) (omega (arith, length-used slots))
+    let i : find p (used slots) < length (used slots) =
+    any-inside p (used slots) (length (used slots)) refl (some-first p (used slots) r e) in
+    row-flat bytesOf recordBytes noSiginfo slots (find p (used slots)) (All-every _ length-bytesOf slots)
+    (omega (arith, length-used slots))
     ∙ ap bytesOf
-    (sym (used-at slots (find p (used slots)) noSiginfo i) ∙ sym (getD-find p noSiginfo (used slots)) ∙ ap (λ (o : Option Siginfo). Option·getD o noSiginfo) e)
+    (sym (used-at slots (find p (used slots)) noSiginfo i) ∙ sym (getD-find p noSiginfo (used slots))
+    ∙ ap (λ (o : Option Siginfo). Option·getD o noSiginfo) e)
 
 -- ---- the tables, as the words and bytes of what they say
 
@@ -51,18 +55,23 @@ module _ (l : Lent) (w : encoded (decoded l) ≡ l) where
   abbrev st : Store
   st = decoded l
 
-  record-bytes : (q : Queue) (s : ℕ) (r : Siginfo) → first (inQueue q s) (recordsFor q st) ≡ some r → partBytes l (slotOf st q s) ≡ bytesOf r
+  record-bytes : (q : Queue) (s : ℕ) (r : Siginfo) → first (inQueue q s) (recordsFor q st) ≡ some r
+      → partBytes l (slotOf st q s) ≡ bytesOf r
   unfolding slotOf recordsFor partBytes encoded
   record-bytes q s r e =
       split (eqb (q .thread) 0)
       (λ z.
       rw z
-      (ap (λ (x : Lent). row recordBytes (x .processBuffer) (find (inQueue q s) (used (st .processBuffer)))) (sym w) ∙ slot-bytes (inQueue q s) (st .processBuffer) r (rw z at e)))
+      (ap (λ (x : Lent). row recordBytes (x .processBuffer) (find (inQueue q s) (used (st .processBuffer)))) (sym w)
+      ∙ slot-bytes (inQueue q s) (st .processBuffer) r (rw z at e)))
       (λ z.
       rw z
-      (ap (λ (x : Lent). row recordBytes (x .threadBuffer) (find (inQueue q s) (used (st .threadBuffer)))) (sym w) ∙ slot-bytes (inQueue q s) (st .threadBuffer) r (rw z at e)))
+      (ap (λ (x : Lent). row recordBytes (x .threadBuffer) (find (inQueue q s) (used (st .threadBuffer)))) (sym w)
+      ∙ slot-bytes (inQueue q s) (st .threadBuffer) r (rw z at e)))
 
-  next-bytes : (n : Next) → ((q : Queue) (s : ℕ) (r : Siginfo) → n ≡ nextRecord q s r → first (inQueue q s) (recordsFor q st) ≡ some r) → partBytes l (partOf st n) ≡ nextBytes n
+  next-bytes : (n : Next)
+      → ((q : Queue) (s : ℕ) (r : Siginfo) → n ≡ nextRecord q s r → first (inQueue q s) (recordsFor q st) ≡ some r)
+      → partBytes l (partOf st n) ≡ nextBytes n
   unfolding partOf partBytes nextBytes
   next-bytes noNext h = refl
   next-bytes (nextMark q s) h = refl
@@ -83,4 +92,5 @@ module _ (l : Lent) (w : encoded (decoded l) ≡ l) where
     same-look k a h =
         cond-true (partBytes l (lookPart t st)) [] a
         ∙ part-bytes (eqb (refusalOf st (look t)) 0)
-        ∙ ap₂ (λ (n : ℕ) (v : View). cond (eqb n 0) (nextBytes (next v (theThread v t))) []) (same-refusal st k h (look t)) (same-view st k h)
+        ∙ ap₂ (λ (n : ℕ) (v : View). cond (eqb n 0) (nextBytes (next v (theThread v t))) [])
+        (same-refusal st k h (look t)) (same-view st k h)

@@ -1,4 +1,5 @@
--- One call more, by what is read in the ledger: which answers count a send as kept or as taken, and what a take does. Assumes nothing.
+-- One call more, by what is read in the ledger: which answers count a send as kept or as taken, and what a take does.
+-- Assumes nothing.
 use Prim.Native.Nat.{ℕ, _+_}
 use mathlib.Core.Path.{_≡_, refl, sym, ap, _∙_, subst}
 use mathlib.Core.Bool.{Bool, true, false, _&&_, cond}
@@ -15,16 +16,19 @@ use Rattle.rules.specs.Types.{Thread, Queue, Next, noNext, nextMark, nextRecord
 use Rattle.rules.specs.Types.{endProcess, endThread, kill, sigqueue, sigaction, sigmask, sigpending, look, who, take}
 use Rattle.rules.specs.Types.{sigreturn, Kind, clearing, adding, queueing, taking, other, kindOf}
 use Rattle.rules.specs.View.{View, targetQueue, liveThread, theThread, threadAction}
-use Rattle.rules.specs.Sending.{Generation, testing, killing, stopping, dropping, absorbing, marking, keeping, generation, sendAnswer, needsRecord}
+use Rattle.rules.specs.Sending.{Generation, testing, killing, stopping, dropping, absorbing, marking, keeping}
+use Rattle.rules.specs.Sending.{generation, sendAnswer, needsRecord}
 use Rattle.rules.specs.Taking.{whoAnswer, taker, next, delivered, takeAnswer}
 use Rattle.rules.specs.Asking.{MayTake, hasOffer, onReply, onAccepted, yieldsOne, takenOf, takenBy}
 use Rattle.rules.specs.Refusals.{refusal, rows, noThreadLive}
 use Rattle.rules.specs.Calls.{reply, changes, stages, isRefused}
 use Rattle.rules.proofs.Asking.{delivered-yields, asking-yields, next-record}
 use Rattle.rules.proofs.CallChanges.{Keeps, queued, plain-send, needs-keeping, keeping-needs}
-use Rattle.history.specs.Ledger.{Ledger, isAt, oneOf, ledgerView, ledgerRefusal, ledgerAnswer, noteAll, noteStages, enter}
+use Rattle.history.specs.Ledger.{Ledger, isAt, oneOf, ledgerView, ledgerRefusal, ledgerAnswer, noteAll}
+use Rattle.history.specs.Ledger.{noteStages, enter}
 use Rattle.history.specs.History.{isKept, isKeptSend, keepsAt, isSendAt, isSend, takesAt, takesOne}
-use Rattle.history.proofs.Counting.{kept, taken, Steady, kept-steady, taken-steady, kept-one, kept-total, taken-one, taken-total}
+use Rattle.history.proofs.Counting.{kept, taken, Steady, kept-steady, taken-steady, kept-one, kept-total}
+use Rattle.history.proofs.Counting.{taken-one, taken-total}
 
 -- ---- accepted or refused, as the ledger has it
 
@@ -96,7 +100,8 @@ kept-call v (addProcess new) = refl
 kept-call v (addThread creator id) = refl
 kept-call v (endProcess id) = refl
 kept-call v (endThread id) = refl
-kept-call v (kill by to t s) = kept-generation (generation v false (targetQueue to t) s) ∙ plain-send v (targetQueue to t) s
+kept-call v (kill by to t s) =
+    kept-generation (generation v false (targetQueue to t) s) ∙ plain-send v (targetQueue to t) s
 kept-call v (sigqueue by to t s value) = kept-generation (generation v true (targetQueue to t) s)
 kept-call v (sigaction p s new) = refl
 kept-call v (sigmask t way set) = refl
@@ -140,16 +145,21 @@ module _ (k : Ledger) (v : View) where
           unfold keepsOne in clash (needs-keeping (generation v true (targetQueue to t) s) e) z
 
   abbrev KeptAt : Queue → ℕ → Call → Type 0
-  KeptAt q s c = noteAll (changes v c) k .lines q s .counts .kept ≡ k .lines q s .counts .kept + cond (keepsOne v c && keepsAt c q s) 1 0
+  KeptAt q s c =
+      noteAll (changes v c) k .lines q s .counts .kept
+      ≡ k .lines q s .counts .kept + cond (keepsOne v c && keepsAt c q s) 1 0
 
   kept-at : (c : Call) (q : Queue) (s : ℕ) → KeptAt q s c
   kept-at c q s =
       split (keepsOne v c)
       (λ e.
       keeps-cases (KeptAt q s)
-      (λ by to t n value f. unfold keepsOne keepsAt in (kept-one k v by to t n value f q s ∙ ap (λ (b : Bool). k .lines q s .counts .kept + cond (b && isAt (targetQueue to t) n q s) 1 0) (sym (needs-keeping (generation v true (targetQueue to t) n) f))))
+      (λ by to t n value f. unfold keepsOne keepsAt in (kept-one k v by to t n value f q s
+      ∙ ap (λ (b : Bool). k .lines q s .counts .kept + cond (b && isAt (targetQueue to t) n q s) 1 0)
+      (sym (needs-keeping (generation v true (targetQueue to t) n) f))))
       c e)
-      (λ e. more _ _ (keepsOne v c && keepsAt c q s) (λ y. clash y (and-left (keepsAt c q s) e)) (λ _. kept-none c e .lines q s))
+      (λ e. more _ _ (keepsOne v c && keepsAt c q s) (λ y. clash y (and-left (keepsAt c q s) e))
+      (λ _. kept-none c e .lines q s))
 
   abbrev KeptInAll : Call → Type 0
   KeptInAll c = noteAll (changes v c) k .total .kept ≡ k .total .kept + cond (keepsOne v c) 1 0
@@ -159,21 +169,28 @@ module _ (k : Ledger) (v : View) where
       split (keepsOne v c)
       (λ e.
       keeps-cases KeptInAll
-      (λ by to t n value f. unfold keepsOne in (kept-total k v by to t n value f ∙ ap (λ (b : Bool). k .total .kept + cond b 1 0) (sym (needs-keeping (generation v true (targetQueue to t) n) f))))
+      (λ by to t n value f. unfold keepsOne in
+      (kept-total k v by to t n value f ∙ ap (λ (b : Bool). k .total .kept + cond b 1 0)
+      (sym (needs-keeping (generation v true (targetQueue to t) n) f))))
       c e)
       (λ e. more _ _ (keepsOne v c) (λ y. clash y e) (λ _. kept-none c e .total))
 
 module _ (k : Ledger) (c : Call) where
-  pub kept-counted : (q : Queue) (s : ℕ) → then k c .lines q s .counts .kept ≡ k .lines q s .counts .kept + cond (isKept (ledgerAnswer k c) && keepsAt c q s) 1 0
+  pub kept-counted : (q : Queue) (s : ℕ) → then k c .lines q s .counts .kept
+      ≡ k .lines q s .counts .kept + cond (isKept (ledgerAnswer k c) && keepsAt c q s) 1 0
   kept-counted q s =
-      by-answer k c (λ (a : Answer) (x : Ledger). x .lines q s .counts .kept ≡ k .lines q s .counts .kept + cond (isKept a && keepsAt c q s) 1 0)
-      (kept-at k (ledgerView k) c q s ∙ ap (λ (b : Bool). k .lines q s .counts .kept + cond (b && keepsAt c q s) 1 0) (sym (kept-call (ledgerView k) c)))
+      by-answer k c
+      (λ (a : Answer) (x : Ledger).
+      x .lines q s .counts .kept ≡ k .lines q s .counts .kept + cond (isKept a && keepsAt c q s) 1 0)
+      (kept-at k (ledgerView k) c q s ∙ ap (λ (b : Bool). k .lines q s .counts .kept + cond (b && keepsAt c q s) 1 0)
+      (sym (kept-call (ledgerView k) c)))
       (λ n. unfold onAccepted in omega arith)
 
   pub kept-in-total : then k c .total .kept ≡ k .total .kept + cond (isKept (ledgerAnswer k c)) 1 0
   kept-in-total =
       by-answer k c (λ (a : Answer) (x : Ledger). x .total .kept ≡ k .total .kept + cond (isKept a) 1 0)
-      (kept-in-all k (ledgerView k) c ∙ ap (λ (b : Bool). k .total .kept + cond b 1 0) (sym (kept-call (ledgerView k) c)))
+      (kept-in-all k (ledgerView k) c
+      ∙ ap (λ (b : Bool). k .total .kept + cond b 1 0) (sym (kept-call (ledgerView k) c)))
       (λ n. unfold onAccepted in omega arith)
 
 -- ---- taken
@@ -206,7 +223,8 @@ headed : (rs : List Siginfo) (r : Siginfo) → head? rs ≡ some r → rs ≡ r 
 headed [] r e = let z : _≡_ {A = ℕ} 0 1 = cc e in absurd (omega arith)
 headed (x ∷ rs) r e = let z : x ≡ r = cc e in ap (λ (y : Siginfo). y ∷ rs) z
 
-module _ (k : Ledger) (t : ℕ) (q : Queue) (s : ℕ) (r : Siginfo) (e : next (ledgerView k) (theThread (ledgerView k) t) ≡ nextRecord q s r) where
+module _ (k : Ledger) (t : ℕ) (q : Queue) (s : ℕ) (r : Siginfo)
+    (e : next (ledgerView k) (theThread (ledgerView k) t) ≡ nextRecord q s r) where
   abbrev v : View
   v = ledgerView k
 
@@ -231,11 +249,14 @@ module _ (k : Ledger) (t : ℕ) (q : Queue) (s : ℕ) (r : Siginfo) (e : next (l
 
   took-at : (q′ : Queue) (s′ : ℕ) → noteAll (changes v (take t)) k .lines q′ s′ .counts .taken
       ≡ k .lines q′ s′ .counts .taken + cond (yieldsOne (Accepted (reply v (take t))) && isAt q s q′ s′) 1 0
-  took-at q′ s′ = taken-one k v t q s r e one-there q′ s′ ∙ ap (λ (b : Bool). k .lines q′ s′ .counts .taken + cond (b && isAt q s q′ s′) 1 0) (sym taken-yields)
+  took-at q′ s′ =
+      taken-one k v t q s r e one-there q′ s′
+      ∙ ap (λ (b : Bool). k .lines q′ s′ .counts .taken + cond (b && isAt q s q′ s′) 1 0) (sym taken-yields)
 
   took-in-all : noteAll (changes v (take t)) k .total .taken
       ≡ k .total .taken + cond (yieldsOne (Accepted (reply v (take t))) && true) 1 0
-  took-in-all = taken-total k v t q s r e one-there ∙ ap (λ (b : Bool). k .total .taken + cond (b && true) 1 0) (sym taken-yields)
+  took-in-all =
+      taken-total k v t q s r e one-there ∙ ap (λ (b : Bool). k .total .taken + cond (b && true) 1 0) (sym taken-yields)
 
 module _ (k : Ledger) (c : Call) where
   abbrev seen : View
@@ -251,7 +272,8 @@ module _ (k : Ledger) (c : Call) where
       noteAll (changes seen x) k .total .taken ≡ k .total .taken + cond
       (yieldsOne (Accepted (reply seen x)) && isSend n) 1 0
 
-  module _ (no : (q : Queue) (s : ℕ) (r : Siginfo) → takenBy seen c ≡ nextRecord q s r → ⊥) (b : Bool) (z : b ≡ false) where
+  module _ (no : (q : Queue) (s : ℕ) (r : Siginfo) → takenBy seen c ≡ nextRecord q s r → ⊥) (b : Bool)
+      (z : b ≡ false) where
     none-at : (q : Queue) (s : ℕ) → noteAll (changes seen c) k .lines q s .counts .taken
         ≡ k .lines q s .counts .taken + cond (yieldsOne (Accepted (reply seen c)) && b) 1 0
     none-at q s =
@@ -268,25 +290,32 @@ module _ (k : Ledger) (c : Call) where
   unfolding TakenAt isSendAt
   taken-at q s noNext e = none-at (λ j m r h. nothing-taken j m r (sym e ∙ h)) false refl q s
   taken-at q s (nextMark j n) e = none-at (λ i m r h. mark-taken j i n m r (sym e ∙ h)) false refl q s
-  taken-at q s (nextRecord j n r) e = takes-cases seen j n r (TakenAt q s (nextRecord j n r)) (λ t h. took-at k t j n r h q s) c e
+  taken-at q s (nextRecord j n r) e =
+      takes-cases seen j n r (TakenAt q s (nextRecord j n r)) (λ t h. took-at k t j n r h q s) c e
 
   taken-in-all : (n : Next) → takenBy seen c ≡ n → TakenInAll n c
   unfolding TakenInAll isSend
   taken-in-all noNext e = none-in-all (λ j m r h. nothing-taken j m r (sym e ∙ h)) false refl
   taken-in-all (nextMark j n) e = none-in-all (λ i m r h. mark-taken j i n m r (sym e ∙ h)) false refl
-  taken-in-all (nextRecord j n r) e = takes-cases seen j n r (TakenInAll (nextRecord j n r)) (λ t h. took-in-all k t j n r h) c e
+  taken-in-all (nextRecord j n r) e =
+      takes-cases seen j n r (TakenInAll (nextRecord j n r)) (λ t h. took-in-all k t j n r h) c e
 
-  pub taken-counted : (q : Queue) (s : ℕ) → then k c .lines q s .counts .taken ≡ k .lines q s .counts .taken + cond (yieldsOne (ledgerAnswer k c) && takesAt k c q s) 1 0
+  pub taken-counted : (q : Queue) (s : ℕ) → then k c .lines q s .counts .taken
+      ≡ k .lines q s .counts .taken + cond (yieldsOne (ledgerAnswer k c) && takesAt k c q s) 1 0
   unfolding TakenAt
   taken-counted q s =
-      by-answer k c (λ (a : Answer) (x : Ledger). x .lines q s .counts .taken ≡ k .lines q s .counts .taken + cond (yieldsOne a && takesAt k c q s) 1 0)
+      by-answer k c
+      (λ (a : Answer) (x : Ledger).
+      x .lines q s .counts .taken ≡ k .lines q s .counts .taken + cond (yieldsOne a && takesAt k c q s) 1 0)
       (taken-at q s (takenBy seen c) refl)
       (λ n. unfold onAccepted in omega arith)
 
-  pub taken-in-total : then k c .total .taken ≡ k .total .taken + cond (yieldsOne (ledgerAnswer k c) && takesOne k c) 1 0
+  pub taken-in-total : then k c .total .taken
+      ≡ k .total .taken + cond (yieldsOne (ledgerAnswer k c) && takesOne k c) 1 0
   unfolding TakenInAll
   taken-in-total =
-      by-answer k c (λ (a : Answer) (x : Ledger). x .total .taken ≡ k .total .taken + cond (yieldsOne a && takesOne k c) 1 0)
+      by-answer k c
+      (λ (a : Answer) (x : Ledger). x .total .taken ≡ k .total .taken + cond (yieldsOne a && takesOne k c) 1 0)
       (taken-in-all (takenBy seen c) refl)
       (λ n. unfold onAccepted in omega arith)
 
@@ -299,4 +328,6 @@ module _ (k : Ledger) (t : ℕ) (l : liveThread (ledgerView k) t ≡ true) where
 
   pub asked : yieldsOne (ledgerAnswer k (take t)) ≡ hasOffer (ledgerView k) (theThread (ledgerView k) t)
   unfolding reply onAccepted onReply
-  asked = ap yieldsOne (accepted-answer k (take t) take-accepted) ∙ asking-yields (ledgerView k) (theThread (ledgerView k) t)
+  asked =
+      ap yieldsOne (accepted-answer k (take t) take-accepted)
+      ∙ asking-yields (ledgerView k) (theThread (ledgerView k) t)

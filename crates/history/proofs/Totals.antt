@@ -1,4 +1,5 @@
--- The ledger's totals: what was kept is what was taken, what was discarded, and what the buffers hold; each change keeps it so. Assumes nothing.
+-- The ledger's totals: what was kept is what was taken, what was discarded, and what the buffers hold;
+-- each change keeps it so. Assumes nothing.
 use Prim.Native.Nat.{ℕ, _+_, _≤_}
 use mathlib.Core.Path.{_≡_, refl, sym, ap, ap₂, _∙_}
 use mathlib.Core.Bool.{Bool, true, not, cond}
@@ -9,12 +10,14 @@ use lib.ListN.{length, length-append}
 use Rattle.limits.specs.Limits.{bufferRecords}
 use Rattle.lists.specs.Lists.{all, any, count, keep, dropFirst}
 use Rattle.lists.proofs.Bools.{split}
-use Rattle.lists.proofs.Lists.{all-end, any-count, count-keep, count-not, isSome-first, leading-replicate, length-dropFirst}
+use Rattle.lists.proofs.Lists.{all-end, any-count, count-keep, count-not, isSome-first, leading-replicate}
+use Rattle.lists.proofs.Lists.{length-dropFirst}
 use Rattle.lists.proofs.Sublists.{keep-within, dropFirst-within, all-within}
 use Rattle.types.specs.declared.Siginfo.{Siginfo}
 use Rattle.types.specs.Values.{noSiginfo}
 use Rattle.rules.specs.Types.{Process, Thread, Queue}
-use Rattle.rules.specs.View.{Change, forget, newProcess, newThread, removeProcess, removeThread, setStopped, setAction, setMask, setMark, clearMark, append, dropOldest, discard, queueOf, inQueue}
+use Rattle.rules.specs.View.{Change, forget, newProcess, newThread, removeProcess, removeThread, setStopped, setAction}
+use Rattle.rules.specs.View.{setMask, setMark, clearMark, append, dropOldest, discard, queueOf, inQueue}
 use Rattle.rules.specs.Store.{Store, inUse, used, recordsFor, onSlots, onBuffer, onBuffers, cleared, view, apply}
 use Rattle.rules.specs.Sound.{sound}
 use Rattle.rules.specs.Fitting.{fits}
@@ -44,7 +47,8 @@ unfolding cleared used
 none-cleared = let z = ap length (leading-replicate inUse noSiginfo zero-free bufferRecords) in ap₂ (λ m n. m + n) z z
 
 -- those that pass leave a buffer
-kept-slots : (p : Siginfo → Bool) (slots : List Siginfo) → length (used (onSlots (keep (λ r. not (p r))) slots)) + count p (used slots) ≡ length (used slots)
+kept-slots : (p : Siginfo → Bool) (slots : List Siginfo)
+    → length (used (onSlots (keep (λ r. not (p r))) slots)) + count p (used slots) ≡ length (used slots)
 kept-slots p slots =
     omega (
       arith,
@@ -75,11 +79,13 @@ pub total-start : Total cleared emptyLedger
 unfolding emptyLedger
 total-start = omega (arith, none-cleared)
 
-pub total-newProcess : (p : Process) (st : Store) (k : Ledger) → Total st k → Total (apply (newProcess p) st) (note (newProcess p) k)
+pub total-newProcess : (p : Process) (st : Store) (k : Ledger) → Total st k
+    → Total (apply (newProcess p) st) (note (newProcess p) k)
 unfolding apply note
 total-newProcess p st k h = h
 
-pub total-newThread : (t : Thread) (st : Store) (k : Ledger) → Total st k → Total (apply (newThread t) st) (note (newThread t) k)
+pub total-newThread : (t : Thread) (st : Store) (k : Ledger) → Total st k
+    → Total (apply (newThread t) st) (note (newThread t) k)
 unfolding apply note
 total-newThread t st k h = h
 
@@ -90,17 +96,20 @@ total-emptied p st k e a h =
     let n : Siginfo → Bool = λ (r : Siginfo). p (queueOf r) (r .signal) in
     omega (arith, kept-slots n (st .threadBuffer), kept-slots n (st .processBuffer), counted st k e a p)
 
-total-append : (r : Siginfo) (st : Store) (k : Ledger) → fits (view st) (append r) ≡ true → Total st k → Total (apply (append r) st) (note (append r) k)
+total-append : (r : Siginfo) (st : Store) (k : Ledger) → fits (view st) (append r) ≡ true → Total st k
+    → Total (apply (append r) st) (note (append r) k)
 unfolding apply note
 total-append r st k f h =
     let rs : List Siginfo = recordsFor (queueOf r) st in
     omega (
       arith,
-      one-changed st (queueOf r) (λ l. l ++ (r ∷ [])) (all-end inUse rs r (records-inUse (queueOf r) st) (fitting-used st r f)),
+      one-changed st (queueOf r) (λ l. l ++ (r ∷ []))
+          (all-end inUse rs r (records-inUse (queueOf r) st) (fitting-used st r f)),
       length-append rs (r ∷ []),
     )
 
-total-dropOldest : (q : Queue) (s : ℕ) (st : Store) (k : Ledger) → fits (view st) (dropOldest q s) ≡ true → Agrees st k → Total st k
+total-dropOldest : (q : Queue) (s : ℕ) (st : Store) (k : Ledger) → fits (view st) (dropOldest q s) ≡ true → Agrees st k
+    → Total st k
     → Total (apply (dropOldest q s) st) (note (dropOldest q s) k)
 unfolding apply note fits view
 total-dropOldest q s st k f a h =
@@ -108,12 +117,14 @@ total-dropOldest q s st k f a h =
     let y : any (inQueue q s) rs ≡ true = sym (isSome-first (inQueue q s) rs) ∙ f in
     omega (
       arith,
-      one-changed st q (dropFirst (inQueue q s)) (all-within inUse (dropFirst-within (inQueue q s) rs) (records-inUse q st)),
+      one-changed st q (dropFirst (inQueue q s))
+          (all-within inUse (dropFirst-within (inQueue q s) rs) (records-inUse q st)),
       length-dropFirst (inQueue q s) rs y,
       ap oneOf (sym (a .records q s)) ∙ one-kept (inQueue q s) rs y,
     )
 
-pub total-change : (ch : Change) (st : Store) (k : Ledger) → sound st ≡ true → fits (view st) ch ≡ true → Agrees st k → Total st k
+pub total-change : (ch : Change) (st : Store) (k : Ledger) → sound st ≡ true → fits (view st) ch ≡ true → Agrees st k
+    → Total st k
     → Total (apply ch st) (note ch k)
 unfolding apply note
 total-change forget st k e f a h = omega (arith, none-cleared, all-pending st k e a)

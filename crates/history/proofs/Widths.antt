@@ -1,4 +1,5 @@
--- The records of the buffers stay machine numbers: only a send brings one in, of its arguments and its sender's user id. Assumes nothing.
+-- The records of the buffers stay machine numbers: only a send brings one in,
+-- of its arguments and its sender's user id. Assumes nothing.
 use Prim.Native.Nat.{ℕ, _<_, _^_}
 use mathlib.Core.Path.{_≡_}
 use mathlib.Core.Bool.{Bool, true, false, cond}
@@ -17,7 +18,8 @@ use Rattle.types.specs.Values.{noSiginfo}
 use Rattle.siginfo.specs.Bytes.{u32Bytes, u64Bytes, Fits}
 use Rattle.siginfo.proofs.Slots.{fits-noSiginfo}
 use Rattle.rules.specs.Types.{Process, Thread, Queue, Call, sigqueue}
-use Rattle.rules.specs.View.{Change, forget, newProcess, newThread, removeProcess, removeThread, setStopped, setAction, setMask, setMark, clearMark, append, dropOldest, discard, queueOf, inQueue}
+use Rattle.rules.specs.View.{Change, forget, newProcess, newThread, removeProcess, removeThread, setStopped, setAction}
+use Rattle.rules.specs.View.{setMask, setMark, clearMark, append, dropOldest, discard, queueOf, inQueue}
 use Rattle.rules.specs.Store.{Place, Store, cleared, used, view, onSlots, onBuffer, apply, applyAll}
 use Rattle.rules.specs.Sound.{goodUser, sound}
 use Rattle.rules.specs.Sending.{infoOf}
@@ -68,26 +70,40 @@ Brings (discard p set) = Unit {0}
 module _ (g : List Siginfo → List Siginfo) (h : (rs : List Siginfo) → All Fits rs → All Fits (g rs)) where
   slots-fit : (cs : List Siginfo) → All Fits cs → All Fits (onSlots g cs)
   unfolding onSlots used
-  slots-fit cs f = All-padded Fits noSiginfo fits-noSiginfo bufferRecords (g (used cs)) (h (used cs) (All-leading _ Fits cs f))
+  slots-fit cs f =
+      All-padded Fits noSiginfo fits-noSiginfo bufferRecords (g (used cs)) (h (used cs) (All-leading _ Fits cs f))
 
   one-buffer : (q : Queue) (st : Store) → Widths st → Widths (onBuffer q g st)
   one-buffer q st w =
       record {
-        threadBuffer = either-has (All Fits) (eqb (q .thread) 0) (st .threadBuffer) (onSlots g (st .threadBuffer)) (w .threadBuffer) (slots-fit (st .threadBuffer) (w .threadBuffer));
-        processBuffer = either-has (All Fits) (eqb (q .thread) 0) (onSlots g (st .processBuffer)) (st .processBuffer) (slots-fit (st .processBuffer) (w .processBuffer)) (w .processBuffer);
+        threadBuffer =
+            either-has (All Fits) (eqb (q .thread) 0) (st .threadBuffer) (onSlots g (st .threadBuffer))
+            (w .threadBuffer) (slots-fit (st .threadBuffer) (w .threadBuffer));
+        processBuffer =
+            either-has (All Fits) (eqb (q .thread) 0) (onSlots g (st .processBuffer)) (st .processBuffer)
+            (slots-fit (st .processBuffer) (w .processBuffer)) (w .processBuffer);
       }
 
 module _ (xs : List (Place Process)) (ys : List (Place Thread)) (st : Store) (w : Widths st) where
   -- other places, the same buffers
-  same-buffers : Widths (record { processes = xs; threads = ys; threadBuffer = st .threadBuffer; processBuffer = st .processBuffer })
+  same-buffers : Widths
+      (record { processes = xs; threads = ys; threadBuffer = st .threadBuffer; processBuffer = st .processBuffer })
   same-buffers = record { threadBuffer = w .threadBuffer; processBuffer = w .processBuffer }
 
   -- some of the records
   fewer-records : (p : Siginfo → Bool)
-      → Widths (record { processes = xs; threads = ys; threadBuffer = onSlots (keep p) (st .threadBuffer); processBuffer = onSlots (keep p) (st .processBuffer) })
+      → Widths (record {
+        processes = xs;
+        threads = ys;
+        threadBuffer = onSlots (keep p) (st .threadBuffer);
+        processBuffer = onSlots (keep p) (st .processBuffer);
+      })
   fewer-records p =
       let f = slots-fit (keep p) (λ rs. All-within Fits (keep-within p rs)) in
-      record { threadBuffer = f (st .threadBuffer) (w .threadBuffer); processBuffer = f (st .processBuffer) (w .processBuffer) }
+      record {
+        threadBuffer = f (st .threadBuffer) (w .threadBuffer);
+        processBuffer = f (st .processBuffer) (w .processBuffer);
+      }
 
 change-widths : (ch : Change) (st : Store) → Brings ch → Widths st → Widths (apply ch st)
 unfolding apply
@@ -101,8 +117,10 @@ change-widths (setAction n s a) st b w = same-buffers _ _ st w
 change-widths (setMask n m) st b w = same-buffers _ _ st w
 change-widths (setMark q s) st b w = same-buffers _ _ st w
 change-widths (clearMark q s) st b w = same-buffers _ _ st w
-change-widths (append r) st b w = one-buffer (λ rs. rs ++ (r ∷ [])) (λ rs f. All-append Fits rs (r ∷ []) f (b, tt)) (queueOf r) st w
-change-widths (dropOldest q s) st b w = one-buffer (dropFirst (inQueue q s)) (λ rs. All-within Fits (dropFirst-within (inQueue q s) rs)) q st w
+change-widths (append r) st b w =
+    one-buffer (λ rs. rs ++ (r ∷ [])) (λ rs f. All-append Fits rs (r ∷ []) f (b, tt)) (queueOf r) st w
+change-widths (dropOldest q s) st b w =
+    one-buffer (dropFirst (inQueue q s)) (λ rs. All-within Fits (dropFirst-within (inQueue q s) rs)) q st w
 change-widths (discard p set) st b w = fewer-records _ _ st w _
 
 -- and a list of them
@@ -159,9 +177,12 @@ brings-quiet =
     }
 
 -- what a call of machine numbers keeps has its widths
-kept-fits : (st : Store) → sound st ≡ true → (c : Call) → machine c ≡ true → (r : Siginfo) → Keeps (view st) c r → Fits r
+kept-fits : (st : Store) → sound st ≡ true → (c : Call) → machine c ≡ true → (r : Siginfo)
+    → Keeps (view st) c r → Fits r
 kept-fits st e (sigqueue by to t s value) u r (queued f) = info-fits st e by to t s value u
 
 -- every call leaves records of their widths; a refused one leaves the store that it found
 pub widths-step : (c : Call) (st : Store) → machine c ≡ true → sound st ≡ true → Widths st → Widths (step c st .0)
-widths-step c st u e w = call-keeps Widths c st (λ _. changes-widths (changes (view st) c) st (changes-made Brings brings-quiet (view st) c (kept-fits st e c u) (λ q s r _. tt)) w) w
+widths-step c st u e w =
+    call-keeps Widths c st (λ _. changes-widths (changes (view st) c) st
+    (changes-made Brings brings-quiet (view st) c (kept-fits st e c u) (λ q s r _. tt)) w) w

@@ -1,4 +1,5 @@
--- Demand 3: the claim. The proof is proofs/Demand3. What the words mean: the tables, a call on them and its answer in crate answers (Step), the view,
+-- Demand 3: the claim. The proof is proofs/Demand3.
+-- What the words mean: the tables, a call on them and its answer in crate answers (Step), the view,
 -- the rows and the rules in crate rules, the ledger and what it is told here (Ledger, History).
 use Prim.Native.Nat.{ℕ, _+_, _≤_}
 use mathlib.Core.Path.{_≡_}
@@ -27,7 +28,8 @@ use Rattle.looking.specs.Looks.{lookBytes}
 use Rattle.calls.specs.declared.Call as dispatcher
 use Rattle.calls.specs.Calls.{callOf}
 use Rattle.history.specs.Ledger.{Ledger, ofProcess, ledgerView, ledgerAnswer, pendingWhere, enter}
-use Rattle.history.specs.History.{clearedTables, tablesAfter, entryOf, ledgerAfter, isKept, isRefusedWith, keepsAt, takesAt, takesOne, lookedBytes}
+use Rattle.history.specs.History.{clearedTables, tablesAfter, entryOf, ledgerAfter, isKept, isRefusedWith}
+use Rattle.history.specs.History.{keepsAt, takesAt, takesOne, lookedBytes}
 
 -- l: the tables, k: the ledger, after a list of calls
 module _ (l : Lent) (k : Ledger) where
@@ -56,12 +58,13 @@ module _ (l : Lent) (k : Ledger) where
     -- "A take removes the oldest send .. and answers by it."
     pub oldest : k .lines q s .sends ≡ r ∷ tail (k .lines q s .sends)
     pub answers : answered (take t) ≡ Accepted (Taken (delivered (thread t) (threadAction seen (thread t) s) r))
-    -- "Each taken record went once": it is gone from its list, and the others with it where what the take sets off empties that
+    -- "Each taken record went once": it is gone from its list, and the others with it where what the
+    -- take sets off empties that
     pub gone : (after (take t) .lines q s .sends ≡ tail (k .lines q s .sends)) ⊎ (after (take t) .lines q s .sends ≡ [])
 
   pub record Claim : Type 0 where
-    -- "the queued records of a signal in a queue are, in order, the sends kept there since the last event that empties that queue of that signal, less
-    -- as many of the oldest as threads have taken of them since"
+    -- "the queued records of a signal in a queue are, in order, the sends kept there since the last event that empties
+    -- that queue of that signal, less as many of the oldest as threads have taken of them since"
     pub since : (q : Queue) (s : ℕ) → queued q s ≡ drop (k .lines q s .takenSince) (k .lines q s .keptSince)
     -- 01: "sets the tables' records .. against what is read there: sends, pending, blocking, stopped"
     pub sends : (q : Queue) (s : ℕ) → queued q s ≡ k .lines q s .sends
@@ -73,32 +76,42 @@ module _ (l : Lent) (k : Ledger) where
     pub looks : (t : ℕ) → lookBytes t l ≡ lookedBytes k t
     -- errno 14 is never given: no call of such a list finds the tables other than sound
     pub noFault : (c : Call) → isRefusedWith EFAULT (answered c) ≡ false
-    -- "Each taken record went once, to one thread of that process that did not block it, while the process was not stopped."
+    -- "Each taken record went once, to one thread of that process that did not block it,
+    -- while the process was not stopped."
     pub takes : (t : ℕ) → liveThread seen t ≡ true → (q : Queue) (s : ℕ) (r : Siginfo)
         → next seen (thread t) ≡ nextRecord q s r → Took t q s r
-    -- "Asking a live thread for a signal yields one exactly when its process is not stopped and a signal that it does not block is pending for it or for
-    -- its process."
+    -- "Asking a live thread for a signal yields one exactly when its process is not stopped and a signal that it does
+    -- not block is pending for it or for its process."
     pub asking : (t : ℕ) → liveThread seen t ≡ true → yieldsOne (answered (take t)) ≡ hasOffer seen (thread t)
     -- "Of records, kept equals taken plus discarded plus pending": of a signal in a queue, and of all
     pub balance : (q : Queue) (s : ℕ)
-        → k .lines q s .counts .kept ≡ k .lines q s .counts .taken + k .lines q s .counts .discarded + length (queued q s)
+        → k .lines q s .counts .kept
+        ≡ k .lines q s .counts .taken + k .lines q s .counts .discarded + length (queued q s)
     pub total : k .total .kept
-        ≡ k .total .taken + k .total .discarded + (length (used (decoded l .threadBuffer)) + length (used (decoded l .processBuffer)))
-    -- "counted from the calls": kept with each send that is answered "kept", taken with each take of a send, and with no other call
+        ≡ k .total .taken + k .total .discarded
+        + (length (used (decoded l .threadBuffer)) + length (used (decoded l .processBuffer)))
+    -- "counted from the calls": kept with each send that is answered "kept",
+    -- taken with each take of a send, and with no other call
     pub keptCounted : (c : Call) (q : Queue) (s : ℕ)
-        → after c .lines q s .counts .kept ≡ k .lines q s .counts .kept + cond (isKept (answered c) && keepsAt c q s) 1 0
+        → after c .lines q s .counts .kept
+        ≡ k .lines q s .counts .kept + cond (isKept (answered c) && keepsAt c q s) 1 0
     pub keptTotal : (c : Call) → after c .total .kept ≡ k .total .kept + cond (isKept (answered c)) 1 0
     pub takenCounted : (c : Call) (q : Queue) (s : ℕ)
-        → after c .lines q s .counts .taken ≡ k .lines q s .counts .taken + cond (yieldsOne (answered c) && takesAt k c q s) 1 0
-    pub takenTotal : (c : Call) → after c .total .taken ≡ k .total .taken + cond (yieldsOne (answered c) && takesOne k c) 1 0
-    -- "and room given back is used again": a queued send is refused for room exactly when a plain one would pass, it needs a record, and the sends pending
-    -- for the process are 32 then; they are never more
+        → after c .lines q s .counts .taken
+        ≡ k .lines q s .counts .taken + cond (yieldsOne (answered c) && takesAt k c q s) 1 0
+    pub takenTotal : (c : Call)
+        → after c .total .taken ≡ k .total .taken + cond (yieldsOne (answered c) && takesOne k c) 1 0
+    -- "and room given back is used again": a queued send is refused for room exactly when a plain one would pass,
+    -- it needs a record, and the sends pending for the process are 32 then; they are never more
     pub room : (by to t s value : ℕ) → isRefusedWith EAGAIN (answered (sigqueue by to t s value))
         ≡ (eqb (refusal (rows seen (kill by to t s))) 0
         && (needsRecord (generation seen true (targetQueue to t) s) && eqb (pendingWhere k (ofProcess to)) recordLimit))
     pub limit : (n : ℕ) → pendingWhere k (ofProcess n) ≤ recordLimit
 
--- "Start from a cleared store and make a list of calls on the tables .., refused ones included." The calls are the dispatcher's; of each `calls::step`
--- promises the answer and the tables of `stepOn (callOf c)`. All that is assumed of them is that their arguments are machine numbers.
+-- "Start from a cleared store and make a list of calls on the tables .., refused ones included."
+-- The calls are the dispatcher's; of each `calls::step` promises the answer and the tables of `stepOn (callOf c)`.
+-- All that is assumed of them is that their arguments are machine numbers.
 abbrev pub Demand3 : Type 0
-Demand3 = (cs : List dispatcher.Call) → all machine (map callOf cs) ≡ true → Claim (tablesAfter (map callOf cs) clearedTables) (ledgerAfter (map callOf cs))
+Demand3 =
+    (cs : List dispatcher.Call) → all machine (map callOf cs) ≡ true
+    → Claim (tablesAfter (map callOf cs) clearedTables) (ledgerAfter (map callOf cs))

@@ -11,7 +11,8 @@ use Rattle.types.specs.Values.{newOf}
 use Rattle.rules.specs.Types.{Call, clear, addProcess, sigqueue, sigaction, take, sigreturn}
 use Rattle.rules.specs.View.{processQueue}
 use Rattle.rules.specs.Computing.{computing}
-use Rattle.history.specs.Ledger.{Line, Entry, queues, pendingWhere, ledgerView, note, noteAll, noteStages, enter, enterAll, emptyLedger}
+use Rattle.history.specs.Ledger.{Line, Entry, queues, pendingWhere, ledgerView, note, noteAll, noteStages, enter}
+use Rattle.history.specs.Ledger.{enterAll, emptyLedger}
 
 accepted : Call → Entry
 accepted c = record { call = c; refused = false }
@@ -47,6 +48,8 @@ pendingAfter es = map (λ (r : Siginfo). r .value) (lineAfter es .sends)
 -- two are pending after the take; both are discarded when 40 is ignored
 example : (pendingAfter sent ≡ 2 ∷ 3 ∷ [])
     × ((lineAfter sent .counts ≡ record { kept = 3; taken = 1; discarded = 0 })
-    × ((pendingAfter ignored ≡ []) × (enterAll ignored emptyLedger .total ≡ record { kept = 3; taken = 1; discarded = 2 })))
-unfolding computing queues pendingWhere ledgerView note noteAll noteStages enter enterAll emptyLedger accepted refused sent ignored lineAfter pendingAfter
+    × ((pendingAfter ignored ≡ [])
+    × (enterAll ignored emptyLedger .total ≡ record { kept = 3; taken = 1; discarded = 2 })))
+unfolding computing queues pendingWhere ledgerView note noteAll noteStages enter enterAll emptyLedger accepted refused
+    sent ignored lineAfter pendingAfter
 example = (refl, (refl, (refl, refl)))

@@ -22,7 +22,8 @@ use Rattle.history.specs.Ledger.{Ledger, Entry, isAt, ledgerView, ledger
 
 -- all zero: what clearing leaves of any tables of the right lengths (law `clear-clears` in proofs/Encoded)
 unfoldable pub clearedTables : Lent
-clearedTables = lent (replicate processTable 0) (replicate threadTable 0) (replicate bufferBytes 0) (replicate bufferBytes 0)
+clearedTables =
+    lent (replicate processTable 0) (replicate threadTable 0) (replicate bufferBytes 0) (replicate bufferBytes 0)
 
 -- "Each gets the tables as the one before left them; nobody else writes them."
 unfoldable pub tablesAfter : List Call → Lent → Lent
@@ -96,4 +97,5 @@ nextBytes (nextRecord q s r) = bytesOf r
 
 -- the bytes that the ledger says a look hands back: "a refused look is the empty part too"
 unfoldable pub lookedBytes : Ledger → (thread : ℕ) → List ℕ
-lookedBytes k t = cond (eqb (ledgerRefusal k (look t)) 0) (nextBytes (next (ledgerView k) (theThread (ledgerView k) t))) []
+lookedBytes k t =
+    cond (eqb (ledgerRefusal k (look t)) 0) (nextBytes (next (ledgerView k) (theThread (ledgerView k) t))) []

@@ -1,4 +1,5 @@
--- Demand 3's ledger. It "gets the calls' arguments and which were refused, nothing of the tables": no type here has a table in it.
+-- Demand 3's ledger. It "gets the calls' arguments and which were refused, nothing of the tables":
+-- no type here has a table in it.
 use Prim.Native.Nat.{ℕ, _+_}
 use mathlib.Core.Bool.{Bool, true, false, not, _&&_, cond}
 use mathlib.Core.List.{List, [], _∷_, _++_, map, head?, tail}
@@ -12,7 +13,9 @@ use Rattle.types.specs.declared.Siginfo.{Siginfo}
 use Rattle.types.specs.declared.Answer.{Answer}
 use Rattle.types.specs.declared.Answer.the-variants.{Refused, Accepted}
 use Rattle.rules.specs.Types.{Process, Thread, Queue, Call, noProcess, noThread}
-use Rattle.rules.specs.View.{View, Stage, Change, forget, newProcess, newThread, removeProcess, removeThread, setStopped, setAction, setMask, setMark, clearMark, append, dropOldest, discard, isProcess, isThread, belongsTo, sameQueue, processQueue, threadQueue, inQueue}
+use Rattle.rules.specs.View.{View, Stage, Change, forget, newProcess, newThread, removeProcess, removeThread}
+use Rattle.rules.specs.View.{setStopped, setAction, setMask, setMark, clearMark, append, dropOldest, discard, isProcess}
+use Rattle.rules.specs.View.{isThread, belongsTo, sameQueue, processQueue, threadQueue, inQueue}
 use Rattle.rules.specs.Store.{withStopped, withAction, withMask, isFreeProcess, isFreeThread}
 use Rattle.rules.specs.Refusals.{refusal, rows}
 use Rattle.rules.specs.Calls.{reply, stages}
@@ -36,7 +39,8 @@ pub record Line : Type 0 where
   pub takenSince : ℕ
 
 pub record Ledger : Type 0 where
-  -- "processes (all ids, stopped or not, actions), threads (id, process, mask)", in the places that the rule on adding gives them
+  -- "processes (all ids, stopped or not, actions), threads (id, process, mask)",
+  -- in the places that the rule on adding gives them
   pub processes : List Process
   pub threads : List Thread
   pub lines : Queue → ℕ → Line
@@ -51,7 +55,13 @@ noLine = record { sends = []; mark = false; counts = noCounts; keptSince = []; t
 
 -- "It starts empty"
 unfoldable pub emptyLedger : Ledger
-emptyLedger = record { processes = replicate processPlaces noProcess; threads = replicate threadPlaces noThread; lines = λ _ _. noLine; total = noCounts }
+emptyLedger =
+    record {
+      processes = replicate processPlaces noProcess;
+      threads = replicate threadPlaces noThread;
+      lines = λ _ _. noLine;
+      total = noCounts;
+    }
 
 -- ---- what is read there
 
@@ -121,7 +131,12 @@ takeSend x =
     record {
       sends = tail (x .sends);
       mark = x .mark;
-      counts = record { kept = x .counts .kept; taken = x .counts .taken + oneOf (x .sends); discarded = x .counts .discarded };
+      counts =
+          record {
+            kept = x .counts .kept;
+            taken = x .counts .taken + oneOf (x .sends);
+            discarded = x .counts .discarded;
+          };
       keptSince = x .keptSince;
       takenSince = x .takenSince + oneOf (x .sends);
     }
@@ -132,13 +147,19 @@ emptyLine x =
     record {
       sends = [];
       mark = false;
-      counts = record { kept = x .counts .kept; taken = x .counts .taken; discarded = x .counts .discarded + length (x .sends) };
+      counts =
+          record {
+            kept = x .counts .kept;
+            taken = x .counts .taken;
+            discarded = x .counts .discarded + length (x .sends);
+          };
       keptSince = [];
       takenSince = 0;
     }
 
 abbrev pub withMark : Bool → Line → Line
-withMark b x = record { sends = x .sends; mark = b; counts = x .counts; keptSince = x .keptSince; takenSince = x .takenSince }
+withMark b x =
+    record { sends = x .sends; mark = b; counts = x .counts; keptSince = x .keptSince; takenSince = x .takenSince }
 
 -- ---- the changes, as the ledger makes them
 
@@ -150,7 +171,13 @@ onThreads g l = record { processes = l .processes; threads = g (l .threads); lin
 
 -- the lines that pass the test change
 abbrev pub onLines : (Queue → ℕ → Bool) → (Line → Line) → Ledger → Ledger
-onLines p g l = record { processes = l .processes; threads = l .threads; lines = λ q s. cond (p q s) (g (l .lines q s)) (l .lines q s); total = l .total }
+onLines p g l =
+    record {
+      processes = l .processes;
+      threads = l .threads;
+      lines = λ q s. cond (p q s) (g (l .lines q s)) (l .lines q s);
+      total = l .total;
+    }
 
 abbrev pub withTotal : Counts → Ledger → Ledger
 withTotal n l = record { processes = l .processes; threads = l .threads; lines = l .lines; total = n }
@@ -159,20 +186,24 @@ withTotal n l = record { processes = l .processes; threads = l .threads; lines =
 abbrev pub isAt : Queue → ℕ → Queue → ℕ → Bool
 isAt q s q′ s′ = sameQueue q′ q && eqb s′ s
 
--- "Such events are clearing (of all but counts), steps 1 and 2, storing or resetting to an ignoring action, the end of the thread or process": clearing
--- empties `everywhere`, the end of a process, by KILL too, `ofProcess`, that of a thread `ofThread`, and the others `ofSignals`.
+-- "Such events are clearing (of all but counts), steps 1 and 2, storing or resetting to an ignoring action,
+-- the end of the thread or process": clearing empties `everywhere`, the end of a process, by KILL too, `ofProcess`,
+-- that of a thread `ofThread`, and the others `ofSignals`.
 abbrev pub emptying : (Queue → ℕ → Bool) → Ledger → Ledger
 emptying p l =
-    withTotal (record { kept = l .total .kept; taken = l .total .taken; discarded = l .total .discarded + pendingWhere l p })
+    withTotal
+    (record { kept = l .total .kept; taken = l .total .taken; discarded = l .total .discarded + pendingWhere l p })
     (onLines p emptyLine l)
 
 unfoldable pub note : Change → Ledger → Ledger
 note forget l =
-    onProcesses (λ _. replicate processPlaces noProcess) (onThreads (λ _. replicate threadPlaces noThread) (emptying everywhere l))
+    onProcesses (λ _. replicate processPlaces noProcess)
+    (onThreads (λ _. replicate threadPlaces noThread) (emptying everywhere l))
 note (newProcess p) l = onProcesses (replaceFirst isFreeProcess p) l
 note (newThread t) l = onThreads (replaceFirst isFreeThread t) l
 note (removeProcess n) l =
-    onProcesses (change (isProcess n) (λ _. noProcess)) (onThreads (change (belongsTo n) (λ _. noThread)) (emptying (ofProcess n) l))
+    onProcesses (change (isProcess n) (λ _. noProcess))
+    (onThreads (change (belongsTo n) (λ _. noThread)) (emptying (ofProcess n) l))
 note (removeThread n) l = onThreads (change (isThread n) (λ _. noThread)) (emptying (ofThread n) l)
 note (setStopped n b) l = onProcesses (change (isProcess n) (withStopped b)) l
 note (setAction n s a) l = onProcesses (change (isProcess n) (withAction s a)) l
@@ -183,7 +214,11 @@ note (append r) l =
     withTotal (record { kept = l .total .kept + 1; taken = l .total .taken; discarded = l .total .discarded })
     (onLines (λ q s. inQueue q s r) (keepSend r) l)
 note (dropOldest q s) l =
-    withTotal (record { kept = l .total .kept; taken = l .total .taken + oneOf (l .lines q s .sends); discarded = l .total .discarded })
+    withTotal (record {
+      kept = l .total .kept;
+      taken = l .total .taken + oneOf (l .lines q s .sends);
+      discarded = l .total .discarded;
+    })
     (onLines (isAt q s) takeSend l)
 note (discard n set) l = emptying (ofSignals n set) l
 

@@ -15,11 +15,13 @@ use Rattle.lists.proofs.Lists.{find-yes, find-no}
 use Rattle.lists.proofs.Loops.{find-any, find-le, any-find}
 
 module _ {A : Type 0} (f : A → Bool) (d : A) where
-  pub find-first : (xs : List A) (i : ℕ) → i < length xs → f (getD xs i d) ≡ true → ((j : ℕ) → j < i → f (getD xs j d) ≡ false) → find f xs ≡ i
+  pub find-first : (xs : List A) (i : ℕ) → i < length xs → f (getD xs i d) ≡ true
+      → ((j : ℕ) → j < i → f (getD xs j d) ≡ false) → find f xs ≡ i
   find-first [] i h e n = absurd (not-suc-le-zero h)
   find-first (x ∷ xs) zero h e n = find-yes f x xs e
   find-first (x ∷ xs) (suc i) h e n =
-      find-no f x xs (n 0 (suc-le-suc zero-le)) ∙ ap suc (find-first xs i (le-of-suc-le-suc h) e (λ j k. n (suc j) (suc-le-suc k)))
+      find-no f x xs (n 0 (suc-le-suc zero-le))
+      ∙ ap suc (find-first xs i (le-of-suc-le-suc h) e (λ j k. n (suc j) (suc-le-suc k)))
 
   pub find-below : (xs : List A) (i : ℕ) → i < length xs → f (getD xs i d) ≡ true → find f xs ≤ i
   find-below [] i h e = absurd (not-suc-le-zero h)
@@ -44,7 +46,8 @@ module _ {A : Type 0} (p : A → Bool) where
   pub find-absent : (xs : List A) → any p xs ≡ false → find p xs ≡ length xs
   unfolding find any
   find-absent [] e = refl
-  find-absent (x ∷ xs) e = rw (or-fst-false (p x) (any p xs) e) (ap suc (find-absent xs (or-snd-false (p x) (any p xs) e)))
+  find-absent (x ∷ xs) e =
+      rw (or-fst-false (p x) (any p xs) e) (ap suc (find-absent xs (or-snd-false (p x) (any p xs) e)))
 
   -- a search ends within the list exactly if something passes
   pub find-within : (xs : List A) → ltb (find p xs) (length xs) ≡ any p xs
@@ -59,7 +62,8 @@ module _ {A : Type 0} (p q : A → Bool) where
 
 -- ---- what was looked up, in a list of n entries: `place` is where it is, or n
 
-module _ {A : Type 0} (p : A → Bool) (d : A) (xs : List A) (n place : ℕ) (long : length xs ≡ n) (e : place ≡ find p xs) where
+module _ {A : Type 0} (p : A → Bool) (d : A) (xs : List A) (n place : ℕ) (long : length xs ≡ n)
+    (e : place ≡ find p xs) where
   pub found-inside : (place ≡ n → ⊥) → place < n
   found-inside z = let a = find-le p xs in omega (arith, e)
 

@@ -8,13 +8,15 @@ use native.Mathlib.Omega.{arith}
 use lib.ListN.{length, getD, set}
 use Rattle.lists.specs.Lists.{all, any, count, pairs, range, All}
 use Rattle.lists.proofs.Bools.{split, and-both}
-use Rattle.lists.proofs.Lists.{Pass, Fail, All-imp, All-all, All-each, all-All, any-All, All-any, any-count, count-none, count-yes, count-no}
+use Rattle.lists.proofs.Lists.{Pass, Fail, All-imp, All-all, All-each, all-All, any-All, All-any, any-count}
+use Rattle.lists.proofs.Lists.{count-none, count-yes, count-no}
 use Rattle.lists.proofs.Loops.{any-here, All-range, All-range-at}
 
 -- ---- by index
 
 module _ {A : Type 0} where
-  pub getD-mapped : {B : Type 0} (f : A → B) (xs : List A) (i : ℕ) (d : A) (e : B) → i < length xs → getD (map f xs) i e ≡ f (getD xs i d)
+  pub getD-mapped : {B : Type 0} (f : A → B) (xs : List A) (i : ℕ) (d : A) (e : B) → i < length xs
+      → getD (map f xs) i e ≡ f (getD xs i d)
   getD-mapped f [] i d e h = absurd (not-suc-le-zero h)
   getD-mapped f (x ∷ xs) zero d e h = refl
   getD-mapped f (x ∷ xs) (suc i) d e h = getD-mapped f xs i d e (le-of-suc-le-suc h)
@@ -25,15 +27,18 @@ module _ {A : Type 0} where
   map-set f (x ∷ xs) (suc i) a = ap (λ l. f x ∷ l) (map-set f xs i a)
 
   -- what holds of the default and of every value holds at every index
-  pub getD-map-has : {B : Type 0} (P : B → Type 0) (f : A → B) (e : B) → P e → ((x : A) → P (f x)) → (xs : List A) (i : ℕ) → P (getD (map f xs) i e)
+  pub getD-map-has : {B : Type 0} (P : B → Type 0) (f : A → B) (e : B) → P e → ((x : A) → P (f x))
+      → (xs : List A) (i : ℕ) → P (getD (map f xs) i e)
   getD-map-has P f e z h [] i = z
   getD-map-has P f e z h (x ∷ xs) zero = h x
   getD-map-has P f e z h (x ∷ xs) (suc i) = getD-map-has P f e z h xs i
 
-  pub all-each : (p : A → Bool) (d : A) (xs : List A) → ((i : ℕ) → i < length xs → p (getD xs i d) ≡ true) → all p xs ≡ true
+  pub all-each : (p : A → Bool) (d : A) (xs : List A) → ((i : ℕ) → i < length xs → p (getD xs i d) ≡ true)
+      → all p xs ≡ true
   all-each p d xs h = All-all p xs (All-each (Pass p) xs d h)
 
-  pub pairs-each : (r : A → A → Bool) (d : A) (xs : List A) → ((i j : ℕ) → i < j → j < length xs → r (getD xs i d) (getD xs j d) ≡ true) → pairs r xs ≡ true
+  pub pairs-each : (r : A → A → Bool) (d : A) (xs : List A)
+      → ((i j : ℕ) → i < j → j < length xs → r (getD xs i d) (getD xs j d) ≡ true) → pairs r xs ≡ true
   unfolding pairs
   pairs-each r d [] h = refl
   pairs-each r d (x ∷ xs) h =
@@ -61,7 +66,8 @@ module _ {A : Type 0} (t : A → Bool) (x : A) (xs : List A) (c : count t (x ∷
   only-tail : any t xs ≡ true → t x ≡ false
   only-tail e =
       split (t x)
-      (λ f. let z : count t (x ∷ xs) ≡ suc (count t xs) = count-yes t x xs f in let k : 1 ≤ count t xs = any-count t xs e in absurd (omega arith))
+      (λ f. let z : count t (x ∷ xs) ≡ suc (count t xs) = count-yes t x xs f in
+      let k : 1 ≤ count t xs = any-count t xs e in absurd (omega arith))
       (λ f. f)
 
   count-tail : count t xs ≤ 1
@@ -72,7 +78,8 @@ module _ {A : Type 0} (t : A → Bool) (x : A) (xs : List A) (c : count t (x ∷
 
 module _ {A : Type 0} (t : A → Bool) (d : A) where
   -- a test that only those can pass passes exactly if the i-th passes it
-  pub any-only : (p : A → Bool) → ((x : A) → t x ≡ false → p x ≡ false) → (xs : List A) (i : ℕ) → count t xs ≤ 1 → i < length xs
+  pub any-only : (p : A → Bool) → ((x : A) → t x ≡ false → p x ≡ false) → (xs : List A) (i : ℕ) → count t xs ≤ 1
+      → i < length xs
       → t (getD xs i d) ≡ true → any p xs ≡ p (getD xs i d)
   unfolding any
   any-only p n [] i c h e = absurd (not-suc-le-zero h)
@@ -84,11 +91,13 @@ module _ {A : Type 0} (t : A → Bool) (d : A) where
       ∙ any-only p n xs i (count-tail t x xs c) (le-of-suc-le-suc h) e
 
   -- two functions that differ on those alone: the values differ by one store
-  pub map-only : {B : Type 0} (f g : A → B) → ((x : A) → t x ≡ false → g x ≡ f x) → (xs : List A) (i : ℕ) → count t xs ≤ 1 → i < length xs
+  pub map-only : {B : Type 0} (f g : A → B) → ((x : A) → t x ≡ false → g x ≡ f x) → (xs : List A) (i : ℕ)
+      → count t xs ≤ 1 → i < length xs
       → t (getD xs i d) ≡ true → map g xs ≡ set (map f xs) i (g (getD xs i d))
   map-only f g n [] i c h e = absurd (not-suc-le-zero h)
   map-only f g n (x ∷ xs) zero c h e =
-      ap (λ l. g x ∷ l) (map-same-in g f xs (All-imp (Fail t) (λ y. g y ≡ f y) n xs (any-All t xs (only-head t x xs c e))))
+      ap (λ l. g x ∷ l)
+      (map-same-in g f xs (All-imp (Fail t) (λ y. g y ≡ f y) n xs (any-All t xs (only-head t x xs c e))))
   map-only f g n (x ∷ xs) (suc i) c h e =
       ap₂ (λ y l. y ∷ l)
       (n x (only-tail t x xs c (any-here t d xs i (le-of-suc-le-suc h) e)))

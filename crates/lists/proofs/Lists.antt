@@ -1,6 +1,7 @@
 -- Laws of the lists of specs/Lists. Assumes nothing.
 use mathlib.Core.Path.{_≡_, refl, sym, ap, ap₂, subst, _∙_, fun-ext}
-use mathlib.Core.Bool.{Bool, true, false, not, _&&_, _||_, cond, or-true, and-false, and-assoc, or-assoc, and-or-distrib-right}
+use mathlib.Core.Bool.{Bool, true, false, not, _&&_, _||_, cond, or-true, and-false, and-assoc, or-assoc}
+use mathlib.Core.Bool.{and-or-distrib-right}
 use mathlib.Core.List.{List, [], _∷_, _++_, map, head?, tail, append-nil}
 use mathlib.Core.Option.{Option, some, none, Option·getD}
 use Prim.Native.Nat.{ℕ, zero, suc, _+_, _-_, _≤_, _<_}
@@ -9,8 +10,11 @@ use native.Mathlib.Omega.{arith}
 use lib.ListN.{length, getD, take, drop, set, replicate, length-append, length-replicate, length-map}
 use lib.Seq.{append-snoc, set-append-seam, take-append-le, getD-take, drop-append-seam}
 use borrow.Author.Tests.{not-true}
-use Rattle.lists.specs.Lists.{all, any, count, find, first, keep, leading, dropFirst, change, replaceFirst, isSome, pairs, pairsWhere, padded, All, consIf}
-use Rattle.lists.proofs.Bools.{split, clash, same-test, and-fst, and-snd, and-both, and-left, and-right, or-left, or-right, or-both, or-fst-false, or-snd-false, or-cases, not-or, cond-map, cond-kept, cond-same}
+use Rattle.lists.specs.Lists.{all, any, count, find, first, keep, leading, dropFirst, change, replaceFirst}
+use Rattle.lists.specs.Lists.{isSome, pairs, pairsWhere, padded, All, consIf}
+use Rattle.lists.proofs.Bools.{split, clash, same-test, and-fst, and-snd, and-both, and-left, and-right, or-left}
+use Rattle.lists.proofs.Bools.{or-right, or-both, or-fst-false, or-snd-false, or-cases, not-or, cond-map}
+use Rattle.lists.proofs.Bools.{cond-kept, cond-same}
 
 -- x passes the test, or fails it
 module _ {A : Type 0} where
@@ -134,10 +138,12 @@ module _ {A : Type 0} where
   pub All-keep : (P : A → Type 0) (n : A → Bool) (l : List A) → All P l → All (λ x. P x × (n x ≡ true)) (keep n l)
   unfolding keep
   All-keep P n [] c = tt
-  All-keep P n (x ∷ xs) c = split (n x) (λ e. rw e ((c .0, e), All-keep P n xs (c .1))) (λ e. rw e (All-keep P n xs (c .1)))
+  All-keep P n (x ∷ xs) c =
+      split (n x) (λ e. rw e ((c .0, e), All-keep P n xs (c .1))) (λ e. rw e (All-keep P n xs (c .1)))
 
   -- what passes is changed, what holds of the rest is kept
-  pub All-changed : (P Q : A → Type 0) (t : A → Bool) (g : A → A) → ((x : A) → t x ≡ true → P x → Q (g x)) → ((x : A) → t x ≡ false → P x → Q x)
+  pub All-changed : (P Q : A → Type 0) (t : A → Bool) (g : A → A) → ((x : A) → t x ≡ true → P x → Q (g x))
+      → ((x : A) → t x ≡ false → P x → Q x)
       → (l : List A) → All P l → All Q (change t g l)
   unfolding change
   All-changed P Q t g h k [] c = tt
@@ -146,14 +152,17 @@ module _ {A : Type 0} where
       (λ e. rw e (h x e (c .0), All-changed P Q t g h k xs (c .1)))
       (λ e. rw e (k x e (c .0), All-changed P Q t g h k xs (c .1)))
 
-  pub All-change : (P : A → Type 0) (t : A → Bool) (g : A → A) → ((x : A) → t x ≡ true → P x → P (g x)) → (l : List A) → All P l
+  pub All-change : (P : A → Type 0) (t : A → Bool) (g : A → A) → ((x : A) → t x ≡ true → P x → P (g x))
+      → (l : List A) → All P l
       → All P (change t g l)
   All-change P t g h = All-changed P P t g h (λ x _ c. c)
 
-  pub All-replaceFirst : (P : A → Type 0) (t : A → Bool) (a : A) → P a → (l : List A) → All P l → All P (replaceFirst t a l)
+  pub All-replaceFirst : (P : A → Type 0) (t : A → Bool) (a : A) → P a → (l : List A) → All P l
+      → All P (replaceFirst t a l)
   unfolding replaceFirst
   All-replaceFirst P t a h [] c = tt
-  All-replaceFirst P t a h (x ∷ xs) c = split (t x) (λ e. rw e (h, c .1)) (λ e. rw e (c .0, All-replaceFirst P t a h xs (c .1)))
+  All-replaceFirst P t a h (x ∷ xs) c =
+      split (t x) (λ e. rw e (h, c .1)) (λ e. rw e (c .0, All-replaceFirst P t a h xs (c .1)))
 
   pub All-padded : (P : A → Type 0) (d : A) → P d → (n : ℕ) (l : List A) → All P l → All P (padded d n l)
   unfolding padded
@@ -231,11 +240,13 @@ module _ {A : Type 0} (p : A → Bool) where
   pub all-replicate : (a : A) → p a ≡ true → (n : ℕ) → all p (replicate n a) ≡ true
   all-replicate a h n = All-all (replicate n a) (All-replicate (Pass p) a h n)
 
-  pub all-replaceFirst : (t : A → Bool) (a : A) → p a ≡ true → (l : List A) → all p l ≡ true → all p (replaceFirst t a l) ≡ true
+  pub all-replaceFirst : (t : A → Bool) (a : A) → p a ≡ true → (l : List A) → all p l ≡ true
+      → all p (replaceFirst t a l) ≡ true
   all-replaceFirst t a h l e = All-all (replaceFirst t a l) (All-replaceFirst (Pass p) t a h l (all-All l e))
 
   -- a change that the test survives
-  pub all-change-keeps : (t : A → Bool) (g : A → A) → ((x : A) → t x ≡ true → p x ≡ true → p (g x) ≡ true) → (l : List A)
+  pub all-change-keeps : (t : A → Bool) (g : A → A) → ((x : A) → t x ≡ true → p x ≡ true → p (g x) ≡ true)
+      → (l : List A)
       → all p l ≡ true → all p (change t g l) ≡ true
   all-change-keeps t g h l e = All-all (change t g l) (All-change (Pass p) t g h l (all-All l e))
 
@@ -246,7 +257,8 @@ module _ {A : Type 0} (p : A → Bool) where
   all-getD (x ∷ xs) zero d h e = and-fst (p x) (all p xs) e
   all-getD (x ∷ xs) (suc i) d h e = all-getD xs i d h (and-snd (p x) (all p xs) e)
 
-  pub all-first : (t : A → Bool) (l : List A) (d : A) → p d ≡ true → all p l ≡ true → p (Option·getD (first t l) d) ≡ true
+  pub all-first : (t : A → Bool) (l : List A) (d : A) → p d ≡ true → all p l ≡ true
+      → p (Option·getD (first t l) d) ≡ true
   unfolding all first
   all-first t [] d h e = h
   all-first t (x ∷ xs) d h e =
@@ -254,21 +266,26 @@ module _ {A : Type 0} (p : A → Bool) where
 
   -- what is kept passes
   pub all-kept : (l : List A) → all p (keep p l) ≡ true
-  all-kept l = All-all (keep p l) (All-imp (λ x. Unit {0} × (p x ≡ true)) (Pass p) (λ x c. c .1) (keep p l) (All-keep (λ _. Unit {0}) p l (All-every (λ _. Unit {0}) (λ _. tt) l)))
+  all-kept l =
+      All-all (keep p l) (All-imp (λ x. Unit {0} × (p x ≡ true)) (Pass p) (λ x c. c .1) (keep p l)
+      (All-keep (λ _. Unit {0}) p l (All-every (λ _. Unit {0}) (λ _. tt) l)))
 
   pub any-replaceFirst : (t : A → Bool) (a : A) (l : List A) → p a ≡ false → All (λ x. t x ≡ true → p x ≡ false) l
       → any p (replaceFirst t a l) ≡ any p l
   unfolding any replaceFirst
   any-replaceFirst t a [] h c = refl
   any-replaceFirst t a (x ∷ xs) h c =
-      split (t x) (λ e. rw e (ap (λ b. b || any p xs) (h ∙ sym (c .0 e)))) (λ e. rw e (ap (λ b. p x || b) (any-replaceFirst t a xs h (c .1))))
+      split (t x) (λ e. rw e (ap (λ b. b || any p xs) (h ∙ sym (c .0 e))))
+      (λ e. rw e (ap (λ b. p x || b) (any-replaceFirst t a xs h (c .1))))
 
   -- the new one stands in the list, if one was replaced
-  pub any-replaced : (t : A → Bool) (a : A) (l : List A) → any t l ≡ true → p a ≡ true → any p (replaceFirst t a l) ≡ true
+  pub any-replaced : (t : A → Bool) (a : A) (l : List A) → any t l ≡ true → p a ≡ true
+      → any p (replaceFirst t a l) ≡ true
   unfolding any replaceFirst
   any-replaced t a [] e h = e
   any-replaced t a (x ∷ xs) e h =
-      split (t x) (λ f. rw f (or-left (any p xs) h)) (λ f. rw f (or-right (p x) (any-replaced t a xs (sym (any-no t x xs f) ∙ e) h)))
+      split (t x) (λ f. rw f (or-left (any p xs) h))
+      (λ f. rw f (or-right (p x) (any-replaced t a xs (sym (any-no t x xs f) ∙ e) h)))
 
 module _ {A : Type 0} (p q : A → Bool) where
   pub any-same : (l : List A) → ((x : A) → p x ≡ q x) → any p l ≡ any q l
@@ -291,7 +308,8 @@ module _ {A : Type 0} (p q : A → Bool) where
   pub any-imp : ((x : A) → p x ≡ true → q x ≡ true) → (l : List A) → any p l ≡ true → any q l ≡ true
   unfolding any
   any-imp h [] e = e
-  any-imp h (x ∷ xs) e = or-cases (p x) (any p xs) e (λ f. or-left (any q xs) (h x f)) (λ f. or-right (q x) (any-imp h xs f))
+  any-imp h (x ∷ xs) e =
+      or-cases (p x) (any p xs) e (λ f. or-left (any q xs) (h x f)) (λ f. or-right (q x) (any-imp h xs f))
 
   pub all-imp : ((x : A) → p x ≡ true → q x ≡ true) → (l : List A) → all p l ≡ true → all q l ≡ true
   all-imp h l e = All-all q l (All-imp (Pass p) (Pass q) h l (all-All p l e))
@@ -300,13 +318,15 @@ module _ {A : Type 0} (p q : A → Bool) where
   unfolding any
   any-or [] = refl
   any-or (x ∷ xs) =
-      split (p x) (λ e. rw e) (λ e. split (q x) (λ f. rw (e, f) (sym (or-true (any p xs)))) (λ f. rw (e, f) (any-or xs)))
+      split (p x) (λ e. rw e)
+      (λ e. split (q x) (λ f. rw (e, f) (sym (or-true (any p xs)))) (λ f. rw (e, f) (any-or xs)))
 
   pub all-and : (l : List A) → all (λ x. p x && q x) l ≡ (all p l && all q l)
   unfolding all
   all-and [] = refl
   all-and (x ∷ xs) =
-      split (p x) (λ e. split (q x) (λ f. rw (e, f) (all-and xs)) (λ f. rw (e, f) (sym (and-false (all p xs))))) (λ e. rw e)
+      split (p x) (λ e. split (q x) (λ f. rw (e, f) (all-and xs)) (λ f. rw (e, f) (sym (and-false (all p xs)))))
+      (λ e. rw e)
 
   pub any-keep : (l : List A) → any p (keep q l) ≡ any (λ x. q x && p x) l
   unfolding any keep
@@ -320,7 +340,8 @@ module _ {A : Type 0} where
   consIf-append true x xs ys = refl
   consIf-append false x xs ys = refl
 
-  consIf-map : {B : Type 0} (f : B → A) (b : Bool) (x : B) (xs : List B) → consIf b (f x) (map f xs) ≡ map f (consIf b x xs)
+  consIf-map : {B : Type 0} (f : B → A) (b : Bool) (x : B) (xs : List B)
+      → consIf b (f x) (map f xs) ≡ map f (consIf b x xs)
   consIf-map f true x xs = refl
   consIf-map f false x xs = refl
 
@@ -333,7 +354,8 @@ module _ {A : Type 0} where
     pub keep-map : {B : Type 0} (f : B → A) (l : List B) → keep p (map f l) ≡ map f (keep (λ x. p (f x)) l)
     unfolding keep
     keep-map f [] = refl
-    keep-map f (x ∷ xs) = ap (consIf (p (f x)) (f x)) (keep-map f xs) ∙ consIf-map f (p (f x)) x (keep (λ x. p (f x)) xs)
+    keep-map f (x ∷ xs) =
+        ap (consIf (p (f x)) (f x)) (keep-map f xs) ∙ consIf-map f (p (f x)) x (keep (λ x. p (f x)) xs)
 
     pub keep-whole : (l : List A) → All (Pass p) l → keep p l ≡ l
     unfolding keep
@@ -380,14 +402,16 @@ module _ {A : Type 0} where
   pub keep-all : (p n : A → Bool) → ((x : A) → p x ≡ true → n x ≡ true) → (l : List A) → keep p (keep n l) ≡ keep p l
   keep-all p n h l =
       keep-keep p n l
-      ∙ keep-same (λ x. n x && p x) p l (λ x. same-test (n x && p x) (p x) (λ e. and-snd (n x) (p x) e) (λ e. and-both (h x e) e))
+      ∙ keep-same (λ x. n x && p x) p l
+      (λ x. same-test (n x && p x) (p x) (λ e. and-snd (n x) (p x) e) (λ e. and-both (h x e) e))
 
   -- what is kept by `p` is not kept by `n`: nothing is left
   pub keep-none : (p n : A → Bool) → ((x : A) → p x ≡ true → n x ≡ false) → (l : List A) → keep p (keep n l) ≡ []
   keep-none p n h l =
       keep-keep p n l
       ∙ keep-empty (λ x. n x && p x) l
-      (All-any (λ x. n x && p x) l (All-every (Fail (λ x. n x && p x)) (λ x. split (p x) (λ e. and-left (p x) (h x e)) (λ e. and-right (n x) e)) l))
+      (All-any (λ x. n x && p x) l
+      (All-every (Fail (λ x. n x && p x)) (λ x. split (p x) (λ e. and-left (p x) (h x e)) (λ e. and-right (n x) e)) l))
 
 -- ---- the first that passes
 
@@ -429,7 +453,12 @@ module _ {A : Type 0} where
       (λ f. record { it = x; is-first = first-yes p x xs f; passes = f; stands = λ q h. any-yes q x xs h })
       (λ f.
       let r : Found p xs = found p xs (sym (any-no p x xs f) ∙ e) in
-      record { it = r .it; is-first = first-no p x xs f ∙ r .is-first; passes = r .passes; stands = λ q h. or-right (q x) (r .stands q h) })
+      record {
+        it = r .it;
+        is-first = first-no p x xs f ∙ r .is-first;
+        passes = r .passes;
+        stands = λ q h. or-right (q x) (r .stands q h);
+      })
 
 -- ---- members changed, replaced, left out
 
@@ -459,13 +488,15 @@ module _ {A : Type 0} where
 
   -- where none passes, nothing is changed, replaced or left out
   pub change-same : (t : A → Bool) (g : A → A) (l : List A) → any t l ≡ false → change t g l ≡ l
-  change-same t g l e = change-kept t g l (All-imp (Fail t) (λ x. t x ≡ true → g x ≡ x) (λ x f k. clash k f) l (any-All t l e))
+  change-same t g l e =
+      change-kept t g l (All-imp (Fail t) (λ x. t x ≡ true → g x ≡ x) (λ x f k. clash k f) l (any-All t l e))
 
   pub replaceFirst-same : (t : A → Bool) (a : A) (l : List A) → any t l ≡ false → replaceFirst t a l ≡ l
   unfolding replaceFirst any
   replaceFirst-same t a [] e = refl
   replaceFirst-same t a (x ∷ xs) e =
-      rw (or-fst-false (t x) (any t xs) e) (ap (λ l. x ∷ l) (replaceFirst-same t a xs (or-snd-false (t x) (any t xs) e)))
+      rw (or-fst-false (t x) (any t xs) e)
+      (ap (λ l. x ∷ l) (replaceFirst-same t a xs (or-snd-false (t x) (any t xs) e)))
 
   pub dropFirst-same : (t : A → Bool) (l : List A) → any t l ≡ false → dropFirst t l ≡ l
   unfolding dropFirst any
@@ -483,9 +514,11 @@ module _ {A B : Type 0} (h : A → B) where
   unfolding change
   map-change p g g′ e [] = refl
   map-change p g g′ e (x ∷ xs) =
-      ap₂ (λ y l. y ∷ l) (cond-map h (p (h x)) (g x) x ∙ ap (λ y. cond (p (h x)) y (h x)) (e x)) (map-change p g g′ e xs)
+      ap₂ (λ y l. y ∷ l) (cond-map h (p (h x)) (g x) x ∙ ap (λ y. cond (p (h x)) y (h x)) (e x))
+      (map-change p g g′ e xs)
 
-  pub map-replaceFirst : (p : B → Bool) (a : A) (l : List A) → map h (replaceFirst (λ x. p (h x)) a l) ≡ replaceFirst p (h a) (map h l)
+  pub map-replaceFirst : (p : B → Bool) (a : A) (l : List A)
+      → map h (replaceFirst (λ x. p (h x)) a l) ≡ replaceFirst p (h a) (map h l)
   unfolding replaceFirst
   map-replaceFirst p a [] = refl
   map-replaceFirst p a (x ∷ xs) = split (p (h x)) (λ e. rw e) (λ e. rw e (ap (λ l. h x ∷ l) (map-replaceFirst p a xs)))
@@ -501,7 +534,8 @@ module _ {A : Type 0} (p : A → Bool) where
   pub count-keep : (l : List A) → count p l ≡ length (keep p l)
   unfolding count keep
   count-keep [] = refl
-  count-keep (x ∷ xs) = split (p x) (λ e. rw e (omega (arith, count-keep xs))) (λ e. rw e (omega (arith, count-keep xs)))
+  count-keep (x ∷ xs) =
+      split (p x) (λ e. rw e (omega (arith, count-keep xs))) (λ e. rw e (omega (arith, count-keep xs)))
 
   pub count-append : (xs ys : List A) → count p (xs ++ ys) ≡ count p xs + count p ys
   unfolding count
@@ -535,7 +569,8 @@ module _ {A : Type 0} (p : A → Bool) where
   unfolding count any
   any-count [] e = clash e refl
   any-count (x ∷ xs) e =
-      or-cases (p x) (any p xs) e (λ f. rw f (omega arith)) (λ f. let h : 1 ≤ count p xs = any-count xs f in omega arith)
+      or-cases (p x) (any p xs) e (λ f. rw f (omega arith))
+      (λ f. let h : 1 ≤ count p xs = any-count xs f in omega arith)
 
   pub none-count : (l : List A) → any p l ≡ false → count p l ≡ 0
   none-count l e = count-keep l ∙ ap length (keep-empty p l e)
@@ -552,10 +587,12 @@ module _ {A : Type 0} (p : A → Bool) where
       (λ e. rw e (ap (λ b. cond b 1 0 + count p xs) (h ∙ sym (c .0 e))))
       (λ e. rw e (ap (λ n. cond (p x) 1 0 + n) (count-replaceFirst t a xs h (c .1))))
 
-  pub count-replaceFirst-le : (t : A → Bool) (a : A) (l : List A) → count p (replaceFirst t a l) ≤ count p l + cond (p a) 1 0
+  pub count-replaceFirst-le : (t : A → Bool) (a : A) (l : List A)
+      → count p (replaceFirst t a l) ≤ count p l + cond (p a) 1 0
   unfolding count replaceFirst
   count-replaceFirst-le t a [] = omega arith
-  count-replaceFirst-le t a (x ∷ xs) = split (t x) (λ e. rw e (omega arith)) (λ e. rw e (omega (arith, count-replaceFirst-le t a xs)))
+  count-replaceFirst-le t a (x ∷ xs) =
+      split (t x) (λ e. rw e (omega arith)) (λ e. rw e (omega (arith, count-replaceFirst-le t a xs)))
 
   pub count-dropFirst : (l : List A) → any p l ≡ true → suc (count p (dropFirst p l)) ≡ count p l
   unfolding count dropFirst any
@@ -563,7 +600,8 @@ module _ {A : Type 0} (p : A → Bool) where
   count-dropFirst (x ∷ xs) e =
       split (p x)
       (λ f. rw f (omega arith))
-      (λ f. rw f (let h : any p xs ≡ true = sym (any-no p x xs f) ∙ e in omega (arith, count-no p x (dropFirst p xs) f, count-dropFirst xs h)))
+      (λ f. rw f (let h : any p xs ≡ true = sym (any-no p x xs f) ∙ e in
+      omega (arith, count-no p x (dropFirst p xs) f, count-dropFirst xs h)))
 
 -- a test that all pass
 pub count-true : {A : Type 0} (l : List A) → count (λ _. true) l ≡ length l
@@ -583,7 +621,8 @@ module _ {A : Type 0} (p q : A → Bool) where
 
   pub count-le : ((x : A) → p x ≡ true → q x ≡ true) → (l : List A) → count p l ≤ count q l
   count-le h l =
-      let e : count p (keep q l) ≡ count p l = count-keep p (keep q l) ∙ ap length (keep-all p q h l) ∙ sym (count-keep p l) in
+      let e : count p (keep q l) ≡ count p l =
+      count-keep p (keep q l) ∙ ap length (keep-all p q h l) ∙ sym (count-keep p l) in
       let f : count p (keep q l) ≤ length (keep q l) = count-le-length p (keep q l) in
       omega (arith, count-keep q l)
 
@@ -605,23 +644,27 @@ module _ {A : Type 0} (p : A → Bool) where
 -- ---- every two members
 
 module _ {A : Type 0} where
-  pub pairs-map : {B : Type 0} (r : A → A → Bool) (f : B → A) (l : List B) → pairs r (map f l) ≡ pairs (λ x y. r (f x) (f y)) l
+  pub pairs-map : {B : Type 0} (r : A → A → Bool) (f : B → A) (l : List B)
+      → pairs r (map f l) ≡ pairs (λ x y. r (f x) (f y)) l
   unfolding pairs
   pairs-map r f [] = refl
   pairs-map r f (x ∷ xs) = ap₂ (λ a b. a && b) (all-map (r (f x)) f xs) (pairs-map r f xs)
 
-  pub pairs-imp : (r s : A → A → Bool) → ((x y : A) → r x y ≡ true → s x y ≡ true) → (l : List A) → pairs r l ≡ true → pairs s l ≡ true
+  pub pairs-imp : (r s : A → A → Bool) → ((x y : A) → r x y ≡ true → s x y ≡ true) → (l : List A) → pairs r l ≡ true
+      → pairs s l ≡ true
   unfolding pairs
   pairs-imp r s h [] e = e
   pairs-imp r s h (x ∷ xs) e =
-      and-both (all-imp (r x) (s x) (h x) xs (and-fst (all (r x) xs) (pairs r xs) e)) (pairs-imp r s h xs (and-snd (all (r x) xs) (pairs r xs) e))
+      and-both (all-imp (r x) (s x) (h x) xs (and-fst (all (r x) xs) (pairs r xs) e))
+      (pairs-imp r s h xs (and-snd (all (r x) xs) (pairs r xs) e))
 
   all-or : (b : Bool) (q : A → Bool) (l : List A) → (b || all q l) ≡ all (λ x. b || q x) l
   all-or true q l = sym (All-all (λ _. true) l (All-every (λ _. true ≡ true) (λ _. refl) l))
   all-or false q l = refl
 
   -- the test of the first of a pair may stand in the test of the pair
-  pub pairsWhere-pairs : (p : A → Bool) (r : A → A → Bool) (l : List A) → pairsWhere p r l ≡ pairs (λ x y. not (p x) || r x y) l
+  pub pairsWhere-pairs : (p : A → Bool) (r : A → A → Bool) (l : List A)
+      → pairsWhere p r l ≡ pairs (λ x y. not (p x) || r x y) l
   unfolding pairsWhere pairs
   pairsWhere-pairs p r [] = refl
   pairsWhere-pairs p r (x ∷ xs) = ap₂ (λ a b. a && b) (all-or (not (p x)) (r x) xs) (pairsWhere-pairs p r xs)
@@ -631,8 +674,10 @@ module _ {A : Type 0} where
   unfolding pairs count
   pairs-count t [] e = omega arith
   pairs-count t (x ∷ xs) e =
-      let a : all (λ y. not (t x && t y)) xs ≡ true = and-fst (all (λ y. not (t x && t y)) xs) (pairs (λ x y. not (t x && t y)) xs) e in
-      let i : count t xs ≤ 1 = pairs-count t xs (and-snd (all (λ y. not (t x && t y)) xs) (pairs (λ x y. not (t x && t y)) xs) e) in
+      let a : all (λ y. not (t x && t y)) xs ≡ true =
+      and-fst (all (λ y. not (t x && t y)) xs) (pairs (λ x y. not (t x && t y)) xs) e in
+      let i : count t xs ≤ 1 =
+      pairs-count t xs (and-snd (all (λ y. not (t x && t y)) xs) (pairs (λ x y. not (t x && t y)) xs) e) in
       split (t x)
       (λ f.
       let b : all (λ y. not (t y)) xs ≡ true = rw f at a in
@@ -666,7 +711,8 @@ module _ {A : Type 0} (p : A → Bool) where
   pub leading-padded : (d : A) (n : ℕ) (xs : List A) → All (Pass p) xs → p d ≡ false → leading p (padded d n xs) ≡ xs
   unfolding padded
   leading-padded d n xs c h =
-      leading-append xs (replicate (n - length xs) d) c ∙ ap (λ l. xs ++ l) (leading-replicate d h (n - length xs)) ∙ append-nil xs
+      leading-append xs (replicate (n - length xs) d) c ∙ ap (λ l. xs ++ l) (leading-replicate d h (n - length xs))
+      ∙ append-nil xs
 
   -- they are a first part
   pub leading-take : (l : List A) → leading p l ≡ take (length (leading p l)) l

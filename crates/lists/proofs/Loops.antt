@@ -7,11 +7,16 @@ use Prim.Native.Nat.{ℕ, zero, suc, _+_, _-_, _≤_, _<_}
 use native.Mathlib.Nat.{not-suc-le-zero, le-of-suc-le-suc, zero-add, add-zero, suc-add, add-suc}
 use native.Mathlib.Numerals.{add-one}
 use native.Mathlib.Omega.{arith}
-use lib.ListN.{length, getD, take, drop, set, replicate, length-replicate, drop-of-length-le, getD-replicate, replicate-append-replicate}
-use lib.Seq.{take-suc, take-all, drop-cons, map-set-same, set-getD, getD-drop, drop-drop, drop-set-lt, take-suc-set, append-snoc, paste, paste-suc, length-paste, length-take-le, drop-at}
-use Rattle.lists.specs.Lists.{all, any, count, find, first, keep, leading, dropFirst, change, replaceFirst, pairs, range, padded, All}
+use lib.ListN.{length, getD, take, drop, set, replicate, length-replicate, drop-of-length-le, getD-replicate}
+use lib.ListN.{replicate-append-replicate}
+use lib.Seq.{take-suc, take-all, drop-cons, map-set-same, set-getD, getD-drop, drop-drop, drop-set-lt, take-suc-set}
+use lib.Seq.{append-snoc, paste, paste-suc, length-paste, length-take-le, drop-at}
+use Rattle.lists.specs.Lists.{all, any, count, find, first, keep, leading, dropFirst, change, replaceFirst, pairs}
+use Rattle.lists.specs.Lists.{range, padded, All}
 use Rattle.lists.proofs.Bools.{split, clash, and-fst, and-snd, and-both, and-left, and-right, or-both}
-use Rattle.lists.proofs.Lists.{Pass, All-at, All-set, all-All, All-all, all-append, all-end, any-append, all-map, all-same, any-no, all-yes, all-no, any-All, find-yes, find-no, keep-yes, keep-no, count-yes, count-no, leading-yes, leading-no, change-same, any-count, count-none}
+use Rattle.lists.proofs.Lists.{Pass, All-at, All-set, all-All, All-all, all-append, all-end, any-append, all-map}
+use Rattle.lists.proofs.Lists.{all-same, any-no, all-yes, all-no, any-All, find-yes, find-no, keep-yes, keep-no}
+use Rattle.lists.proofs.Lists.{count-yes, count-no, leading-yes, leading-no, change-same, any-count, count-none}
 
 -- ---- a turn: what is left from i on
 
@@ -32,7 +37,8 @@ module _ {A : Type 0} (f : A → Bool) (d : A) where
   unfolding all
   all-none xs = refl
 
-  pub all-more : (xs : List A) (i : ℕ) → i < length xs → all f (take i xs) ≡ true → f (getD xs i d) ≡ true → all f (take (i + 1) xs) ≡ true
+  pub all-more : (xs : List A) (i : ℕ) → i < length xs → all f (take i xs) ≡ true → f (getD xs i d) ≡ true
+      → all f (take (i + 1) xs) ≡ true
   all-more xs i h a e = ap (all f) (upto xs i d h) ∙ all-end f (take i xs) (getD xs i d) a e
 
   pub all-fails : (xs : List A) (i : ℕ) → i < length xs → f (getD xs i d) ≡ false → all f xs ≡ false
@@ -48,7 +54,8 @@ module _ {A : Type 0} (f : A → Bool) (d : A) where
   unfolding any
   any-none xs = refl
 
-  pub any-more : (xs : List A) (i : ℕ) → i < length xs → any f (take i xs) ≡ false → f (getD xs i d) ≡ false → any f (take (i + 1) xs) ≡ false
+  pub any-more : (xs : List A) (i : ℕ) → i < length xs → any f (take i xs) ≡ false → f (getD xs i d) ≡ false
+      → any f (take (i + 1) xs) ≡ false
   unfolding any
   any-more xs i h a e =
       ap (any f) (upto xs i d h) ∙ any-append f (take i xs) (getD xs i d ∷ []) ∙ or-both a (or-both e refl)
@@ -85,7 +92,8 @@ module _ {A : Type 0} (f : A → Bool) (d : A) where
       → find f xs ≡ (i + 1) + find f (drop (i + 1) xs)
   find-more xs i h a e = omega (arith, ap (find f) (next xs i d h) ∙ find-no f (getD xs i d) (drop (i + 1) xs) e)
 
-  pub find-here : (xs : List A) (i : ℕ) → i < length xs → find f xs ≡ i + find f (drop i xs) → f (getD xs i d) ≡ true → find f xs ≡ i
+  pub find-here : (xs : List A) (i : ℕ) → i < length xs → find f xs ≡ i + find f (drop i xs) → f (getD xs i d) ≡ true
+      → find f xs ≡ i
   find-here xs i h a e = omega (arith, ap (find f) (next xs i d h) ∙ find-yes f (getD xs i d) (drop (i + 1) xs) e)
 
   pub find-done : (xs : List A) (i : ℕ) → length xs ≤ i → find f xs ≡ i + find f (drop i xs) → find f xs ≡ i
@@ -97,7 +105,8 @@ module _ {A : Type 0} (f : A → Bool) (d : A) where
   unfolding find
   find-at [] h = absurd (not-suc-le-zero h)
   find-at (x ∷ xs) h =
-      split (f x) (λ e. rw e e) (λ e. rw e (find-at xs (let k : find f (x ∷ xs) ≡ suc (find f xs) = find-no f x xs e in omega arith)))
+      split (f x) (λ e. rw e e)
+      (λ e. rw e (find-at xs (let k : find f (x ∷ xs) ≡ suc (find f xs) = find-no f x xs e in omega arith)))
 
   pub any-find : (xs : List A) → find f xs < length xs → any f xs ≡ true
   any-find xs h = any-here f d xs (find f xs) h (find-at xs h)
@@ -113,7 +122,8 @@ unfolding replaceFirst find
 replaceFirst-find f a [] = refl
 replaceFirst-find f a (x ∷ xs) = split (f x) (λ e. rw e) (λ e. rw e (ap (λ l. x ∷ l) (replaceFirst-find f a xs)))
 
-pub dropFirst-find : {A : Type 0} (f : A → Bool) (xs : List A) → dropFirst f xs ≡ take (find f xs) xs ++ drop (suc (find f xs)) xs
+pub dropFirst-find : {A : Type 0} (f : A → Bool) (xs : List A)
+    → dropFirst f xs ≡ take (find f xs) xs ++ drop (suc (find f xs)) xs
 unfolding dropFirst find
 dropFirst-find f [] = refl
 dropFirst-find f (x ∷ xs) = split (f x) (λ e. rw e) (λ e. rw e (ap (λ l. x ∷ l) (dropFirst-find f xs)))
@@ -142,14 +152,16 @@ module _ {A : Type 0} (r : A → A → Bool) (d : A) where
   unfolding pairs
   pairs-none xs = refl
 
-  pub pairs-more : (xs : List A) (i : ℕ) → i < length xs → pairs r (take i xs) ≡ true → all (against r (getD xs i d)) (take i xs) ≡ true
+  pub pairs-more : (xs : List A) (i : ℕ) → i < length xs → pairs r (take i xs) ≡ true
+      → all (against r (getD xs i d)) (take i xs) ≡ true
       → pairs r (take (i + 1) xs) ≡ true
   pairs-more xs i h a e = ap (pairs r) (upto xs i d h) ∙ pairs-end r (take i xs) (getD xs i d) ∙ and-both a e
 
   pub pairs-done : (xs : List A) (i : ℕ) → length xs ≤ i → pairs r (take i xs) ≡ true → pairs r xs ≡ true
   pairs-done xs i h a = rw (take-all i xs h) at a
 
-  pub pairs-fails : (xs : List A) (i : ℕ) → i < length xs → all (against r (getD xs i d)) (take i xs) ≡ false → pairs r xs ≡ false
+  pub pairs-fails : (xs : List A) (i : ℕ) → i < length xs → all (against r (getD xs i d)) (take i xs) ≡ false
+      → pairs r xs ≡ false
   unfolding pairs all
   pairs-fails [] i h e = absurd (not-suc-le-zero h)
   pairs-fails (x ∷ xs) zero h e = clash refl e
@@ -158,12 +170,15 @@ module _ {A : Type 0} (r : A → A → Bool) (d : A) where
       (λ k. and-right (all (r x) xs) (pairs-fails xs i (le-of-suc-le-suc h) (rw k at e)))
       (λ k. and-left (pairs r xs) (all-fails (r x) d xs i (le-of-suc-le-suc h) k))
 
-  pub pairs-at : (xs : List A) (i j : ℕ) → i < j → j < length xs → pairs r xs ≡ true → r (getD xs i d) (getD xs j d) ≡ true
+  pub pairs-at : (xs : List A) (i j : ℕ) → i < j → j < length xs → pairs r xs ≡ true
+      → r (getD xs i d) (getD xs j d) ≡ true
   unfolding pairs
   pairs-at [] i j k h e = absurd (not-suc-le-zero h)
   pairs-at (x ∷ xs) i zero k h e = absurd (not-suc-le-zero k)
-  pairs-at (x ∷ xs) zero (suc j) k h e = all-at (r x) d xs j (le-of-suc-le-suc h) (and-fst (all (r x) xs) (pairs r xs) e)
-  pairs-at (x ∷ xs) (suc i) (suc j) k h e = pairs-at xs i j (le-of-suc-le-suc k) (le-of-suc-le-suc h) (and-snd (all (r x) xs) (pairs r xs) e)
+  pairs-at (x ∷ xs) zero (suc j) k h e =
+      all-at (r x) d xs j (le-of-suc-le-suc h) (and-fst (all (r x) xs) (pairs r xs) e)
+  pairs-at (x ∷ xs) (suc i) (suc j) k h e =
+      pairs-at xs i j (le-of-suc-le-suc k) (le-of-suc-le-suc h) (and-snd (all (r x) xs) (pairs r xs) e)
 
 -- ---- one entry changed: what passes exactly if the old one did changes no test
 
@@ -173,23 +188,28 @@ module _ {A : Type 0} (f : A → Bool) (xs : List A) (i : ℕ) (y : A) where
 
 module _ {A : Type 0} (f : A → Bool) (d : A) (xs : List A) (i : ℕ) (y : A) (e : f y ≡ f (getD xs i d)) where
   pub all-same-at : all f (set xs i y) ≡ all f xs
-  all-same-at = sym (all-map (λ b. b) f (set xs i y)) ∙ ap (all (λ b. b)) (map-set-same f xs i y d e) ∙ all-map (λ b. b) f xs
+  all-same-at =
+      sym (all-map (λ b. b) f (set xs i y)) ∙ ap (all (λ b. b)) (map-set-same f xs i y d e) ∙ all-map (λ b. b) f xs
 
-pub find-same : {A : Type 0} (f : A → Bool) (d : A) (xs : List A) (i : ℕ) (y : A) → f y ≡ f (getD xs i d) → find f (set xs i y) ≡ find f xs
+pub find-same : {A : Type 0} (f : A → Bool) (d : A) (xs : List A) (i : ℕ) (y : A) → f y ≡ f (getD xs i d)
+    → find f (set xs i y) ≡ find f xs
 unfolding find
 find-same f d [] i y e = refl
 find-same f d (x ∷ xs) zero y e = rw e
 find-same f d (x ∷ xs) (suc i) y e = rw (find-same f d xs i y e)
 
-pub pairs-same : {A : Type 0} (r : A → A → Bool) (d : A) (xs : List A) (i : ℕ) (y : A) → ((z : A) → r z y ≡ r z (getD xs i d))
+pub pairs-same : {A : Type 0} (r : A → A → Bool) (d : A) (xs : List A) (i : ℕ) (y : A)
+    → ((z : A) → r z y ≡ r z (getD xs i d))
     → ((z : A) → r y z ≡ r (getD xs i d) z) → pairs r (set xs i y) ≡ pairs r xs
 unfolding pairs
 pairs-same r d [] i y e k = refl
 pairs-same r d (x ∷ xs) zero y e k = rw (all-same (r y) (r x) xs k)
-pairs-same r d (x ∷ xs) (suc i) y e k = ap₂ (λ a b. a && b) (all-same-at (r x) d xs i y (e x)) (pairs-same r d xs i y e k)
+pairs-same r d (x ∷ xs) (suc i) y e k =
+    ap₂ (λ a b. a && b) (all-same-at (r x) d xs i y (e x)) (pairs-same r d xs i y e k)
 
 -- a change where one passes is a store
-pub change-set : {A : Type 0} (t : A → Bool) (g : A → A) (d : A) (xs : List A) (i : ℕ) → count t xs ≤ 1 → i < length xs → t (getD xs i d) ≡ true
+pub change-set : {A : Type 0} (t : A → Bool) (g : A → A) (d : A) (xs : List A) (i : ℕ) → count t xs ≤ 1 → i < length xs
+    → t (getD xs i d) ≡ true
     → change t g xs ≡ set xs i (g (getD xs i d))
 unfolding change
 change-set t g d [] i c h e = absurd (not-suc-le-zero h)
@@ -203,7 +223,8 @@ change-set t g d (x ∷ xs) (suc i) c h e =
     (λ f. let z : count t (x ∷ xs) ≡ count t xs = count-no t x xs f in
     rw f (ap (λ l. x ∷ l) (change-set t g d xs i (omega arith) (le-of-suc-le-suc h) e)))
 
--- ---- a list filled from another: `zs ≡ filled f i xs ys`, those below i are f of the entries of xs, the others are still those of ys
+-- ---- a list filled from another: `zs ≡ filled f i xs ys`, those below i are f of the entries of xs,
+--      the others are still those of ys
 
 module _ {A B : Type 0} (f : A → B) where
   unfoldable pub filled : ℕ → List A → List B → List B
@@ -219,7 +240,8 @@ module _ {A B : Type 0} (f : A → B) where
   filled-next [] ys i d h e = absurd (not-suc-le-zero h)
   filled-next (x ∷ xs) [] i d h e = absurd (omega arith)
   filled-next (x ∷ xs) (y ∷ ys) zero d h e = refl
-  filled-next (x ∷ xs) (y ∷ ys) (suc i) d h e = ap {B = List B} (λ l. f x ∷ l) (filled-next xs ys i d (le-of-suc-le-suc h) (omega arith))
+  filled-next (x ∷ xs) (y ∷ ys) (suc i) d h e =
+      ap {B = List B} (λ l. f x ∷ l) (filled-next xs ys i d (le-of-suc-le-suc h) (omega arith))
 
   pub filled-more : (xs : List A) (ys : List B) (i : ℕ) (d : A) → i < length xs → length ys ≡ length xs
       → set (filled i xs ys) i (f (getD xs i d)) ≡ filled (i + 1) xs ys
@@ -245,7 +267,8 @@ module _ {A : Type 0} (f : A → A) where
   mapped-read (x ∷ xs) zero d = refl
   mapped-read (x ∷ xs) (suc i) d = mapped-read xs i d
 
-  pub mapped-more : (xs : List A) (i : ℕ) (d : A) → i < length xs → set (mapped i xs) i (f (getD xs i d)) ≡ mapped (i + 1) xs
+  pub mapped-more : (xs : List A) (i : ℕ) (d : A) → i < length xs
+      → set (mapped i xs) i (f (getD xs i d)) ≡ mapped (i + 1) xs
   mapped-more xs i d h = filled-more f xs xs i d h refl
 
   pub mapped-done : (xs : List A) (i : ℕ) → length xs ≤ i → mapped i xs ≡ map f xs
@@ -275,7 +298,8 @@ getD-range k (suc n) (suc i) h = getD-range (suc k) n i (le-of-suc-le-suc h) ∙
 pub All-range : (P : ℕ → Type 0) (k n : ℕ) → ((i : ℕ) → k ≤ i → i < k + n → P i) → All P (range k n)
 unfolding range
 All-range P k zero h = tt
-All-range P k (suc n) h = (h k (omega arith) (omega arith), All-range P (suc k) n (λ i a b. h i (omega arith) (omega arith)))
+All-range P k (suc n) h =
+    (h k (omega arith) (omega arith), All-range P (suc k) n (λ i a b. h i (omega arith) (omega arith)))
 
 pub All-range-at : (P : ℕ → Type 0) (k n i : ℕ) → k ≤ i → i < k + n → All P (range k n) → P i
 All-range-at P k n i a b c =
@@ -287,7 +311,8 @@ All-range-at P k n i a b c =
 range-end : (k n : ℕ) → range k (suc n) ≡ range k n ++ ((k + n) ∷ [])
 unfolding range
 range-end k zero = ap (λ m. m ∷ []) (sym (add-zero k))
-range-end k (suc n) = ap (λ l. k ∷ l) (range-end (suc k) n ∙ ap (λ m. range (suc k) n ++ (m ∷ [])) (suc-add k n ∙ sym (add-suc k n)))
+range-end k (suc n) =
+    ap (λ l. k ∷ l) (range-end (suc k) n ∙ ap (λ m. range (suc k) n ++ (m ∷ [])) (suc-add k n ∙ sym (add-suc k n)))
 
 module _ (f : ℕ → Bool) (k : ℕ) where
   pub range-none : all f (range k 0) ≡ true
@@ -295,7 +320,8 @@ module _ (f : ℕ → Bool) (k : ℕ) where
   range-none = refl
 
   pub range-more : (i : ℕ) → all f (range k i) ≡ true → f (k + i) ≡ true → all f (range k (i + 1)) ≡ true
-  range-more i a e = ap (λ m. all f (range k m)) (add-one i) ∙ ap (all f) (range-end k i) ∙ all-end f (range k i) (k + i) a e
+  range-more i a e =
+      ap (λ m. all f (range k m)) (add-one i) ∙ ap (all f) (range-end k i) ∙ all-end f (range k i) (k + i) a e
 
   pub range-fails : (n i : ℕ) → i < n → f (k + i) ≡ false → all f (range k n) ≡ false
   range-fails n i h e = all-fails f 0 (range k n) i (rw length-range h) (ap f (getD-range k n i h) ∙ e)
@@ -324,14 +350,22 @@ module _ {A : Type 0} (p : A → Bool) (d : A) where
   pub leading-start : (xs : List A) → length (leading p (drop 0 xs)) + 0 ≡ length (leading p xs)
   leading-start xs = add-zero (length (leading p xs))
 
-  pub leading-more : (xs : List A) (i n : ℕ) → i < length xs → length (leading p (drop i xs)) + i ≡ n → p (getD xs i d) ≡ true
+  pub leading-more : (xs : List A) (i n : ℕ) → i < length xs → length (leading p (drop i xs)) + i ≡ n
+      → p (getD xs i d) ≡ true
       → length (leading p (drop (i + 1) xs)) + (i + 1) ≡ n
   leading-more xs i n h a e =
-      omega (arith, ap (λ l. length (leading p l)) (next xs i d h) ∙ ap length (leading-yes p (getD xs i d) (drop (i + 1) xs) e))
+      omega (
+        arith,
+        ap (λ l. length (leading p l)) (next xs i d h) ∙ ap length (leading-yes p (getD xs i d) (drop (i + 1) xs) e),
+      )
 
-  pub leading-here : (xs : List A) (i n : ℕ) → i < length xs → length (leading p (drop i xs)) + i ≡ n → p (getD xs i d) ≡ false → i ≡ n
+  pub leading-here : (xs : List A) (i n : ℕ) → i < length xs → length (leading p (drop i xs)) + i ≡ n
+      → p (getD xs i d) ≡ false → i ≡ n
   leading-here xs i n h a e =
-      omega (arith, ap (λ l. length (leading p l)) (next xs i d h) ∙ ap length (leading-no p (getD xs i d) (drop (i + 1) xs) e))
+      omega (
+        arith,
+        ap (λ l. length (leading p l)) (next xs i d h) ∙ ap length (leading-no p (getD xs i d) (drop (i + 1) xs) e),
+      )
 
   pub leading-done : (xs : List A) (i n : ℕ) → length xs ≤ i → length (leading p (drop i xs)) + i ≡ n → i ≡ n
   unfolding leading
@@ -344,17 +378,20 @@ module _ {A : Type 0} (d : A) where
   pub same-from : (cs ds : List A) (i : ℕ) → drop i cs ≡ drop i ds → getD cs i d ≡ getD ds i d
   same-from cs ds i e =
       let z : i + 0 ≡ i = add-zero i in
-      let f : getD cs (i + 0) d ≡ getD ds (i + 0) d = sym (getD-drop i cs 0 d) ∙ ap (λ l. getD l 0 d) e ∙ getD-drop i ds 0 d in
+      let f : getD cs (i + 0) d ≡ getD ds (i + 0) d =
+      sym (getD-drop i cs 0 d) ∙ ap (λ l. getD l 0 d) e ∙ getD-drop i ds 0 d in
       rw z at f
 
 module _ {A : Type 0} where
   pub same-next : (cs ds : List A) (i : ℕ) → drop i cs ≡ drop i ds → drop (i + 1) cs ≡ drop (i + 1) ds
   same-next cs ds i e = sym (drop-drop 1 i cs) ∙ ap (drop 1) e ∙ drop-drop 1 i ds
 
-  pub same-set : (cs ds : List A) (i j : ℕ) (a : A) → j ≤ i → drop i cs ≡ drop i ds → drop (i + 1) (set cs j a) ≡ drop (i + 1) ds
+  pub same-set : (cs ds : List A) (i j : ℕ) (a : A) → j ≤ i → drop i cs ≡ drop i ds
+      → drop (i + 1) (set cs j a) ≡ drop (i + 1) ds
   same-set cs ds i j a h e = drop-set-lt (i + 1) cs j a (omega arith) ∙ same-next cs ds i e
 
-  pub take-set : (cs rest : List A) (j : ℕ) (a : A) → j < length cs → take (j + 1) (set cs j a) ++ rest ≡ take j cs ++ (a ∷ rest)
+  pub take-set : (cs rest : List A) (j : ℕ) (a : A) → j < length cs
+      → take (j + 1) (set cs j a) ++ rest ≡ take j cs ++ (a ∷ rest)
   take-set cs rest j a h = rw (add-one, take-suc-set cs j a h) (append-snoc (take j cs) a rest)
 
 module _ {A : Type 0} (q : A → Bool) (d : A) where
@@ -364,15 +401,19 @@ module _ {A : Type 0} (q : A → Bool) (d : A) where
       take-set cs (keep q (drop (i + 1) rs)) j a h
       ∙ ap (λ l. take j cs ++ l) (sym (ap (keep q) (rw e (next rs i d k)) ∙ keep-yes q a (drop (i + 1) rs) t))
 
-  pub passed : (rs : List A) (i : ℕ) (a : A) → i < length rs → a ≡ getD rs i d → q a ≡ false → keep q (drop (i + 1) rs) ≡ keep q (drop i rs)
+  pub passed : (rs : List A) (i : ℕ) (a : A) → i < length rs → a ≡ getD rs i d → q a ≡ false
+      → keep q (drop (i + 1) rs) ≡ keep q (drop i rs)
   passed rs i a k e t = sym (ap (keep q) (rw e (next rs i d k)) ∙ keep-no q a (drop (i + 1) rs) t)
 
-  pub compacted : (cs rs : List A) (i j : ℕ) → length rs ≤ i → take j cs ++ keep q (drop i rs) ≡ keep q rs → take j cs ≡ keep q rs
+  pub compacted : (cs rs : List A) (i j : ℕ) → length rs ≤ i → take j cs ++ keep q (drop i rs) ≡ keep q rs
+      → take j cs ≡ keep q rs
   unfolding keep
-  compacted cs rs i j h e = sym (append-nil (take j cs)) ∙ ap (λ l. take j cs ++ keep q l) (sym (drop-of-length-le rs h)) ∙ e
+  compacted cs rs i j h e =
+      sym (append-nil (take j cs)) ∙ ap (λ l. take j cs ++ keep q l) (sym (drop-of-length-le rs h)) ∙ e
 
 -- the next entry moved down by one
-pub moved : {A : Type 0} (d : A) (cs rs : List A) (i : ℕ) (a : A) → i < length cs → i + 1 < length rs → a ≡ getD rs (i + 1) d
+pub moved : {A : Type 0} (d : A) (cs rs : List A) (i : ℕ) (a : A) → i < length cs → i + 1 < length rs
+    → a ≡ getD rs (i + 1) d
     → take (i + 1) (set cs i a) ++ drop (i + 1 + 1) rs ≡ take i cs ++ drop (i + 1) rs
 moved d cs rs i a h k e =
     take-set cs (drop (i + 1 + 1) rs) i a h ∙ ap (λ l. take i cs ++ l) (sym (rw e (next rs (i + 1) d k)))
@@ -380,7 +421,8 @@ moved d cs rs i a h k e =
 -- ---- a list copied over another, from the first entry on: `zs ≡ paste ys 0 xs i`
 
 module _ {A : Type 0} (xs ys : List A) (i : ℕ) where
-  pub paste-more : (d : A) → i < length xs → i < length ys → set (paste ys 0 xs i) i (getD xs i d) ≡ paste ys 0 xs (i + 1)
+  pub paste-more : (d : A) → i < length xs → i < length ys
+      → set (paste ys 0 xs i) i (getD xs i d) ≡ paste ys 0 xs (i + 1)
   paste-more d h k =
       let z : 0 + i ≡ i = omega arith in
       ap (λ n. set (paste ys 0 xs i) n (getD xs i d)) (sym z)
@@ -414,12 +456,14 @@ module _ {A : Type 0} (d : A) where
       rw (e, take-all (n - j) (replicate (n - j) d) b, a) (append-assoc (take j cs) (replicate (n - j) d) (drop n cs))
 
   -- what is kept stands below j, and all behind is cleared
-  pub compact : (cs rs fs : List A) (j n m : ℕ) → n ≡ length rs → j ≤ n → n ≤ m → length cs ≡ m → take j cs ≡ fs → drop n cs ≡ drop n (padded d m rs)
+  pub compact : (cs rs fs : List A) (j n m : ℕ) → n ≡ length rs → j ≤ n → n ≤ m → length cs ≡ m → take j cs ≡ fs
+      → drop n cs ≡ drop n (padded d m rs)
       → cleared cs j n ≡ padded d m fs
   unfolding padded cleared
   compact cs rs fs j n m e h k l p q =
       let a : length fs ≡ j = ap length (sym p) ∙ length-take-le j cs (omega arith) in
-      let b : drop n (rs ++ replicate (m - length rs) d) ≡ replicate (m - length rs) d = drop-at rs (replicate (m - length rs) d) n (sym e) in
+      let b : drop n (rs ++ replicate (m - length rs) d) ≡ replicate (m - length rs) d =
+      drop-at rs (replicate (m - length rs) d) n (sym e) in
       let z : n - j + (m - length rs) ≡ m - length fs = omega arith in
       ap₂ (λ x y. x ++ (replicate (n - j) d ++ y)) p (q ∙ b)
       ∙ ap (λ x. fs ++ x) (replicate-append-replicate (n - j) (m - length rs) d ∙ ap (λ i. replicate i d) z)

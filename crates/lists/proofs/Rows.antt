@@ -2,11 +2,14 @@
 use mathlib.Core.Path.{_≡_, refl, sym, ap, ap₂, _∙_}
 use mathlib.Core.List.{List, [], _∷_, _++_, append-nil, append-assoc}
 use Prim.Native.Nat.{ℕ, zero, suc, _+_, _*_, _≤_, _<_}
-use native.Mathlib.Nat.{zero-mul, suc-mul, add-comm, add-assoc, add-zero, zero-add, add-suc, not-suc-le-zero, le-of-suc-le-suc}
+use native.Mathlib.Nat.{zero-mul, suc-mul, add-comm, add-assoc, add-zero, zero-add, add-suc, not-suc-le-zero}
+use native.Mathlib.Nat.{le-of-suc-le-suc}
 use native.Mathlib.Omega.{arith}
 use native.Mathlib.Numerals.{add-one, add-two, add-three}
-use lib.ListN.{length, getD, take, drop, set, replicate, take-append-drop, length-drop, length-append, drop-of-length-le, replicate-append-replicate}
-use lib.Seq.{getD-set-same, set-set, take-set-le, drop-set-add, take-set-lt, drop-set-lt, drop-drop, take-take, getD-take, getD-drop, sets, sets-eq, length-take-le, take-at, drop-at}
+use lib.ListN.{length, getD, take, drop, set, replicate, take-append-drop, length-drop, length-append}
+use lib.ListN.{drop-of-length-le, replicate-append-replicate}
+use lib.Seq.{getD-set-same, set-set, take-set-le, drop-set-add, take-set-lt, drop-set-lt, drop-drop, take-take}
+use lib.Seq.{getD-take, getD-drop, sets, sets-eq, length-take-le, take-at, drop-at}
 use Rattle.lists.specs.Lists.{All}
 use Rattle.lists.specs.Rows.{row, rows, flat}
 
@@ -36,14 +39,17 @@ module _ {A : Type 0} where
       ∙ drop-sets-add n (set l (n + i) v) (suc i) vs
       ∙ ap (λ x. sets x (suc i) vs) (drop-set-add n l i v)
 
-  pub take-sets-in : (n : ℕ) (l : List A) (i : ℕ) (vs : List A) → i + length vs ≤ n → take n (sets l i vs) ≡ sets (take n l) i vs
+  pub take-sets-in : (n : ℕ) (l : List A) (i : ℕ) (vs : List A) → i + length vs ≤ n
+      → take n (sets l i vs) ≡ sets (take n l) i vs
   take-sets-in n l i [] h = refl
   take-sets-in n l i (v ∷ vs) h =
-      take-sets-in n (set l i v) (suc i) vs (omega arith) ∙ ap (λ x. sets x (suc i) vs) (take-set-lt n l i v (omega arith))
+      take-sets-in n (set l i v) (suc i) vs (omega arith)
+      ∙ ap (λ x. sets x (suc i) vs) (take-set-lt n l i v (omega arith))
 
   pub drop-sets-past : (n : ℕ) (l : List A) (i : ℕ) (vs : List A) → i + length vs ≤ n → drop n (sets l i vs) ≡ drop n l
   drop-sets-past n l i [] h = refl
-  drop-sets-past n l i (v ∷ vs) h = drop-sets-past n (set l i v) (suc i) vs (omega arith) ∙ drop-set-lt n l i v (omega arith)
+  drop-sets-past n l i (v ∷ vs) h =
+      drop-sets-past n (set l i v) (suc i) vs (omega arith) ∙ drop-set-lt n l i v (omega arith)
 
   pub nil-of : (l : List A) → length l ≡ 0 → l ≡ []
   nil-of l h = let k : length l ≤ 0 = omega arith in drop-of-length-le l k
@@ -56,7 +62,8 @@ module _ {A : Type 0} where
       ∙ append-nil vs
 
   -- four stores as code writes them
-  pub stores4 : (l : List A) (b : ℕ) (x y z u : A) → set (set (set (set l b x) (b + 1) y) (b + 2) z) (b + 3) u ≡ sets l b (x ∷ y ∷ z ∷ u ∷ [])
+  pub stores4 : (l : List A) (b : ℕ) (x y z u : A)
+      → set (set (set (set l b x) (b + 1) y) (b + 2) z) (b + 3) u ≡ sets l b (x ∷ y ∷ z ∷ u ∷ [])
   stores4 l b x y z u = rw (add-one, add-two, add-three)
 
   -- a part of a part
@@ -91,8 +98,10 @@ module _ {A : Type 0} (dec : List ℕ → A) (w : ℕ) where
       let z : drop (0 * w) ws ≡ ws = ap (λ k. drop k ws) (zero-mul w) in
       rw (e, z, take-sets-in w ws o vs ho, drop-sets-past w ws o vs ho)
   rows-sets (suc n) ws (suc i) o vs h ho =
-      let e : suc i * w + o ≡ w + (i * w + o) = ap (λ k. k + o) (suc-mul i w ∙ add-comm (i * w) w) ∙ add-assoc w (i * w) o in
-      let ih : rows dec w n (sets (drop w ws) (i * w + o) vs) ≡ set (rows dec w n (drop w ws)) i (dec (sets (row w ws (suc i)) o vs)) =
+      let e : suc i * w + o ≡ w + (i * w + o) =
+      ap (λ k. k + o) (suc-mul i w ∙ add-comm (i * w) w) ∙ add-assoc w (i * w) o in
+      let ih : rows dec w n (sets (drop w ws) (i * w + o) vs)
+      ≡ set (rows dec w n (drop w ws)) i (dec (sets (row w ws (suc i)) o vs)) =
       rows-sets n (drop w ws) i o vs (le-of-suc-le-suc h) ho
       ∙ ap (λ l. set (rows dec w n (drop w ws)) i (dec (sets (take w l) o vs))) (row-suc w ws i) in
       rw (e, take-sets-le w ws (w + (i * w + o)) vs (omega arith), drop-sets-add w ws (i * w + o) vs, ih)
@@ -110,7 +119,8 @@ module _ {A : Type 0} (dec : List ℕ → A) (w : ℕ) where
 pub flat-append : {A : Type 0} (enc : A → List ℕ) (xs ys : List A) → flat enc (xs ++ ys) ≡ flat enc xs ++ flat enc ys
 unfolding flat
 flat-append enc [] ys = refl
-flat-append enc (x ∷ xs) ys = ap (λ l. enc x ++ l) (flat-append enc xs ys) ∙ sym (append-assoc (enc x) (flat enc xs) (flat enc ys))
+flat-append enc (x ∷ xs) ys =
+    ap (λ l. enc x ++ l) (flat-append enc xs ys) ∙ sym (append-assoc (enc x) (flat enc xs) (flat enc ys))
 
 module _ {A : Type 0} (enc : A → List ℕ) (w : ℕ) where
   pub length-flat : (xs : List A) → All (λ x. length (enc x) ≡ w) xs → length (flat enc xs) ≡ length xs * w
@@ -120,29 +130,35 @@ module _ {A : Type 0} (enc : A → List ℕ) (w : ℕ) where
       rw (length-append, good .0, length-flat xs (good .1)) (add-comm w (length xs * w) ∙ sym (suc-mul (length xs) w))
 
   -- a row of them is one value's words
-  pub row-flat : (d : A) (xs : List A) (i : ℕ) → All (λ x. length (enc x) ≡ w) xs → i < length xs → row w (flat enc xs) i ≡ enc (getD xs i d)
+  pub row-flat : (d : A) (xs : List A) (i : ℕ) → All (λ x. length (enc x) ≡ w) xs → i < length xs
+      → row w (flat enc xs) i ≡ enc (getD xs i d)
   unfolding flat
   row-flat d [] i good h = absurd (not-suc-le-zero h)
-  row-flat d (x ∷ xs) zero good h = ap (λ k. take w (drop k (enc x ++ flat enc xs))) (zero-mul w) ∙ take-at (enc x) (flat enc xs) w (good .0)
+  row-flat d (x ∷ xs) zero good h =
+      ap (λ k. take w (drop k (enc x ++ flat enc xs))) (zero-mul w) ∙ take-at (enc x) (flat enc xs) w (good .0)
   row-flat d (x ∷ xs) (suc i) good h =
-      ap (take w) (sym (row-suc w (enc x ++ flat enc xs) i) ∙ ap (drop (i * w)) (drop-at (enc x) (flat enc xs) w (good .0)))
+      ap (take w) (sym (row-suc w (enc x ++ flat enc xs) i)
+      ∙ ap (drop (i * w)) (drop-at (enc x) (flat enc xs) w (good .0)))
       ∙ row-flat d xs i (good .1) (le-of-suc-le-suc h)
 
 -- ---- the round trips
 
 module _ {A : Type 0} (dec : List ℕ → A) (enc : A → List ℕ) (w : ℕ) where
   -- words to values and back to words, for n whole rows
-  pub flat-rows : ((l : List ℕ) → length l ≡ w → enc (dec l) ≡ l) → (n : ℕ) (ws : List ℕ) → length ws ≡ n * w → flat enc (rows dec w n ws) ≡ ws
+  pub flat-rows : ((l : List ℕ) → length l ≡ w → enc (dec l) ≡ l) → (n : ℕ) (ws : List ℕ) → length ws ≡ n * w
+      → flat enc (rows dec w n ws) ≡ ws
   unfolding rows flat
   flat-rows back zero ws h = sym (nil-of ws (h ∙ zero-mul w))
   flat-rows back (suc n) ws h =
       let e : length ws ≡ n * w + w = h ∙ suc-mul n w in
       let here : enc (dec (take w ws)) ≡ take w ws = back (take w ws) (length-take-le w ws (omega arith)) in
-      let rest : flat enc (rows dec w n (drop w ws)) ≡ drop w ws = flat-rows back n (drop w ws) (rw length-drop (omega arith)) in
+      let rest : flat enc (rows dec w n (drop w ws)) ≡ drop w ws =
+      flat-rows back n (drop w ws) (rw length-drop (omega arith)) in
       ap₂ (λ x y. x ++ y) here rest ∙ take-append-drop w ws
 
   -- values to words and back to values, for values that their own words give back
-  pub rows-flat : (xs : List A) → All (λ x. (length (enc x) ≡ w) × (dec (enc x) ≡ x)) xs → rows dec w (length xs) (flat enc xs) ≡ xs
+  pub rows-flat : (xs : List A) → All (λ x. (length (enc x) ≡ w) × (dec (enc x) ≡ x)) xs
+      → rows dec w (length xs) (flat enc xs) ≡ xs
   unfolding rows flat
   rows-flat [] good = refl
   rows-flat (x ∷ xs) good =
@@ -189,14 +205,16 @@ take-spell (suc n) b l h =
 -- ---- what all rows have, and runs of stores
 
 -- what every decoded value has, every row has
-pub All-rows : {A : Type 0} (dec : List ℕ → A) (w : ℕ) (P : A → Type 0) → ((l : List ℕ) → P (dec l)) → (n : ℕ) (ws : List ℕ)
+pub All-rows : {A : Type 0} (dec : List ℕ → A) (w : ℕ) (P : A → Type 0) → ((l : List ℕ) → P (dec l))
+    → (n : ℕ) (ws : List ℕ)
     → All P (rows dec w n ws)
 unfolding rows
 All-rows dec w P h zero ws = tt
 All-rows dec w P h (suc n) ws = (h (take w ws), All-rows dec w P h n (drop w ws))
 
 -- one value n times
-pub flat-replicate : {A : Type 0} (enc : A → List ℕ) (a : A) (w v : ℕ) → enc a ≡ replicate w v → (n : ℕ) → flat enc (replicate n a) ≡ replicate (n * w) v
+pub flat-replicate : {A : Type 0} (enc : A → List ℕ) (a : A) (w v : ℕ) → enc a ≡ replicate w v → (n : ℕ)
+    → flat enc (replicate n a) ≡ replicate (n * w) v
 unfolding flat
 flat-replicate enc a w v e zero = ap (λ k. replicate k v) (sym (zero-mul w))
 flat-replicate enc a w v e (suc n) =
@@ -219,10 +237,12 @@ module _ {A : Type 0} where
       let e : b + suc n ≡ suc b + n = omega arith in
       ap (λ k. set (sets (set l b a) (suc b) (replicate n a)) k a) e ∙ sets-next (set l b a) (suc b) n a
 
-  pub sets-more : (l : List A) (b n : ℕ) (a : A) → set (sets l b (replicate n a)) (b + n) a ≡ sets l b (replicate (n + 1) a)
+  pub sets-more : (l : List A) (b n : ℕ) (a : A)
+      → set (sets l b (replicate n a)) (b + n) a ≡ sets l b (replicate (n + 1) a)
   sets-more l b n a = rw (add-one n) (sets-next l b n a)
 
-  -- a run of stores as code with named offsets writes them: `set (set l (b + 0) x) (b + 1) y` on a list that is written out
+  -- a run of stores as code with named offsets writes them:
+  -- `set (set l (b + 0) x) (b + 1) y` on a list that is written out
   abbrev pub setsFrom : List A → ℕ → ℕ → List A → List A
   setsFrom l b k [] = l
   setsFrom l b k (v ∷ vs) = setsFrom (set l (b + k) v) b (suc k) vs
@@ -236,7 +256,8 @@ module _ {A : Type 0} where
   sets-at l b vs = sets-from l b 0 vs ∙ ap (λ k. sets l k vs) (add-zero b)
 
   -- an entry changed where one was just put
-  pub set-again : (d : A) (g : A → A) (xs ys zs : List A) (i : ℕ) (x : A) → i < length xs → ys ≡ set xs i x → zs ≡ set ys i (g (getD ys i d))
+  pub set-again : (d : A) (g : A → A) (xs ys zs : List A) (i : ℕ) (x : A) → i < length xs → ys ≡ set xs i x
+      → zs ≡ set ys i (g (getD ys i d))
       → zs ≡ set xs i (g x)
   set-again d g xs ys zs i x h e k = k ∙ rw (e, getD-set-same xs i x d h) (set-set xs i x (g x))
 

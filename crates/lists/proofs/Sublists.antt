@@ -28,7 +28,8 @@ module _ {A : Type 0} where
     pub dropFirst-within : (xs : List A) → Within (dropFirst p xs) xs
     unfolding dropFirst
     dropFirst-within [] = ended
-    dropFirst-within (x ∷ xs) = split (p x) (λ e. rw e (left x (within-refl xs))) (λ e. rw e (kept x (dropFirst-within xs)))
+    dropFirst-within (x ∷ xs) =
+        split (p x) (λ e. rw e (left x (within-refl xs))) (λ e. rw e (kept x (dropFirst-within xs)))
 
   pub All-within : (P : A → Type 0) {xs ys : List A} → Within xs ys → All P ys → All P xs
   All-within P ended c = tt
@@ -42,11 +43,14 @@ module _ {A : Type 0} where
   unfolding pairs
   pairs-within r ended e = e
   pairs-within r (kept x {xs} {ys} w) e =
-      and-both (all-within (r x) w (and-fst (all (r x) ys) (pairs r ys) e)) (pairs-within r w (and-snd (all (r x) ys) (pairs r ys) e))
+      and-both (all-within (r x) w (and-fst (all (r x) ys) (pairs r ys) e))
+      (pairs-within r w (and-snd (all (r x) ys) (pairs r ys) e))
   pairs-within r (left x {xs} {ys} w) e = pairs-within r w (and-snd (all (r x) ys) (pairs r ys) e)
 
-  pub pairsWhere-within : (p : A → Bool) (r : A → A → Bool) {xs ys : List A} → Within xs ys → pairsWhere p r ys ≡ true → pairsWhere p r xs ≡ true
-  pairsWhere-within p r w e = rw pairsWhere-pairs (pairs-within (λ x y. not (p x) || r x y) w (rw pairsWhere-pairs at e))
+  pub pairsWhere-within : (p : A → Bool) (r : A → A → Bool) {xs ys : List A} → Within xs ys → pairsWhere p r ys ≡ true
+      → pairsWhere p r xs ≡ true
+  pairsWhere-within p r w e =
+      rw pairsWhere-pairs (pairs-within (λ x y. not (p x) || r x y) w (rw pairsWhere-pairs at e))
 
   pub count-within : (p : A → Bool) {xs ys : List A} → Within xs ys → count p xs ≤ count p ys
   unfolding count

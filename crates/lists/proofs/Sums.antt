@@ -57,7 +57,8 @@ module _ {A : Type 0} where
     pub sum-keep : (p : A → Bool) (l : List A) → sum f (keep p l) ≡ sum (λ x. cond (p x) (f x) 0) l
     unfolding sum keep
     sum-keep p [] = refl
-    sum-keep p (x ∷ xs) = split (p x) (λ e. rw e (ap (λ n. f x + n) (sum-keep p xs))) (λ e. rw e (omega (arith, sum-keep p xs)))
+    sum-keep p (x ∷ xs) =
+        split (p x) (λ e. rw e (ap (λ n. f x + n) (sum-keep p xs))) (λ e. rw e (omega (arith, sum-keep p xs)))
 
     -- each at most k
     pub sum-bound : (k : ℕ) (l : List A) → All (λ x. f x ≤ k) l → sum f l ≤ length l * k
@@ -75,7 +76,8 @@ module _ {A : Type 0} where
     sum-set (x ∷ xs) zero a d h = omega arith
     sum-set (x ∷ xs) (suc i) a d h = omega (arith, sum-set xs i a d (le-of-suc-le-suc h))
 
-    pub sum-replaceFirst : (t : A → Bool) (a b : A) (l : List A) → first t l ≡ some b → sum f (replaceFirst t a l) + f b ≡ sum f l + f a
+    pub sum-replaceFirst : (t : A → Bool) (a b : A) (l : List A) → first t l ≡ some b
+        → sum f (replaceFirst t a l) + f b ≡ sum f l + f a
     unfolding sum first replaceFirst
     sum-replaceFirst t a b [] e = clash refl (sym (ap isSome e))
     sum-replaceFirst t a b (x ∷ xs) e =
@@ -100,39 +102,53 @@ module _ {A : Type 0} where
 -- ---- double sums
 
 module _ {A B : Type 0} where
-  pub sum-swap : (f : A → B → ℕ) (xs : List A) (ys : List B) → sum (λ a. sum (λ b. f a b) ys) xs ≡ sum (λ b. sum (λ a. f a b) xs) ys
+  pub sum-swap : (f : A → B → ℕ) (xs : List A) (ys : List B)
+      → sum (λ a. sum (λ b. f a b) ys) xs ≡ sum (λ b. sum (λ a. f a b) xs) ys
   unfolding sum
   sum-swap f [] ys = sym (sum-zero ys)
-  sum-swap f (a ∷ xs) ys = ap (λ n. sum (f a) ys + n) (sum-swap f xs ys) ∙ sym (sum-add (f a) (λ b. sum (λ a. f a b) xs) ys)
+  sum-swap f (a ∷ xs) ys =
+      ap (λ n. sum (f a) ys + n) (sum-swap f xs ys) ∙ sym (sum-add (f a) (λ b. sum (λ a. f a b) xs) ys)
 
-  pub count-swap : (r : A → B → Bool) (xs : List A) (ys : List B) → sum (λ a. count (r a) ys) xs ≡ sum (λ b. count (λ a. r a b) xs) ys
+  pub count-swap : (r : A → B → Bool) (xs : List A) (ys : List B)
+      → sum (λ a. count (r a) ys) xs ≡ sum (λ b. count (λ a. r a b) xs) ys
   count-swap r xs ys =
       sum-ext (λ a. count (r a) ys) (λ a. sum (λ b. cond (r a b) 1 0) ys) xs (λ a. count-sum (r a) ys)
       ∙ sum-swap (λ a b. cond (r a b) 1 0) xs ys
-      ∙ sum-ext (λ b. sum (λ a. cond (r a b) 1 0) xs) (λ b. count (λ a. r a b) xs) ys (λ b. sym (count-sum (λ a. r a b) xs))
+      ∙ sum-ext (λ b. sum (λ a. cond (r a b) 1 0) xs) (λ b. count (λ a. r a b) xs) ys
+      (λ b. sym (count-sum (λ a. r a b) xs))
 
   -- a member that passes belongs to one part, any other to none: the parts' counts sum to the count of those that pass
-  pub count-parts : (r : A → B → Bool) (q : B → Bool) (xs : List A) (ys : List B) → All (λ b. count (λ a. r a b) xs ≡ cond (q b) 1 0) ys
+  pub count-parts : (r : A → B → Bool) (q : B → Bool) (xs : List A) (ys : List B)
+      → All (λ b. count (λ a. r a b) xs ≡ cond (q b) 1 0) ys
       → sum (λ a. count (r a) ys) xs ≡ count q ys
   count-parts r q xs ys h =
       count-swap r xs ys ∙ sum-same (λ b. count (λ a. r a b) xs) (λ b. cond (q b) 1 0) ys h ∙ sym (count-sum q ys)
 
   -- each member belongs to some part, and no part has more than k
-  pub pigeonhole : (r : A → B → Bool) (k : ℕ) (xs : List A) (ys : List B) → All (λ b. 1 ≤ count (λ a. r a b) xs) ys → All (λ a. count (r a) ys ≤ k) xs
+  pub pigeonhole : (r : A → B → Bool) (k : ℕ) (xs : List A) (ys : List B) → All (λ b. 1 ≤ count (λ a. r a b) xs) ys
+      → All (λ a. count (r a) ys ≤ k) xs
       → length ys ≤ length xs * k
   pigeonhole r k xs ys h room =
-      omega
-      (arith, sum-const 1 ys, sum-le (λ _. 1) (λ b. count (λ a. r a b) xs) ys h, count-swap r xs ys, sum-bound (λ a. count (r a) ys) k xs room)
+      omega (
+        arith,
+        sum-const 1 ys,
+        sum-le (λ _. 1) (λ b. count (λ a. r a b) xs) ys h,
+        count-swap r xs ys,
+        sum-bound (λ a. count (r a) ys) k xs room,
+      )
 
 -- each member belongs to one part, its own: a test of part and member is counted at each member's own part
-pub sum-parts : {A B : Type 0} (r : A → B → Bool) (own : B → A) → ((a : A) (b : B) → r a b ≡ true → a ≡ own b) → (p : A → B → Bool) (xs : List A) (ys : List B)
-    → All (λ b. count (λ a. r a b) xs ≡ 1) ys → sum (λ a. count (λ b. p a b && r a b) ys) xs ≡ count (λ b. p (own b) b) ys
+pub sum-parts : {A B : Type 0} (r : A → B → Bool) (own : B → A) → ((a : A) (b : B) → r a b ≡ true → a ≡ own b)
+    → (p : A → B → Bool) (xs : List A) (ys : List B)
+    → All (λ b. count (λ a. r a b) xs ≡ 1) ys
+    → sum (λ a. count (λ b. p a b && r a b) ys) xs ≡ count (λ b. p (own b) b) ys
 sum-parts {A} r own o p xs ys h =
     count-parts (λ a b. p a b && r a b) (λ b. p (own b) b) xs ys
     (All-imp (λ b. count (λ a. r a b) xs ≡ 1) (λ b. count (λ a. p a b && r a b) xs ≡ cond (p (own b) b) 1 0)
     (λ b e.
     count-same (λ a. p a b && r a b) (λ a. p (own b) b && r a b) xs
-    (λ a. split (r a b) (λ e. ap (λ (x : A). p x b && r a b) (o a b e)) (λ e. and-right (p a b) e ∙ sym (and-right (p (own b) b) e)))
+    (λ a. split (r a b) (λ e. ap (λ (x : A). p x b && r a b) (o a b e))
+    (λ e. and-right (p a b) e ∙ sym (and-right (p (own b) b) e)))
     ∙ count-and (p (own b) b) (λ a. r a b) xs
     ∙ ap (λ (n : ℕ). cond (p (own b) b) n 0) e)
     ys h)

@@ -38,12 +38,17 @@ module _ (t : ℕ) (l : Lent) where
   unfolding lookSlot lookPart slotNumber refusalOn
   refused-slot n =
       split (lengthsAre l)
-      (λ a. rw (a, ne-eqb (refusalOf (decoded l) (look t)) 0 (λ z. n (ap (λ (b : Bool). cond b (refusalOf (decoded l) (look t)) EFAULT) a ∙ z))))
-      (λ a. rw a)
+      (λ a. rw (
+        a,
+        ne-eqb (refusalOf (decoded l) (look t)) 0
+            (λ z. n (ap (λ (b : Bool). cond b (refusalOf (decoded l) (look t)) EFAULT) a ∙ z)),
+      )) (λ a. rw a)
 
-  accepted-slot : refusalOn (look t) l ≡ 0 → lookSlot t l ≡ slotNumber (partOf (decoded l) (next (viewOf l) (theThread (viewOf l) t)))
+  accepted-slot : refusalOn (look t) l ≡ 0
+      → lookSlot t l ≡ slotNumber (partOf (decoded l) (next (viewOf l) (theThread (viewOf l) t)))
   unfolding lookSlot lookPart
-  accepted-slot e = rw (accepted-long (look t) l e, eq-eqb (refusalOf (decoded l) (look t)) 0 (accepted-rules (look t) l e))
+  accepted-slot e =
+      rw (accepted-long (look t) l e, eq-eqb (refusalOf (decoded l) (look t)) 0 (accepted-rules (look t) l e))
 
 -- a place that code found in a buffer
 pub found-small : (b : List ℕ) (p : Siginfo → Bool) (k : ℕ) → k ≡ find p (recordsOf b) → k ≤ bufferRecords
@@ -87,10 +92,12 @@ module _ (l : Lent) (t n : ℕ) (e : n ≡ rowsOn (esrch (noThreadLive (viewOf l
 
       -- the place in the buffer that has the queue
       module _ (x : Siginfo) (h : r ≡ case.Record x) (k : ℕ) where
-        pub slot-shared : x .thread ≡ 0 → k ≡ find (inQueue (queueOf x) (x .signal)) (recordsOf (l .processBuffer)) → bufferRecords + k + 1 ≡ lookSlot t l
+        pub slot-shared : x .thread ≡ 0 → k ≡ find (inQueue (queueOf x) (x .signal)) (recordsOf (l .processBuffer))
+            → bufferRecords + k + 1 ≡ lookSlot t l
         unfolding nextOf partOf slotOf slotNumber recordsFor recordsOf decoded
         slot-shared y g = rw (g, add-one) (rw (h, eq-eqb (x .thread) 0 y) at slot-of-next)
 
-        pub slot-own : (x .thread ≡ 0 → ⊥) → k ≡ find (inQueue (queueOf x) (x .signal)) (recordsOf (l .threadBuffer)) → k + 1 ≡ lookSlot t l
+        pub slot-own : (x .thread ≡ 0 → ⊥) → k ≡ find (inQueue (queueOf x) (x .signal)) (recordsOf (l .threadBuffer))
+            → k + 1 ≡ lookSlot t l
         unfolding nextOf partOf slotOf slotNumber recordsFor recordsOf decoded
         slot-own y g = rw (g, add-one) (rw (h, ne-eqb (x .thread) 0 y) at slot-of-next)

@@ -47,7 +47,8 @@ module _ (l : Lent) where
   told-nothing : Told l 0 []
   told-nothing = record { nothing = λ z. refl; own = λ z h. absurd (z refl); shared = λ h. absurd (omega arith) }
 
-  told-own : (k : ℕ) → length (l .threadBuffer) ≡ bufferBytes → k < bufferRecords → Told l (suc k) (row recordBytes (l .threadBuffer) k)
+  told-own : (k : ℕ) → length (l .threadBuffer) ≡ bufferBytes → k < bufferRecords
+      → Told l (suc k) (row recordBytes (l .threadBuffer) k)
   told-own k e i =
       record {
         nothing = λ z. absurd (omega arith);
@@ -55,7 +56,8 @@ module _ (l : Lent) where
         shared = λ h. absurd (omega arith);
       }
 
-  told-shared : (k : ℕ) → length (l .processBuffer) ≡ bufferBytes → k < bufferRecords → Told l (suc (bufferRecords + k)) (row recordBytes (l .processBuffer) k)
+  told-shared : (k : ℕ) → length (l .processBuffer) ≡ bufferBytes → k < bufferRecords
+      → Told l (suc (bufferRecords + k)) (row recordBytes (l .processBuffer) k)
   told-shared k e i =
       record {
         nothing = λ z. absurd (omega arith);
@@ -65,14 +67,16 @@ module _ (l : Lent) where
 
 -- ---- the part that a look gives
 
-record-inside : (b : List ℕ) (p : Siginfo → Bool) (r : Siginfo) → first p (recordsOf b) ≡ some r → find p (recordsOf b) < bufferRecords
+record-inside : (b : List ℕ) (p : Siginfo → Bool) (r : Siginfo) → first p (recordsOf b) ≡ some r
+    → find p (recordsOf b) < bufferRecords
 record-inside b p r e = in-buffer b (find p (recordsOf b)) (find-any p (recordsOf b) (some-first p (recordsOf b) r e))
 
 module _ (l : Lent) (a : lengthsAre l ≡ true) where
   abbrev ToldOf : Part → Type 0
   ToldOf p = Told l (slotNumber p) (partBytes l p)
 
-  told-slot : (q : Queue) (s : ℕ) (r : Siginfo) → first (inQueue q s) (recordsFor q (decoded l)) ≡ some r → ToldOf (slotOf (decoded l) q s)
+  told-slot : (q : Queue) (s : ℕ) (r : Siginfo) → first (inQueue q s) (recordsFor q (decoded l)) ≡ some r
+      → ToldOf (slotOf (decoded l) q s)
   unfolding slotOf recordsFor recordsOf decoded slotNumber partBytes
   told-slot q s r e =
       split (eqb (q .thread) 0)
@@ -83,7 +87,10 @@ module _ (l : Lent) (a : lengthsAre l ≡ true) where
       rw z
       (told-own l _ (right-thread-buffer l a) (record-inside (l .threadBuffer) (inQueue q s) r (rw z at e))))
 
-  told-next : (x : Next) → ((q : Queue) (s : ℕ) (r : Siginfo) → x ≡ nextRecord q s r → first (inQueue q s) (recordsFor q (decoded l)) ≡ some r) → ToldOf (partOf (decoded l) x)
+  told-next : (x : Next)
+      → ((q : Queue) (s : ℕ) (r : Siginfo) → x ≡ nextRecord q s r
+      → first (inQueue q s) (recordsFor q (decoded l)) ≡ some r)
+      → ToldOf (partOf (decoded l) x)
   unfolding partOf slotNumber partBytes
   told-next noNext h = told-nothing l
   told-next (nextMark q s) h = told-nothing l
@@ -95,10 +102,12 @@ module _ (l : Lent) (a : lengthsAre l ≡ true) where
       split (eqb (refusalOf (decoded l) (look t)) 0)
       (λ z.
       rw z
-      (told-next (next (viewOf l) (theThread (viewOf l) t)) (λ q s r e. next-record (viewOf l) (theThread (viewOf l) t) q s r e .1)))
+      (told-next (next (viewOf l) (theThread (viewOf l) t))
+      (λ q s r e. next-record (viewOf l) (theThread (viewOf l) t) q s r e .1)))
       (λ z. rw z (told-nothing l))
 
 pub told : (t : ℕ) (l : Lent) (n : ℕ) → n ≡ lookSlot t l → Told l n (lookBytes t l)
 unfolding lookSlot lookBytes
 told t l n e =
-    subst (λ (m : ℕ). Told l m (lookBytes t l)) (sym e) (split (lengthsAre l) (λ a. rw a (told-part l a t)) (λ a. rw a (told-nothing l)))
+    subst (λ (m : ℕ). Told l m (lookBytes t l)) (sym e)
+    (split (lengthsAre l) (λ a. rw a (told-part l a t)) (λ a. rw a (told-nothing l)))

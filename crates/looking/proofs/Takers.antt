@@ -79,7 +79,8 @@ module _ (v : View) (p : ℕ) (t : Thread) where
 -- ---- the thread in a place of a sound store
 
 -- a thread of a process is live, is found by its id, and the id fits
-module _ (l : Lent) (e : soundTables l ≡ true) (place p : ℕ) (h : place < threadPlaces) (b : belongsTo p (threadIn (l .threads) place) ≡ true) where
+module _ (l : Lent) (e : soundTables l ≡ true) (place p : ℕ) (h : place < threadPlaces)
+    (b : belongsTo p (threadIn (l .threads) place) ≡ true) where
   inside : place < length (threadsOf (l .threads))
   inside = rw length-threadsOf h
 
@@ -87,8 +88,11 @@ module _ (l : Lent) (e : soundTables l ≡ true) (place p : ℕ) (h : place < th
   unfolding belongsTo
   not-nobody =
       let o : threadAt (l .threads) place .holds .process ≡ p =
-      ap (λ (t : Thread). t .process) (in-place (l .threads) place 0) ∙ eqb-true (threadIn (l .threads) place .process) p (and-snd (not (eqb p 0)) (eqb (threadIn (l .threads) place .process) p) b) in
-      ap (λ (n : ℕ). eqb n 0) o ∙ not-true (eqb p 0) (and-fst (not (eqb p 0)) (eqb (threadIn (l .threads) place .process) p) b)
+      ap (λ (t : Thread). t .process) (in-place (l .threads) place 0)
+      ∙ eqb-true (threadIn (l .threads) place .process) p
+      (and-snd (not (eqb p 0)) (eqb (threadIn (l .threads) place .process) p) b) in
+      ap (λ (n : ℕ). eqb n 0) o
+      ∙ not-true (eqb p 0) (and-fst (not (eqb p 0)) (eqb (threadIn (l .threads) place .process) p) b)
 
   named : eqb (threadAt (l .threads) place .holds .id) 0 ≡ false
   unfolding decoded
@@ -96,21 +100,26 @@ module _ (l : Lent) (e : soundTables l ≡ true) (place p : ℕ) (h : place < th
       split (eqb (threadAt (l .threads) place .holds .id) 0)
       (λ z.
       clash
-      (free-of-nobody (threadAt (l .threads) place) (all-at (ifFree sounds.threadId zeroThread) freeThread (threadsOf (l .threads)) place inside (parts (decoded l) (store-sound l e) .threadFree)) z)
+      (free-of-nobody (threadAt (l .threads) place)
+      (all-at (ifFree sounds.threadId zeroThread) freeThread (threadsOf (l .threads)) place inside
+      (parts (decoded l) (store-sound l e) .threadFree)) z)
       not-nobody)
       (λ z. z)
 
   place-live : liveThread (viewOf l) (threadIn (l .threads) place .id) ≡ true
   unfolding liveThread view decoded isThread
   place-live =
-      any-here (isThread (threadIn (l .threads) place .id)) noThread (heldThreads (l .threads)) place (rw length-heldThreads h)
-      (and-both (ap not (ap (λ (t : Thread). eqb (t .id) 0) (sym (in-place (l .threads) place 0)) ∙ named)) (eq-eqb (threadIn (l .threads) place .id) (threadIn (l .threads) place .id) refl))
+      any-here (isThread (threadIn (l .threads) place .id)) noThread (heldThreads (l .threads)) place
+      (rw length-heldThreads h)
+      (and-both (ap not (ap (λ (t : Thread). eqb (t .id) 0) (sym (in-place (l .threads) place 0)) ∙ named))
+      (eq-eqb (threadIn (l .threads) place .id) (threadIn (l .threads) place .id) refl))
 
   place-thread : theThread (viewOf l) (threadIn (l .threads) place .id) ≡ threadIn (l .threads) place
   unfolding decoded
   place-thread =
       ap (λ (t : Thread). theThread (viewOf l) (t .id)) (sym (in-place (l .threads) place 0))
-      ∙ All-at (λ (x : Place Thread). isLive sounds.threadId x ≡ true → theThread (viewOf l) (x .holds .id) ≡ x .holds) (threadsOf (l .threads)) place freeThread inside
+      ∙ All-at (λ (x : Place Thread). isLive sounds.threadId x ≡ true → theThread (viewOf l) (x .holds .id) ≡ x .holds)
+      (threadsOf (l .threads)) place freeThread inside
       (own-thread (decoded l) (store-sound l e)) (ap not named)
       ∙ in-place (l .threads) place 0
 
@@ -121,7 +130,8 @@ module _ (l : Lent) (e : soundTables l ≡ true) (place p : ℕ) (h : place < th
 
     pub id-small : w ≤ largestId
     id-small =
-        id-fits w (threadIn (l .threads) place .id) i (thread-id (decoded l) (store-sound l e) (threadIn (l .threads) place .id) place-live)
+        id-fits w (threadIn (l .threads) place .id) i
+        (thread-id (decoded l) (store-sound l e) (threadIn (l .threads) place .id) place-live)
 
     pub id-takes : (s : ℕ) → s ≡ nextSignal (viewOf l) (theThread (viewOf l) w)
         → not (eqb s 0) ≡ canTakeSome (viewOf l) p (threadIn (l .threads) place)
@@ -149,17 +159,21 @@ module _ (l : Lent) (p n : ℕ) (e : n ≡ rowsOn (esrch (noProcessLive (viewOf 
       who-none y =
           answer-after (who p) l (sym who-refusal ∙ z) NoneCan
           (sym (ap (whoAnswer (viewOf l)) (first-none (canTakeSome (viewOf l) p) (heldThreads (l .threads))
-          (absent-any (canTakeSome (viewOf l) p) noThread (heldThreads (l .threads)) threadPlaces place (length-heldThreads (l .threads)) f y))))
+          (absent-any (canTakeSome (viewOf l) p) noThread (heldThreads (l .threads)) threadPlaces place
+          (length-heldThreads (l .threads)) f y))))
 
       module _ (y : (place ≡ threadPlaces → ⊥)) where
         pub who-inside : place < threadPlaces
-        who-inside = found-inside (canTakeSome (viewOf l) p) noThread (heldThreads (l .threads)) threadPlaces place (length-heldThreads (l .threads)) f y
+        who-inside =
+            found-inside (canTakeSome (viewOf l) p) noThread (heldThreads (l .threads)) threadPlaces place
+            (length-heldThreads (l .threads)) f y
 
         who-owns : belongsTo p (threadIn (l .threads) place) ≡ true
         who-owns =
             takes-own (viewOf l) p (threadIn (l .threads) place)
             (ap (λ (k : ℕ). canTakeSome (viewOf l) p (threadIn (l .threads) k)) f
-            ∙ find-at (canTakeSome (viewOf l) p) noThread (heldThreads (l .threads)) (rw length-heldThreads (subst (λ (k : ℕ). k < threadPlaces) f who-inside)))
+            ∙ find-at (canTakeSome (viewOf l) p) noThread (heldThreads (l .threads))
+            (rw length-heldThreads (subst (λ (k : ℕ). k < threadPlaces) f who-inside)))
 
         module _ (w : ℕ) (i : w ≡ threadIn (l .threads) place .id) where
           pub who-fits : w ≤ largestId
@@ -170,5 +184,7 @@ module _ (l : Lent) (p n : ℕ) (e : n ≡ rowsOn (esrch (noProcessLive (viewOf 
           who-takes =
               answer-after (who p) l (sym who-refusal ∙ z) (CanTake w)
               (ap CanTake (i ∙ ap (λ (k : ℕ). threadIn (l .threads) k .id) f)
-              ∙ sym (ap (whoAnswer (viewOf l)) (first-find (canTakeSome (viewOf l) p) noThread (heldThreads (l .threads))
-              (found-any (canTakeSome (viewOf l) p) noThread (heldThreads (l .threads)) threadPlaces place (length-heldThreads (l .threads)) f y))))
+              ∙ sym (ap (whoAnswer (viewOf l)) (first-find (canTakeSome (viewOf l) p) noThread
+              (heldThreads (l .threads))
+              (found-any (canTakeSome (viewOf l) p) noThread (heldThreads (l .threads)) threadPlaces place
+              (length-heldThreads (l .threads)) f y))))

@@ -7,7 +7,8 @@ use Rattle.lists.specs.Rows.{row}
 use Rattle.rules.specs.Calls.{Part, emptyPart, threadSlot, processSlot, lookPart}
 use Rattle.sound.specs.Lent.{Lent, decoded, lengthsAre}
 
--- a part by number: 0 for the empty one, then the slots of the thread buffer from 1 on, then those of the process buffer
+-- a part by number: 0 for the empty one, then the slots of the thread buffer from 1 on,
+-- then those of the process buffer
 unfoldable pub slotNumber : Part → ℕ
 slotNumber emptyPart = 0
 slotNumber (threadSlot k) = suc k

@@ -34,7 +34,8 @@ fn slot_of(b: &[u8], k: usize) -> &[u8]
     &b[from..to]
 }
 
-// The slot of the record that a thread takes next, by number: those of the thread buffer from 1 on, then those of the process buffer; 0 for a mark, for nothing, and where the look is refused.
+// The slot of the record that a thread takes next, by number: those of the thread buffer from 1 on,
+// then those of the process buffer; 0 for a mark, for nothing, and where the look is refused.
 pub fn look_slot(ps: &[u64], ts: &[u64], tb: &[u8], pb: &[u8], thread: u32) -> usize
     ensures { λ r. ⌜ r ≡ lookSlot thread (before ps ts tb pb) ⌝ }
 {
@@ -53,7 +54,8 @@ pub fn look_slot(ps: &[u64], ts: &[u64], tb: &[u8], pb: &[u8], thread: u32) -> u
     }
 }
 
-// The 32 bytes of the record that a thread takes next, in the buffer that holds it; an empty part for a mark, for nothing, and where the look is refused.
+// The 32 bytes of the record that a thread takes next, in the buffer that holds it;
+// an empty part for a mark, for nothing, and where the look is refused.
 pub fn look_part<'a>(ps: &[u64], ts: &[u64], tb: &'a [u8], pb: &'a [u8], thread: u32) -> &'a [u8]
     ensures { λ r. ⌜ now r ≡ lookBytes thread (before ps ts tb pb) ⌝ }
 {
@@ -84,7 +86,8 @@ pub fn look(ps: &[u64], ts: &[u64], tb: &[u8], pb: &[u8], thread: u32) -> Answer
 fn can_take(ps: &[u64], ts: &[u64], tb: &[u8], pb: &[u8], process: u32, place: usize) -> bool
     requires { ⌜ soundTables (given ps ts tb pb) ≡ true ⌝ }
     requires { ⌜ place < threadPlaces ⌝ }
-    ensures { λ r. ⌜ r ≡ canTakeSome (viewOf (before ps ts tb pb)) process (getD (heldThreads (now (ts .entry))) place noThread) ⌝ }
+    ensures { λ r. ⌜ r ≡ canTakeSome (viewOf (before ps ts tb pb)) process
+        (getD (heldThreads (now (ts .entry))) place noThread) ⌝ }
 {
     if process == 0 {
         return false;

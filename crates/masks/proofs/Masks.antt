@@ -1,5 +1,5 @@
--- How sigmask ends: the new mask by its way, the refusal by rows, what acceptance gives the work, and the tables and answer after it; and that a return
--- is such a call. Assumes nothing.
+-- How sigmask ends: the new mask by its way, the refusal by rows, what acceptance gives the work,
+-- and the tables and answer after it; and that a return is such a call. Assumes nothing.
 use Prim.Native.Nat.{ℕ, zero, suc}
 use mathlib.Core.Path.{_≡_, refl, sym, ap, _∙_}
 use mathlib.Core.Bool.{true, false, cond}
@@ -60,7 +60,9 @@ module _ (l : Lent) (t way : ℕ) (set : Option SigSet) where
     module _ (b : badWay way set ≡ false) where
       pub mask-gone : noThreadLive (viewOf l) t ≡ true → ESRCH ≡ refusalOn (sigmask t way set) l
       unfolding rows isClear
-      mask-gone g = refuses-at (sigmask t way set) l refl e (einval (badWay way set) ∷ []) (esrch (noThreadLive (viewOf l) t)) [] refl (b, tt) g
+      mask-gone g =
+          refuses-at (sigmask t way set) l refl e (einval (badWay way set) ∷ [])
+          (esrch (noThreadLive (viewOf l) t)) [] refl (b, tt) g
 
       pub mask-none : noThreadLive (viewOf l) t ≡ false → 0 ≡ refusalOn (sigmask t way set) l
       unfolding rows isClear
@@ -90,7 +92,8 @@ module _ (l : Lent) (t way : ℕ) (set : Option SigSet) where
       pub mask-kept : set ≡ none → Bytes (l .threadBuffer) → Bytes (l .processBuffer)
           → (l, Accepted (OldMask old)) ≡ stepOn (sigmask t way set) l
       unfolding changes maskChanges
-      mask-kept n bt bp = same-ends (sigmask t way set) l e (OldMask old) answered bt bp (ap (maskChanges (viewOf l) t way) n)
+      mask-kept n bt bp =
+          same-ends (sigmask t way set) l e (OldMask old) answered bt bp (ap (maskChanges (viewOf l) t way) n)
 
       -- with a set, the new mask as code makes it
       module _ (given m : SigSet) (n : set ≡ some given) (h : m ≡ newMask old way given) where
@@ -113,12 +116,14 @@ module _ (l : Lent) (t way : ℕ) (set : Option SigSet) where
 
 -- ---- "Return from a handler is way 2 with the saved mask."
 
-finish-is : (n : ℕ) (st : Store) (t : ℕ) (m : SigSet) → finish n (sigmask t sigSetmask (some m)) st ≡ finish n (sigreturn t m) st
+finish-is : (n : ℕ) (st : Store) (t : ℕ) (m : SigSet)
+    → finish n (sigmask t sigSetmask (some m)) st ≡ finish n (sigreturn t m) st
 unfolding finish stages runStages changes reply
 finish-is zero st t m = refl
 finish-is (suc n) st t m = refl
 
-refusal-is : (st : Store) (t : ℕ) (m : SigSet) → refusalOf st (sigmask t sigSetmask (some m)) ≡ refusalOf st (sigreturn t m)
+refusal-is : (st : Store) (t : ℕ) (m : SigSet)
+    → refusalOf st (sigmask t sigSetmask (some m)) ≡ refusalOf st (sigreturn t m)
 unfolding refusalOf table fault isClear refusal rows badWay
 refusal-is st t m = refl
 
@@ -126,4 +131,5 @@ pub return-is : (l : Lent) (t : ℕ) (m : SigSet) → stepOn (sigmask t sigSetma
 unfolding stepOn step
 return-is l t m =
     ap (λ r. cond (lengthsAre l) (committed l r) (l, Refused EFAULT))
-    (ap (λ (n : ℕ). finish n (sigmask t sigSetmask (some m)) (decoded l)) (refusal-is (decoded l) t m) ∙ finish-is (refusalOf (decoded l) (sigreturn t m)) (decoded l) t m)
+    (ap (λ (n : ℕ). finish n (sigmask t sigSetmask (some m)) (decoded l)) (refusal-is (decoded l) t m)
+    ∙ finish-is (refusalOf (decoded l) (sigreturn t m)) (decoded l) t m)

@@ -1,4 +1,5 @@
--- How sigpending ends: refused, or with the signals that the thread blocks and that are pending for it. Assumes nothing.
+-- How sigpending ends: refused, or with the signals that the thread blocks and that are pending for it.
+-- Assumes nothing.
 use Prim.Native.Nat.{ℕ}
 use mathlib.Core.Path.{_≡_, refl, sym, ap, ap₂, _∙_}
 use mathlib.Core.Bool.{Bool, true, _&&_}
@@ -42,6 +43,7 @@ module _ (l : Lent) (t n : ℕ) (h : n ≡ rowsOn (esrch (noThreadLive (viewOf l
   unfolding rows isClear
   pending-refusal = h ∙ sym (rows-given (sigpending t) l refl)
 
-  pub pending-answered : n ≡ 0 → (m : SigSet) → m ≡ blockedPending (viewOf l) (theThread (viewOf l) t) → Accepted (PendingSet m) ≡ stepOn (sigpending t) l .1
+  pub pending-answered : n ≡ 0 → (m : SigSet) → m ≡ blockedPending (viewOf l) (theThread (viewOf l) t)
+      → Accepted (PendingSet m) ≡ stepOn (sigpending t) l .1
   unfolding reply
   pending-answered z m b = answer-after (sigpending t) l (sym pending-refusal ∙ z) (PendingSet m) (ap PendingSet b)

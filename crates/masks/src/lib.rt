@@ -117,7 +117,8 @@ pub fn sigreturn(
 fn blocked(ps: &[u64], ts: &[u64], tb: &[u8], pb: &[u8], thread: u32) -> SigSet
     requires { ⌜ soundTables (given ps ts tb pb) ≡ true ⌝ }
     requires { ⌜ liveThread (viewOf (given ps ts tb pb)) thread ≡ true ⌝ }
-    ensures { λ r. ⌜ r ≡ blockedPending (viewOf (before ps ts tb pb)) (theThread (viewOf (before ps ts tb pb)) thread) ⌝ }
+    ensures { λ r. ⌜ r ≡ blockedPending (viewOf (before ps ts tb pb))
+        (theThread (viewOf (before ps ts tb pb)) thread) ⌝ }
 {
     let process = view::process_of(ts, thread);
     let own = view::pending_of(ps, ts, tb, pb, process, thread);

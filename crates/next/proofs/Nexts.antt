@@ -22,7 +22,8 @@ use Rattle.types.specs.declared.Siginfo.{Siginfo}
 use Rattle.types.specs.Values.{noSiginfo}
 use Rattle.siginfo.specs.Bytes.{siginfoOf}
 use Rattle.rules.specs.Types.{Thread, Queue, Next, noNext, nextRecord}
-use Rattle.rules.specs.View.{View, processQueue, threadQueue, targetQueue, queueOf, sameQueue, inQueue, liveThread, theThread, pendingIn}
+use Rattle.rules.specs.View.{View, processQueue, threadQueue, targetQueue, queueOf, sameQueue, inQueue, liveThread}
+use Rattle.rules.specs.View.{theThread, pendingIn}
 use Rattle.rules.specs.Store.{used, recordsFor, view}
 use Rattle.rules.specs.Taking.{canTakeSignal, nextSignal, nextQueue, nextIn, next}
 use Rattle.rules.proofs.Marks.{queue-same, thread-named}
@@ -39,36 +40,46 @@ use Rattle.view.proofs.Live.{own-is, shared-is}
 -- ---- in one queue
 
 -- a record of the queue and the signal names both
-pub record-names : (q : Queue) (s : ℕ) (r : Siginfo) → inQueue q s r ≡ true → nextRecord (queueOf r) (r .signal) r ≡ nextRecord q s r
+pub record-names : (q : Queue) (s : ℕ) (r : Siginfo) → inQueue q s r ≡ true
+    → nextRecord (queueOf r) (r .signal) r ≡ nextRecord q s r
 unfolding inQueue
 record-names q s r e =
     ap₂ (λ (a : Queue) (n : ℕ). nextRecord a n r)
     (sym (queue-same q (queueOf r) (and-fst (sameQueue q (queueOf r)) (eqb (r .signal) s) e)))
     (eqb-true (r .signal) s (and-snd (sameQueue q (queueOf r)) (eqb (r .signal) s) e))
 
-module _ (b : List ℕ) (q : Queue) (s k n : ℕ) (e : k ≡ find (inQueue q s) (recordsOf b)) (m : n ≡ length (recordsOf b)) where
-  pub record-next : k < n → (r : Siginfo) → r ≡ siginfoOf (row recordBytes b k) → isNextIn q s (recordsOf b) (case.Record r)
+module _ (b : List ℕ) (q : Queue) (s k n : ℕ) (e : k ≡ find (inQueue q s) (recordsOf b))
+    (m : n ≡ length (recordsOf b)) where
+  pub record-next : k < n → (r : Siginfo) → r ≡ siginfoOf (row recordBytes b k)
+      → isNextIn q s (recordsOf b) (case.Record r)
   unfolding nextOf nextIn
   record-next h r f v =
       let i : find (inQueue q s) (recordsOf b) < length (recordsOf b) = omega (arith, e, m) in
       let at : getD (recordsOf b) (find (inQueue q s) (recordsOf b)) noSiginfo ≡ r =
       ap (λ (j : ℕ). getD (recordsOf b) j noSiginfo) (sym e) ∙ record-read b k noSiginfo (omega (arith, m)) ∙ sym f in
       record-names q s r (ap (inQueue q s) (sym at) ∙ find-at (inQueue q s) noSiginfo (recordsOf b) i)
-      ∙ sym (ap (nextIn v q s) (first-find (inQueue q s) noSiginfo (recordsOf b) (any-find (inQueue q s) noSiginfo (recordsOf b) i) ∙ ap some at))
+      ∙ sym (ap (nextIn v q s)
+      (first-find (inQueue q s) noSiginfo (recordsOf b) (any-find (inQueue q s) noSiginfo (recordsOf b) i)
+      ∙ ap some at))
 
   pub mark-next : n ≤ k → isNextIn q s (recordsOf b) (case.Mark (q .process) (q .thread) s)
   unfolding nextOf nextIn
   mark-next h v =
       let i : k ≡ n = omega (arith, e, m, find-le (inQueue q s) (recordsOf b)) in
-      sym (ap (nextIn v q s) (first-none (inQueue q s) (recordsOf b) (absent-any (inQueue q s) noSiginfo (recordsOf b) n k (sym m) e i)))
+      sym (ap (nextIn v q s)
+      (first-none (inQueue q s) (recordsOf b) (absent-any (inQueue q s) noSiginfo (recordsOf b) n k (sym m) e i)))
 
 -- the buffer that has the queue
 module _ (l : Lent) (p : ℕ) where
-  pub oldest-own : (t s : ℕ) → eqb t 0 ≡ false → first (inQueue (targetQueue p t) s) (recordsOf (l .threadBuffer)) ≡ viewOf l .oldest (targetQueue p t) s
+  pub oldest-own : (t s : ℕ) → eqb t 0 ≡ false
+      → first (inQueue (targetQueue p t) s) (recordsOf (l .threadBuffer)) ≡ viewOf l .oldest (targetQueue p t) s
   unfolding view decoded recordsFor recordsOf
-  oldest-own t s n = ap (λ (x : List Siginfo). first (inQueue (targetQueue p t) s) (used x)) (sym (cond-false (slotsOf (l .processBuffer)) (slotsOf (l .threadBuffer)) n))
+  oldest-own t s n =
+      ap (λ (x : List Siginfo). first (inQueue (targetQueue p t) s) (used x))
+      (sym (cond-false (slotsOf (l .processBuffer)) (slotsOf (l .threadBuffer)) n))
 
-  pub oldest-shared : (s : ℕ) → first (inQueue (targetQueue p 0) s) (recordsOf (l .processBuffer)) ≡ viewOf l .oldest (targetQueue p 0) s
+  pub oldest-shared : (s : ℕ)
+      → first (inQueue (targetQueue p 0) s) (recordsOf (l .processBuffer)) ≡ viewOf l .oldest (targetQueue p 0) s
   unfolding view decoded recordsFor recordsOf
   oldest-shared s = refl
 
@@ -76,7 +87,9 @@ module _ (l : Lent) (p : ℕ) where
 
 -- where something is
 abbrev in-queue : View → Thread → Next
-in-queue v th = nextIn v (nextQueue v th (nextSignal v th)) (nextSignal v th) (v .oldest (nextQueue v th (nextSignal v th)) (nextSignal v th))
+in-queue v th =
+    nextIn v (nextQueue v th (nextSignal v th)) (nextSignal v th)
+    (v .oldest (nextQueue v th (nextSignal v th)) (nextSignal v th))
 
 module _ (v : View) (th : Thread) (s : ℕ) (e : s ≡ nextSignal v th) where
   pub nothing-next : s ≡ 0 → nextOf case.Nothing ≡ next v th
@@ -97,7 +110,8 @@ module _ (v : View) (th : Thread) (s : ℕ) (e : s ≡ nextSignal v th) where
 
 module _ (l : Lent) (t p s : ℕ) (live : liveThread (viewOf l) t ≡ true) (o : p ≡ threadNamed (l .threads) t .process)
     (e : s ≡ nextSignal (viewOf l) (theThread (viewOf l) t)) (n : (s ≡ 0 → ⊥)) (r : declared.Next) where
-  module _ (own : SigSet) (b : Bool) (h : own ≡ setOf (pendingIn (viewOf l) (targetQueue p t))) (k : b ≡ has own s) where
+  module _ (own : SigSet) (b : Bool) (h : own ≡ setOf (pendingIn (viewOf l) (targetQueue p t)))
+      (k : b ≡ has own s) where
     pends : pendingIn (viewOf l) (threadQueue (theThread (viewOf l) t)) s ≡ b
     pends =
         ap (λ (q : Queue). pendingIn (viewOf l) q s) (own-is l t p o live)

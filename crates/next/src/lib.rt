@@ -44,7 +44,8 @@ fn next_in(b: &[u8], process: u32, thread: u32, signal: u32) -> Next
 pub fn next_of(ps: &[u64], ts: &[u64], tb: &[u8], pb: &[u8], thread: u32) -> Next
     requires { ⌜ soundTables (given ps ts tb pb) ≡ true ⌝ }
     requires { ⌜ liveThread (viewOf (given ps ts tb pb)) thread ≡ true ⌝ }
-    ensures { λ r. ⌜ nextOf r ≡ nextFor (viewOf (before ps ts tb pb)) (theThread (viewOf (before ps ts tb pb)) thread) ⌝ }
+    ensures { λ r. ⌜ nextOf r
+        ≡ nextFor (viewOf (before ps ts tb pb)) (theThread (viewOf (before ps ts tb pb)) thread) ⌝ }
 {
     let s = next_signal(ps, ts, tb, pb, thread);
     if s == 0 {

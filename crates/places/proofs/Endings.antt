@@ -48,8 +48,10 @@ module _ (cs ds : List ℕ) (i : ℕ) where
   unfolding withinAt
   room-left h =
       same-test (leb (getD ds i 0) (recordLimit - getD cs i 0)) (leb (getD cs i 0 + getD ds i 0) recordLimit)
-      (λ e. let k : getD ds i 0 ≤ recordLimit - getD cs i 0 = leb-true (getD ds i 0) (recordLimit - getD cs i 0) e in le-leb (getD cs i 0 + getD ds i 0) recordLimit (omega arith))
-      (λ e. let k : getD cs i 0 + getD ds i 0 ≤ recordLimit = leb-true (getD cs i 0 + getD ds i 0) recordLimit e in le-leb (getD ds i 0) (recordLimit - getD cs i 0) (omega arith))
+      (λ e. let k : getD ds i 0 ≤ recordLimit - getD cs i 0 = leb-true (getD ds i 0) (recordLimit - getD cs i 0) e in
+      le-leb (getD cs i 0 + getD ds i 0) recordLimit (omega arith))
+      (λ e. let k : getD cs i 0 + getD ds i 0 ≤ recordLimit = leb-true (getD cs i 0 + getD ds i 0) recordLimit e in
+      le-leb (getD ds i 0) (recordLimit - getD cs i 0) (omega arith))
 
 -- ---- one mark, one record
 
@@ -65,7 +67,8 @@ module _ (p : Process) (r : Siginfo) where
   unfolding isDelivered
   unnamed e = rw e
 
-  pub delivered : {b : Bool} → nameable (r .signal) ≡ true → b ≡ ignored (actionOf p (r .signal)) (r .signal) → (eqb (r .code) siQueue && not b) ≡ isDelivered p r
+  pub delivered : {b : Bool} → nameable (r .signal) ≡ true → b ≡ ignored (actionOf p (r .signal)) (r .signal)
+      → (eqb (r .code) siQueue && not b) ≡ isDelivered p r
   unfolding isDelivered
   delivered e k = rw (e, k)
 
@@ -74,11 +77,13 @@ pub no-marks : (marks : SigSet) (actions : ℕ → Action) → marks .0 ≡ 0 �
 unfolding marksNotIgnored
 no-marks marks actions e =
     sym (All-all (markNotIgnored marks actions) (range 1 signals)
-    (All-every (Pass (markNotIgnored marks actions)) (λ s. sym (unmarked marks actions s (ap (λ n. has (bits n) s) e ∙ has-empty s))) (range 1 signals)))
+    (All-every (Pass (markNotIgnored marks actions))
+    (λ s. sym (unmarked marks actions s (ap (λ n. has (bits n) s) e ∙ has-empty s))) (range 1 signals)))
 
 -- ---- the action at an index, the signal less one
 
-pub action-test : (f : Action → Bool) (p : Process) (i : ℕ) (a : Action) → a ≡ actionOf p (i + 1) → f (getD (p .actions) i defaultAction) ≡ f a
+pub action-test : (f : Action → Bool) (p : Process) (i : ℕ) (a : Action) → a ≡ actionOf p (i + 1)
+    → f (getD (p .actions) i defaultAction) ≡ f a
 unfolding actionOf
 action-test f p i a e =
     let k : i + 1 - 1 ≡ i = omega arith in

@@ -6,7 +6,8 @@ use Prim.Native.Nat.{ℕ, _<_}
 use lib.Dec.{eqb}
 use lib.ListN.{length, getD}
 use borrow.Author.Tests.{eq-eqb, ne-eqb}
-use Rattle.limits.specs.Limits.{processPlaces, processWords, processTable, threadPlaces, threadWords, threadTable, processId, threadId, threadProcess, threadMask, threadMarks}
+use Rattle.limits.specs.Limits.{processPlaces, processWords, processTable, threadPlaces, threadWords, threadTable}
+use Rattle.limits.specs.Limits.{processId, threadId, threadProcess, threadMask, threadMarks}
 use Rattle.lists.specs.Lists.{all, find}
 use Rattle.lists.specs.Rows.{row}
 use Rattle.lists.proofs.Bools.{and-left, cond-true, cond-false}
@@ -16,10 +17,12 @@ use Rattle.rules.specs.Types.{noProcess}
 use Rattle.rules.specs.View.{isProcess, isThread, actionOf}
 use Rattle.rules.specs.Store.{freeProcess}
 use Rattle.rules.specs.Sound.{goodId, unmasked, marksNotIgnored}
-use Rattle.tables.specs.Tables.{processesOf, threadsOf, heldProcesses, heldThreads, processAt, threadAt, headTo, threadTo}
+use Rattle.tables.specs.Tables.{processesOf, threadsOf, heldProcesses, heldThreads, processAt, threadAt, headTo}
+use Rattle.tables.specs.Tables.{threadTo}
 use Rattle.tables.proofs.Words.{length-heldProcesses, process-row, thread-row}
 use Rattle.tables.proofs.Places.{held-at}
-use Rattle.places.specs.Check.{isZeroWord, liveProcessOk, processOk, processOkAt, ownerOf, liveThreadOk, threadOk, threadOkAt}
+use Rattle.places.specs.Check.{isZeroWord, liveProcessOk, processOk, processOkAt, ownerOf, liveThreadOk, threadOk}
+use Rattle.places.specs.Check.{threadOkAt}
 
 -- ---- a place by whether it is free
 
@@ -32,7 +35,8 @@ module _ (ws vs : List ℕ) (place w : ℕ) (e : w ≡ getD (headTo (processAt w
       ∙ sym (cond-true _ _ (eq-eqb (processAt ws place .holds .id) 0 (sym e ∙ z)))
 
   pub live-process : (w ≡ 0 → ⊥)
-      → liveProcessOk (heldProcesses ws) (heldThreads vs) place (processAt ws place) ≡ processOkAt (processesOf ws) (threadsOf vs) place
+      → liveProcessOk (heldProcesses ws) (heldThreads vs) place (processAt ws place)
+      ≡ processOkAt (processesOf ws) (threadsOf vs) place
   unfolding processOkAt processOk headTo
   live-process z = sym (cond-false _ _ (ne-eqb (processAt ws place .holds .id) 0 (λ k. z (e ∙ k))))
 
@@ -45,32 +49,39 @@ module _ (ws vs : List ℕ) (place w : ℕ) (e : w ≡ getD (threadTo (threadAt 
       ∙ sym (cond-true _ _ (eq-eqb (threadAt vs place .holds .id) 0 (sym e ∙ z)))
 
   pub live-thread : (w ≡ 0 → ⊥)
-      → liveThreadOk (heldProcesses ws) (heldThreads vs) place (threadAt vs place) ≡ threadOkAt (processesOf ws) (threadsOf vs) place
+      → liveThreadOk (heldProcesses ws) (heldThreads vs) place (threadAt vs place)
+      ≡ threadOkAt (processesOf ws) (threadsOf vs) place
   unfolding threadOkAt threadOk threadTo
   live-thread z = sym (cond-false _ _ (ne-eqb (threadAt vs place .holds .id) 0 (λ k. z (e ∙ k))))
 
 -- ---- a live thread
 
-module _ (ws vs : List ℕ) (place owner w : ℕ) (k : w ≡ getD (threadTo (threadAt vs place)) threadProcess 0) (e : owner ≡ find (isProcess w) (heldProcesses ws)) where
+module _ (ws vs : List ℕ) (place owner w : ℕ) (k : w ≡ getD (threadTo (threadAt vs place)) threadProcess 0)
+    (e : owner ≡ find (isProcess w) (heldProcesses ws)) where
   same-owner : owner ≡ find (isProcess (threadAt vs place .holds .process)) (heldProcesses ws)
   unfolding threadTo
   same-owner = e ∙ ap (λ n. find (isProcess n) (heldProcesses ws)) k
 
-  pub orphan : owner ≡ processPlaces → false ≡ liveThreadOk (heldProcesses ws) (heldThreads vs) place (threadAt vs place)
+  pub orphan : owner ≡ processPlaces
+      → false ≡ liveThreadOk (heldProcesses ws) (heldThreads vs) place (threadAt vs place)
   unfolding liveThreadOk
-  orphan n = sym (and-left _ (absent-any (isProcess (threadAt vs place .holds .process)) noProcess (heldProcesses ws) processPlaces owner (length-heldProcesses ws) same-owner n))
+  orphan n =
+      sym (and-left _ (absent-any (isProcess (threadAt vs place .holds .process)) noProcess
+      (heldProcesses ws) processPlaces owner (length-heldProcesses ws) same-owner n))
 
   pub thread-end : {i m u f h : Bool} → (owner ≡ processPlaces → ⊥)
       → i ≡ goodId (getD (threadTo (threadAt vs place)) threadId 0)
       → m ≡ unmasked (bits (getD (threadTo (threadAt vs place)) threadMask 0))
       → u ≡ unmasked (bits (getD (threadTo (threadAt vs place)) threadMarks 0))
       → f ≡ eqb (find (isThread (getD (threadTo (threadAt vs place)) threadId 0)) (heldThreads vs)) place
-      → h ≡ marksNotIgnored (bits (getD (threadTo (threadAt vs place)) threadMarks 0)) (actionOf (processAt ws owner .holds))
+      → h ≡ marksNotIgnored (bits (getD (threadTo (threadAt vs place)) threadMarks 0))
+      (actionOf (processAt ws owner .holds))
       → (i && (m && (u && (f && h)))) ≡ liveThreadOk (heldProcesses ws) (heldThreads vs) place (threadAt vs place)
   unfolding liveThreadOk threadTo ownerOf
   thread-end n ei em eu ef eh =
       let p = isProcess (threadAt vs place .holds .process) in
       let live = found-any p noProcess (heldProcesses ws) processPlaces owner (length-heldProcesses ws) same-owner n in
       let at : getD (heldProcesses ws) (find p (heldProcesses ws)) noProcess ≡ processAt ws owner .holds =
-      held-at (processesOf ws) (find p (heldProcesses ws)) freeProcess ∙ ap (λ k. processAt ws k .holds) (sym same-owner) in
+      held-at (processesOf ws) (find p (heldProcesses ws)) freeProcess
+      ∙ ap (λ k. processAt ws k .holds) (sym same-owner) in
       rw (live, at, ei, em, eu, ef, eh)

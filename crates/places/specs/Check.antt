@@ -1,4 +1,5 @@
--- The test of soundness in the order in which it is made: place by place, then record by record. proofs/Regrouped shows that it is the rules' test.
+-- The test of soundness in the order in which it is made: place by place, then record by record.
+-- proofs/Regrouped shows that it is the rules' test.
 use Prim.Native.Nat.{ℕ, _+_, _≤_}
 use mathlib.Core.Bool.{Bool, not, _&&_, cond}
 use mathlib.Core.List.{List, [], map}
@@ -12,9 +13,11 @@ use Rattle.types.specs.declared.Action.{Action}
 use Rattle.types.specs.declared.Siginfo.{Siginfo}
 use Rattle.rules.specs.Types.{Process, Thread, Queue, noProcess}
 use Rattle.rules.specs.Signals.{standard, ignored}
-use Rattle.rules.specs.View.{View, isProcess, isThread, belongsTo, sameQueue, queueOf, processQueue, threadQueue, inQueue, actionOf}
+use Rattle.rules.specs.View.{View, isProcess, isThread, belongsTo, sameQueue, queueOf, processQueue, threadQueue}
+use Rattle.rules.specs.View.{inQueue, actionOf}
 use Rattle.rules.specs.Store.{Place, Store, held, freeProcess, freeThread, ofProcess, used, view}
-use Rattle.rules.specs.Sound.{goodId, fieldsFit, unmasked, actionUnmasked, flagsKnown, killStopDefault, marksNotIgnored, nameable, restZero, aimedAtThread, aimedAtProcess, recordNotIgnored}
+use Rattle.rules.specs.Sound.{goodId, fieldsFit, unmasked, actionUnmasked, flagsKnown, killStopDefault, marksNotIgnored}
+use Rattle.rules.specs.Sound.{nameable, restZero, aimedAtThread, aimedAtProcess, recordNotIgnored}
 use Rattle.tables.specs.Tables.{processTo, threadTo}
 
 -- ---- one place
@@ -117,7 +120,9 @@ noted seen q s = set seen q (union (bits (getD seen q 0)) (ofSignal s) .0)
 
 -- a record and an earlier one are not of one standard signal and queue
 unfoldable pub once : Siginfo → Siginfo → Bool
-once earlier later = not (standard (later .signal) && (eqb (earlier .signal) (later .signal) && sameQueue (queueOf earlier) (queueOf later)))
+once earlier later =
+    not
+    (standard (later .signal) && (eqb (earlier .signal) (later .signal) && sameQueue (queueOf earlier) (queueOf later)))
 
 -- the place that a record names
 unfoldable pub processPlace : List (Place Process) → Siginfo → ℕ
@@ -157,7 +162,8 @@ allWithin cs ds = all (withinAt cs ds) (range 0 processPlaces)
 
 unfoldable pub recordsOk : (xs : List (Place Process)) (ys : List (Place Thread)) (rs qs : List Siginfo) → Bool
 recordsOk xs ys rs qs =
-    threadRecordsOk xs ys rs && (processRecordsOk xs qs && allWithin (tallies (map held xs) rs) (tallies (map held xs) qs))
+    threadRecordsOk xs ys rs
+    && (processRecordsOk xs qs && allWithin (tallies (map held xs) rs) (tallies (map held xs) qs))
 
 unfoldable pub checked : Store → Bool
 checked st =

@@ -7,7 +7,8 @@ ghost use Rattle.lists.specs.Lists.{all, any, range};
 ghost use Rattle.rules.specs.View.{actionOf, belongsTo};
 ghost use Rattle.rules.specs.Sound.{killStopDefault, markNotIgnored, marksNotIgnored};
 ghost use Rattle.tables.specs.Tables.{processesOf, threadsOf, heldProcesses, heldThreads, processAt, threadAt};
-ghost use Rattle.places.specs.Check.{isZeroWord, headOk, actionOk, liveProcessOk, processOkAt, liveThreadOk, threadOkAt, placesOk};
+ghost use Rattle.places.specs.Check.{isZeroWord, headOk, actionOk, liveProcessOk, processOkAt, liveThreadOk};
+ghost use Rattle.places.specs.Check.{threadOkAt, placesOk};
 use limits::PROCESS_EFFECTIVE;
 use limits::PROCESS_ID;
 use limits::PROCESS_MARKS;
@@ -141,7 +142,8 @@ fn has_thread(ts: &[u64], id: u64) -> bool
 
 fn live_process_ok(ps: &[u64], ts: &[u64], place: usize) -> bool
     requires { ⌜ (length (now ps) ≡ processTable) × ((length (now ts) ≡ threadTable) × (place < processPlaces)) ⌝ }
-    ensures { λ r. ⌜ r ≡ liveProcessOk (heldProcesses (now (ps .entry))) (heldThreads (now (ts .entry))) place (processAt (now (ps .entry)) place) ⌝ }
+    ensures { λ r. ⌜ r ≡ liveProcessOk (heldProcesses (now (ps .entry))) (heldThreads (now (ts .entry))) place
+        (processAt (now (ps .entry)) place) ⌝ }
 {
     let id = tables::field_at(ps, place, PROCESS_ID);
     let marks = SigSet(tables::field_at(ps, place, PROCESS_MARKS));
@@ -165,7 +167,8 @@ fn process_ok(ps: &[u64], ts: &[u64], place: usize) -> bool
 
 fn live_thread_ok(ps: &[u64], ts: &[u64], place: usize) -> bool
     requires { ⌜ (length (now ps) ≡ processTable) × ((length (now ts) ≡ threadTable) × (place < threadPlaces)) ⌝ }
-    ensures { λ r. ⌜ r ≡ liveThreadOk (heldProcesses (now (ps .entry))) (heldThreads (now (ts .entry))) place (threadAt (now (ts .entry)) place) ⌝ }
+    ensures { λ r. ⌜ r ≡ liveThreadOk (heldProcesses (now (ps .entry))) (heldThreads (now (ts .entry))) place
+        (threadAt (now (ts .entry)) place) ⌝ }
 {
     let owner = tables::find_process(ps, tables::thread_field_at(ts, place, THREAD_PROCESS));
     if owner == PROCESS_PLACES {
@@ -193,7 +196,8 @@ fn thread_ok(ps: &[u64], ts: &[u64], place: usize) -> bool
 
 fn processes_ok(ps: &[u64], ts: &[u64]) -> bool
     requires { ⌜ (length (now ps) ≡ processTable) × (length (now ts) ≡ threadTable) ⌝ }
-    ensures { λ r. ⌜ r ≡ all (processOkAt (processesOf (now (ps .entry))) (threadsOf (now (ts .entry)))) (range 0 processPlaces) ⌝ }
+    ensures { λ r. ⌜ r ≡ all (processOkAt (processesOf (now (ps .entry))) (threadsOf (now (ts .entry))))
+        (range 0 processPlaces) ⌝ }
 {
     let mut i = 0;
     while i < PROCESS_PLACES {
@@ -207,7 +211,8 @@ fn processes_ok(ps: &[u64], ts: &[u64]) -> bool
 
 fn threads_ok(ps: &[u64], ts: &[u64]) -> bool
     requires { ⌜ (length (now ps) ≡ processTable) × (length (now ts) ≡ threadTable) ⌝ }
-    ensures { λ r. ⌜ r ≡ all (threadOkAt (processesOf (now (ps .entry))) (threadsOf (now (ts .entry)))) (range 0 threadPlaces) ⌝ }
+    ensures { λ r. ⌜ r ≡ all (threadOkAt (processesOf (now (ps .entry))) (threadsOf (now (ts .entry))))
+        (range 0 threadPlaces) ⌝ }
 {
     let mut i = 0;
     while i < THREAD_PLACES {

@@ -1,4 +1,5 @@
-// What the programs write: texts with numbers set in, and what is in use of the tables. A contract cannot speak of output; each program's file `stdout` does.
+// What the programs write: texts with numbers set in, and what is in use of the tables.
+// A contract cannot speak of output; each program's file `stdout` does.
 ghost use Prim.Native.Nat.{_≤_, _<_};
 ghost use Rattle.limits.specs.Limits.{processPlaces, threadPlaces, bufferRecords, signals};
 use libc::STDOUT_FILENO;
@@ -105,8 +106,9 @@ fn ends(byte: u8) -> u64
     if byte == b'|' { 1 } else { 0 }
 }
 
-// Writes text `n` of those in `texts`, which '|' parts; the first is 0. A capital letter stands for a word, A for the first, and past the last word for
-// itself. The word is written in decimal; after '#' in hexadecimal, after '~' as a record's code, after '@' as the members of a set.
+// Writes text `n` of those in `texts`, which '|' parts; the first is 0. A capital letter stands for a word,
+// A for the first, and past the last word for itself. The word is written in decimal;
+// after '#' in hexadecimal, after '~' as a record's code, after '@' as the members of a set.
 pub fn say(texts: &[u8], n: u64, words: &[u64]) {
     let mut passed: u64 = 0;
     let mut before = b'|';

@@ -48,7 +48,8 @@ laid-rest b e = and-snd (eqb (length b) bufferBytes) (restZero (slotsOf b)) e
 
 pub laid-slots : (b : List ℕ) → isLaid b ≡ true → slotsOf b ≡ padded noSiginfo bufferRecords (recordsOf b)
 unfolding recordsOf
-laid-slots b e = laid-padded (slotsOf b) (laid-rest b e) ∙ ap (λ n. padded noSiginfo n (used (slotsOf b))) (length-slotsOf b)
+laid-slots b e =
+    laid-padded (slotsOf b) (laid-rest b e) ∙ ap (λ n. padded noSiginfo n (used (slotsOf b))) (length-slotsOf b)
 
 -- the test as code makes it
 pub laid-test : (b : List ℕ) → length b ≡ bufferBytes → all isZero (drop (length (recordsOf b)) (slotsOf b)) ≡ isLaid b
@@ -78,30 +79,36 @@ in-slots b i h = rw length-slotsOf h
 pub in-buffer : (b : List ℕ) (i : ℕ) → i < length (recordsOf b) → i < bufferRecords
 in-buffer b i h = le-trans h (length-recordsOf b)
 
-pub slot-read : (b : List ℕ) (i : ℕ) (d : Siginfo) → i < bufferRecords → getD (slotsOf b) i d ≡ siginfoOf (row recordBytes b i)
+pub slot-read : (b : List ℕ) (i : ℕ) (d : Siginfo) → i < bufferRecords
+    → getD (slotsOf b) i d ≡ siginfoOf (row recordBytes b i)
 unfolding slotsOf
 slot-read b i d h = slot-at bufferRecords b i d h
 
-pub record-read : (b : List ℕ) (i : ℕ) (d : Siginfo) → i < length (recordsOf b) → getD (recordsOf b) i d ≡ siginfoOf (row recordBytes b i)
+pub record-read : (b : List ℕ) (i : ℕ) (d : Siginfo) → i < length (recordsOf b)
+    → getD (recordsOf b) i d ≡ siginfoOf (row recordBytes b i)
 unfolding recordsOf
 record-read b i d h = used-at (slotsOf b) i d h ∙ slot-read b i d (in-buffer b i h)
 
 -- a test that was made of what was read
-module _ (p : Siginfo → Bool) (b : List ℕ) (i : ℕ) {r : Siginfo} {t : Bool} (e : r ≡ siginfoOf (row recordBytes b i)) (f : t ≡ p r) where
+module _ (p : Siginfo → Bool) (b : List ℕ) (i : ℕ) {r : Siginfo} {t : Bool} (e : r ≡ siginfoOf (row recordBytes b i))
+    (f : t ≡ p r) where
   pub slot-tested : i < bufferRecords → p (getD (slotsOf b) i noSiginfo) ≡ t
   slot-tested h = ap p (slot-read b i noSiginfo h ∙ sym e) ∙ sym f
 
   pub record-tested : i < length (recordsOf b) → p (getD (recordsOf b) i noSiginfo) ≡ t
   record-tested h = ap p (record-read b i noSiginfo h ∙ sym e) ∙ sym f
 
-pub slot-written : {b′ : List ℕ} (b : List ℕ) (i : ℕ) (r : Siginfo) → length b ≡ bufferBytes → i < bufferRecords → Fits r
+pub slot-written : {b′ : List ℕ} (b : List ℕ) (i : ℕ) (r : Siginfo) → length b ≡ bufferBytes
+    → i < bufferRecords → Fits r
     → b′ ≡ sets b (i * recordBytes) (bytesOf r) → slotsOf b′ ≡ set (slotsOf b) i r
 unfolding slotsOf
 slot-written b i r e h f p = ap (slots bufferRecords) p ∙ slot-put bufferRecords b i r h (omega arith) f
 
 -- a record in use is where it was, if the buffer is as it was from there on
-pub record-kept : (b₀ b : List ℕ) (i : ℕ) (d : Siginfo) → i < length (recordsOf b₀) → drop i (slotsOf b) ≡ drop i (slotsOf b₀)
+pub record-kept : (b₀ b : List ℕ) (i : ℕ) (d : Siginfo) → i < length (recordsOf b₀)
+    → drop i (slotsOf b) ≡ drop i (slotsOf b₀)
     → siginfoOf (row recordBytes b i) ≡ getD (recordsOf b₀) i d
 unfolding recordsOf
 record-kept b₀ b i d h e =
-    sym (slot-read b i d (in-buffer b₀ i h)) ∙ same-from d (slotsOf b) (slotsOf b₀) i e ∙ sym (used-at (slotsOf b₀) i d h)
+    sym (slot-read b i d (in-buffer b₀ i h)) ∙ same-from d (slotsOf b) (slotsOf b₀) i e
+    ∙ sym (used-at (slotsOf b₀) i d h)

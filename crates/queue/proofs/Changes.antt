@@ -1,4 +1,5 @@
--- What `append`, `discard` and `remove` leave, and what their loops keep: b₀ is the buffer before, b the buffer now. Assumes nothing.
+-- What `append`, `discard` and `remove` leave, and what their loops keep: b₀ is the buffer before, b the buffer now.
+-- Assumes nothing.
 use mathlib.Core.Path.{_≡_, refl, ap, _∙_}
 use mathlib.Core.Bool.{Bool, true, false}
 use mathlib.Core.List.{List, _++_, append-nil}
@@ -16,11 +17,13 @@ use Rattle.types.specs.declared.Siginfo.{Siginfo}
 use Rattle.types.specs.Values.{noSiginfo}
 use Rattle.siginfo.specs.Bytes.{Fits, siginfoOf, bytesOf}
 use Rattle.queue.specs.Queue.{slotsOf, recordsOf, isLaid, appended, removeAt}
-use Rattle.queue.proofs.Buffer.{length-slotsOf, length-recordsOf, length-laid, laid-slots, in-slots, in-buffer, slot-written, record-kept}
+use Rattle.queue.proofs.Buffer.{length-slotsOf, length-recordsOf, length-laid, laid-slots, in-slots, in-buffer}
+use Rattle.queue.proofs.Buffer.{slot-written, record-kept}
 
 -- ---- `append`
 
-pub appended-slots : {b : List ℕ} (b₀ : List ℕ) (n : ℕ) (r : Siginfo) → isLaid b₀ ≡ true → n ≡ length (recordsOf b₀) → n < bufferRecords → Fits r
+pub appended-slots : {b : List ℕ} (b₀ : List ℕ) (n : ℕ) (r : Siginfo) → isLaid b₀ ≡ true → n ≡ length (recordsOf b₀)
+    → n < bufferRecords → Fits r
     → b ≡ sets b₀ (n * recordBytes) (bytesOf r) → slotsOf b ≡ padded noSiginfo bufferRecords (appended r (recordsOf b₀))
 unfolding appended
 appended-slots b₀ n r l e h f p =
@@ -31,9 +34,11 @@ appended-slots b₀ n r l e h f p =
 -- ---- both loops end alike: what stays stands below j, and the rest is cleared
 
 pub rest-cleared : (b₀ b : List ℕ) (rs : List Siginfo) (j n : ℕ) → isLaid b₀ ≡ true → n ≡ length (recordsOf b₀) → j ≤ n
-    → take j (slotsOf b) ≡ rs → drop n (slotsOf b) ≡ drop n (slotsOf b₀) → cleared noSiginfo (slotsOf b) j n ≡ padded noSiginfo bufferRecords rs
+    → take j (slotsOf b) ≡ rs → drop n (slotsOf b) ≡ drop n (slotsOf b₀)
+    → cleared noSiginfo (slotsOf b) j n ≡ padded noSiginfo bufferRecords rs
 rest-cleared b₀ b rs j n l e h p q =
-    compact noSiginfo (slotsOf b) (recordsOf b₀) rs j n bufferRecords e h (omega (arith, length-recordsOf b₀)) (length-slotsOf b) p
+    compact noSiginfo (slotsOf b) (recordsOf b₀) rs j n bufferRecords e h (omega (arith, length-recordsOf b₀))
+    (length-slotsOf b) p
     (q ∙ ap (drop n) (laid-slots b₀ l))
 
 -- ---- `discard`: of the records before i those that pass are below j, and from i on nothing is changed
@@ -49,8 +54,10 @@ module _ (q : Siginfo → Bool) (b₀ : List ℕ) where
   sparing-start l = record { behind = omega arith; size = length-laid b₀ l; front = refl; rest = refl }
 
   -- a turn: r was read at i
-  module _ (b : List ℕ) (i j : ℕ) (r : Siginfo) (inv : Sparing q b₀ b i j) (h : i < length (recordsOf b₀)) (e : r ≡ siginfoOf (row recordBytes b i)) where
-    pub sparing-kept : (b′ : List ℕ) (j′ : ℕ) → q r ≡ true → Fits r → b′ ≡ sets b (j * recordBytes) (bytesOf r) → j′ ≡ j + 1 → Sparing q b₀ b′ (i + 1) j′
+  module _ (b : List ℕ) (i j : ℕ) (r : Siginfo) (inv : Sparing q b₀ b i j) (h : i < length (recordsOf b₀))
+      (e : r ≡ siginfoOf (row recordBytes b i)) where
+    pub sparing-kept : (b′ : List ℕ) (j′ : ℕ) → q r ≡ true → Fits r → b′ ≡ sets b (j * recordBytes) (bytesOf r)
+        → j′ ≡ j + 1 → Sparing q b₀ b′ (i + 1) j′
     sparing-kept b′ j′ t f p d =
         let k : j < bufferRecords = omega (arith, in-buffer b₀ i h) in
         let a = e ∙ record-kept b₀ b i noSiginfo h (inv .rest) in
@@ -72,7 +79,8 @@ module _ (q : Siginfo → Bool) (b₀ : List ℕ) where
           rest = rw p (same-next (slotsOf b) (slotsOf b₀) i (inv .rest));
         }
 
-  pub sparing-done : (b : List ℕ) (i j n : ℕ) → isLaid b₀ ≡ true → n ≡ length (recordsOf b₀) → i ≡ n → Sparing q b₀ b i j
+  pub sparing-done : (b : List ℕ) (i j n : ℕ) → isLaid b₀ ≡ true → n ≡ length (recordsOf b₀) → i ≡ n
+      → Sparing q b₀ b i j
       → cleared noSiginfo (slotsOf b) j n ≡ padded noSiginfo bufferRecords (keep q (recordsOf b₀))
   sparing-done b i j n l e d inv =
       rest-cleared b₀ b (keep q (recordsOf b₀)) j n l e (omega arith)
@@ -96,7 +104,8 @@ module _ (k : ℕ) (b₀ : List ℕ) where
       }
 
   pub moving-more : {b′ : List ℕ} (b : List ℕ) (i : ℕ) (r : Siginfo) → Moving k b₀ b i → i + 1 < length (recordsOf b₀)
-      → r ≡ siginfoOf (row recordBytes b (i + 1)) → Fits r → b′ ≡ sets b (i * recordBytes) (bytesOf r) → Moving k b₀ b′ (i + 1)
+      → r ≡ siginfoOf (row recordBytes b (i + 1)) → Fits r → b′ ≡ sets b (i * recordBytes) (bytesOf r)
+      → Moving k b₀ b′ (i + 1)
   moving-more b i r inv h e f p =
       let m : i < bufferRecords = omega (arith, in-buffer b₀ (i + 1) h) in
       let s = same-next (slotsOf b) (slotsOf b₀) i (inv .rest) in
@@ -108,7 +117,8 @@ module _ (k : ℕ) (b₀ : List ℕ) where
         rest = rw w (same-set (slotsOf b) (slotsOf b₀) i i r (omega arith) (inv .rest));
       }
 
-  pub moving-done : (b : List ℕ) (i j n : ℕ) → isLaid b₀ ≡ true → n ≡ length (recordsOf b₀) → i + 1 ≡ n → j ≡ i → Moving k b₀ b i
+  pub moving-done : (b : List ℕ) (i j n : ℕ) → isLaid b₀ ≡ true → n ≡ length (recordsOf b₀) → i + 1 ≡ n → j ≡ i
+      → Moving k b₀ b i
       → cleared noSiginfo (slotsOf b) j n ≡ padded noSiginfo bufferRecords (removeAt k (recordsOf b₀))
   moving-done b i j n l e d m inv =
       let over : length (recordsOf b₀) ≤ i + 1 = omega arith in

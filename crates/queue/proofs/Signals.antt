@@ -20,7 +20,8 @@ use Rattle.rules.specs.View.{sameQueue, queueOf, inQueue}
 use Rattle.queue.specs.Queue.{signalsIn}
 
 pub eqb-comm : (a b : ℕ) → eqb a b ≡ eqb b a
-eqb-comm a b = same-test (eqb a b) (eqb b a) (λ e. eq-eqb b a (sym (eqb-true a b e))) (λ e. eq-eqb a b (sym (eqb-true b a e)))
+eqb-comm a b =
+    same-test (eqb a b) (eqb b a) (λ e. eq-eqb b a (sym (eqb-true a b e))) (λ e. eq-eqb a b (sym (eqb-true b a e)))
 
 module _ (q : Queue) (rs : List Siginfo) where
   pub signals-none : signalsIn q (take 0 rs) ≡ empty
@@ -39,7 +40,8 @@ module _ (rs : List Siginfo) (i : ℕ) (h : i < length rs) (r : Siginfo) (e : r 
       ∙ any-append (inQueue q s) (take i rs) (getD rs i noSiginfo ∷ [])
       ∙ rw (← e) (ap (λ (b : Bool). any (inQueue q s) (take i rs) || b) (or-false (inQueue q s r)))
 
-  pub signals-here : sameQueue q (queueOf r) ≡ true → union (signalsIn q (take i rs)) (ofSignal (r .signal)) ≡ signalsIn q (take (i + 1) rs)
+  pub signals-here : sameQueue q (queueOf r) ≡ true
+      → union (signalsIn q (take i rs)) (ofSignal (r .signal)) ≡ signalsIn q (take (i + 1) rs)
   unfolding signalsIn union inQueue
   signals-here k =
       let p : ℕ → Bool = λ s. any (inQueue q s) (take i rs) in

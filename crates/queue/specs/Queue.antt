@@ -41,7 +41,8 @@ appended r rs = rs ++ (r ∷ [])
 unfoldable pub removeAt : ℕ → List Siginfo → List Siginfo
 removeAt k rs = take k rs ++ drop (suc k) rs
 
--- the records that a discard leaves: all but those of a process or a thread that ends, or of a process's signals that go
+-- the records that a discard leaves: all but those of a process or a thread that ends,
+-- or of a process's signals that go
 unfoldable pub isLeft : Discarded → Siginfo → Bool
 isLeft (OfProcess p) r = not (eqb (r .process) p)
 isLeft (OfThread t) r = not (eqb (r .thread) t)

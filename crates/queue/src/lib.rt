@@ -16,7 +16,8 @@ use limits::BUFFER_RECORDS;
 use sigset::SigSet;
 use types::Siginfo;
 
-// What a discard takes away: the records of a process or of a thread that ends, or those of a process whose signals are in a set.
+// What a discard takes away: the records of a process or of a thread that ends,
+// or those of a process whose signals are in a set.
 pub enum Discarded {
     OfProcess(u32),
     OfThread(u32),

@@ -1,12 +1,19 @@
 -- What is lent to the walks of this crate: a slice as a `&mut`, and the five tables of a call.
---     elem, slice, table       MIR's types of a record, of a slice and of the records by value.        rows      what the records own by value.        word      a slice's machine value
---     Lease        a `&κ mut [T]`: its lifetime and the share of it, where it lies, its ghost name, its list, and that it has room.        leaseOf      from a parameter
---     ref, val, token, lent, gone      of one: its denotation, its machine value, its lifetime's token, what it owns, and what is left of it at exit, with the list zs
+--     elem, slice, table       MIR's types of a record, of a slice and of the records by value.
+--                              rows what the records own by value. word a slice's machine value
+--     Lease        a `&κ mut [T]`: its lifetime and the share of it, where it lies, its ghost name, its list,
+--                  and that it has room. leaseOf from a parameter
+--     ref, val, token, lent, gone      of one: its denotation, its machine value, its lifetime's token, what it owns,
+--                                      and what is left of it at exit, with the list zs
 --     unused       it is not used any more: its last list is the one it had
---     Lends        the five tables.        lendsOf     from a call's parameters.        held, Facts       what the host holds, and what a call ensures of it
---     lives5, shares5, refs5, vals5    their lifetimes, the shares of these, and the tables as denotations and as machine values
---     alive, owns5, left5      their tokens, what they own and what is left of them, with X for the parameters after them.        lives4, .., four, owns4, left4      the same of all but the row of records
---     apart, whole     the row of records is told from the others, and put to them.        with4, with5, still4, still5       another X.        unused4      none of the others is used any more
+--     Lends        the five tables.        lendsOf     from a call's parameters.
+--                                                      held, Facts what the host holds, and what a call ensures of it
+--     lives5, shares5, refs5, vals5    their lifetimes, the shares of these,
+--                                      and the tables as denotations and as machine values
+--     alive, owns5, left5      their tokens, what they own and what is left of them, with X for the parameters after
+--                              them. lives4, .., four, owns4, left4 the same of all but the row of records
+--     apart, whole     the row of records is told from the others, and put to them.
+--                      with4, with5, still4, still5 another X. unused4 none of the others is used any more
 -- Assumes `Given`.
 use mathlib.Core.Path.{_≡_, refl}
 use Prim.Native.Nat.{ℕ}
@@ -61,7 +68,8 @@ pub record Lease (R : RattleType) : Type 0 where
   pub room : Room R (length list)
 
 abbrev pub leaseOf : {R : RattleType} → Lft → Share → (x : RefT (List (R .Denot))) → Room R (length (x .now)) → Lease R
-leaseOf κ q x g = record { life = κ; share = q; block = x .ptr .0; offset = x .ptr .1; name = x .name; list = x .now; room = g }
+leaseOf κ q x g =
+    record { life = κ; share = q; block = x .ptr .0; offset = x .ptr .1; name = x .name; list = x .now; room = g }
 
 module _ {R : RattleType} (L : Lease R) where
   abbrev pub ref : RefT (List (R .Denot))
@@ -79,9 +87,13 @@ module _ {R : RattleType} (L : Lease R) where
   abbrev pub gone : List (R .Denot) → Fml
   gone zs = fsep (finally R (L .name) zs) (feq ℕ (length zs) (length (L .list)))
 
-pub unused : {M : Type 1} {𝓤 : URA M} {H : Heap 𝓤} {A : Atoms 𝓤} {K : Type 0} {W : Given 𝓤 H A} {Γ : List (Item 𝓤)} {G : Goal 𝓤 H} → K → {R : RattleType} (L : Lease R)
+pub unused : {M : Type 1} {𝓤 : URA M} {H : Heap 𝓤} {A : Atoms 𝓤}
+    {K : Type 0} {W : Given 𝓤 H A} {Γ : List (Item 𝓤)} {G : Goal 𝓤 H}
+    → K → {R : RattleType} (L : Lease R)
     → Step K W (‵ (gone L (L .list)) ∷ Γ) G (‵ (lent L) ∷ Γ) G
-unused t {R} L = step (λ k. gives-up t R (named 0) (L .life) (L .name) (L .block) (L .offset) (L .list) $ feqI t ℕ (length (L .list)) (length (L .list)) refl $ move t (1 ∷ 0 ∷ []) $ fjoin t $ k)
+unused t {R} L =
+    step (λ k. gives-up t R (named 0) (L .life) (L .name) (L .block) (L .offset) (L .list) $
+    feqI t ℕ (length (L .list)) (length (L .list)) refl $ move t (1 ∷ 0 ∷ []) $ fjoin t $ k)
 
 -- ---- the five tables
 pub record Lends : Type 0 where
@@ -92,7 +104,8 @@ pub record Lends : Type 0 where
   pub ts : Lease T.the-row
 
 abbrev pub lendsOf : (κs : Lfts 5) (qs : Shares 5) (ps tb pb out : RefT (List ℕ)) (ts : RefT (List Thread))
-    → Room u64 (length (ps .now)) → Room u8 (length (tb .now)) → Room u8 (length (pb .now)) → Room u64 (length (out .now)) → Room T.the-row (length (ts .now)) → Lends
+    → Room u64 (length (ps .now)) → Room u8 (length (tb .now)) → Room u8 (length (pb .now))
+    → Room u64 (length (out .now)) → Room T.the-row (length (ts .now)) → Lends
 lendsOf κs qs ps tb pb out ts g₁ g₂ g₃ g₄ g₅ = record {
   ps = leaseOf (κs .0) (qs .0) ps g₁;
   tb = leaseOf (κs .1 .0) (qs .1 .0) tb g₂;
@@ -118,7 +131,8 @@ module _ (L : Lends) where
   abbrev pub refs4 : {X : Type 0} → X → RefT (List ℕ) × (RefT (List ℕ) × (RefT (List ℕ) × (RefT (List ℕ) × X)))
   refs4 x = (ref (L .ps), (ref (L .tb), (ref (L .pb), (ref (L .out), x))))
 
-  abbrev pub refs5 : {X : Type 0} → X → RefT (List ℕ) × (RefT (List ℕ) × (RefT (List ℕ) × (RefT (List ℕ) × (RefT (List Thread) × X))))
+  abbrev pub refs5 : {X : Type 0} → X
+      → RefT (List ℕ) × (RefT (List ℕ) × (RefT (List ℕ) × (RefT (List ℕ) × (RefT (List Thread) × X))))
   refs5 x = refs4 (ref (L .ts), x)
 
   abbrev pub vals4 : {X : Type 0} → X → List Val × (List Val × (List Val × (List Val × X)))
@@ -134,7 +148,8 @@ module _ (L : Lends) where
   owns5 X = owns4 (fsep (lent (L .ts)) X)
 
   abbrev pub left4 : (ps tb pb out : List ℕ) → Fml → Fml
-  left4 ps tb pb out X = fsep (gone (L .ps) ps) (fsep (gone (L .tb) tb) (fsep (gone (L .pb) pb) (fsep (gone (L .out) out) X)))
+  left4 ps tb pb out X =
+      fsep (gone (L .ps) ps) (fsep (gone (L .tb) tb) (fsep (gone (L .pb) pb) (fsep (gone (L .out) out) X)))
 
   abbrev pub left5 : (ps tb pb out : List ℕ) (ts : List Thread) → Fml → Fml
   left5 ps tb pb out ts X = left4 ps tb pb out (fsep (gone (L .ts) ts) X)
@@ -144,7 +159,9 @@ module _ (L : Lends) where
     four = ‵ (token (L .ps)) ⊛ (‵ (token (L .tb)) ⊛ (‵ (token (L .pb)) ⊛ (‵ (token (L .out)) ⊛ ‵ ftrue)))
 
     abbrev pub alive : Item 𝓤
-    alive = ‵ (token (L .ps)) ⊛ (‵ (token (L .tb)) ⊛ (‵ (token (L .pb)) ⊛ (‵ (token (L .out)) ⊛ (‵ (token (L .ts)) ⊛ ‵ ftrue))))
+    alive =
+        ‵ (token (L .ps))
+        ⊛ (‵ (token (L .tb)) ⊛ (‵ (token (L .pb)) ⊛ (‵ (token (L .out)) ⊛ (‵ (token (L .ts)) ⊛ ‵ ftrue))))
 
   -- what the host holds
   abbrev pub held : Host
@@ -153,12 +170,19 @@ module _ (L : Lends) where
   abbrev pub Facts : (number : ℕ) → Arguments → (r : ℕ) (ps tb pb out : List ℕ) (ts : List Thread) → Type 0
   Facts number g r ps tb pb out ts = (host ps tb pb out ts, r) ≡ callOn number g held
 
-module _ {M : Type 1} {𝓤 : URA M} {H : Heap 𝓤} {A : Atoms 𝓤} {K : Type 0} {W : Given 𝓤 H A} {Γ : List (Item 𝓤)} {G : Goal 𝓤 H} where
-  pub apart : K → (L : Lends) {X : Fml} → Step K W (four L ∷ ‵ (token (L .ts)) ∷ ‵ (owns4 L ftrue) ∷ ‵ (lent (L .ts)) ∷ Γ) G (alive L ∷ ‵ (owns5 L X) ∷ Γ) G
-  apart t L {X} = step (λ k. split t $ move t (1 ∷ []) $ split t $ move t (1 ∷ []) $ split t $ move t (1 ∷ []) $ split t $ move t (1 ∷ []) $ split t $
+module _ {M : Type 1} {𝓤 : URA M} {H : Heap 𝓤} {A : Atoms 𝓤} {K : Type 0} {W : Given 𝓤 H A} {Γ : List (Item 𝓤)}
+    {G : Goal 𝓤 H} where
+  pub apart : K → (L : Lends) {X : Fml}
+      → Step K W (four L ∷ ‵ (token (L .ts)) ∷ ‵ (owns4 L ftrue) ∷ ‵ (lent (L .ts)) ∷ Γ) G
+      (alive L ∷ ‵ (owns5 L X) ∷ Γ) G
+  apart t L {X} =
+      step (λ k. split t $ move t (1 ∷ []) $ split t $ move t (1 ∷ []) $ split t $ move t (1 ∷ []) $ split t $
+      move t (1 ∷ []) $ split t $
       -- [ts's token; true; the others' tokens, from the last on; what is owned]
-      move t (6 ∷ []) $ fsplit t $ move t (1 ∷ []) $ fsplit t $ move t (1 ∷ []) $ fsplit t $ move t (1 ∷ []) $ fsplit t $ move t (1 ∷ []) $ fsplit t $ move t (1 ∷ []) $ drop t $
-      move t (10 ∷ 9 ∷ 8 ∷ 7 ∷ 6 ∷ []) $ group t 5 $ nothing t $ move t (3 ∷ 0 ∷ []) $ fjoin t $ move t (3 ∷ 0 ∷ []) $ fjoin t $ move t (3 ∷ 0 ∷ []) $ fjoin t $ move t (3 ∷ 0 ∷ []) $ fjoin t $ move t (1 ∷ 3 ∷ 0 ∷ 2 ∷ []) $ k)
+      move t (6 ∷ []) $ fsplit t $ move t (1 ∷ []) $ fsplit t $ move t (1 ∷ []) $ fsplit t $ move t (1 ∷ []) $
+      fsplit t $ move t (1 ∷ []) $ fsplit t $ move t (1 ∷ []) $ drop t $ move t (10 ∷ 9 ∷ 8 ∷ 7 ∷ 6 ∷ []) $ group t 5 $
+      nothing t $ move t (3 ∷ 0 ∷ []) $ fjoin t $ move t (3 ∷ 0 ∷ []) $ fjoin t $ move t (3 ∷ 0 ∷ []) $ fjoin t $
+      move t (3 ∷ 0 ∷ []) $ fjoin t $ move t (1 ∷ 3 ∷ 0 ∷ 2 ∷ []) $ k)
 
   pub whole : K → (L : Lends) → Step K W (alive L ∷ Γ) G (four L ∷ ‵ (token (L .ts)) ∷ Γ) G
   whole t L = step (λ k. split t $ move t (1 ∷ []) $ split t $ move t (1 ∷ []) $ split t $ move t (1 ∷ []) $ split t $
@@ -166,21 +190,38 @@ module _ {M : Type 1} {𝓤 : URA M} {H : Heap 𝓤} {A : Atoms 𝓤} {K : Type 
       move t (4 ∷ 3 ∷ 2 ∷ 0 ∷ 5 ∷ 1 ∷ []) $ group t 6 $ k)
 
   pub with4 : K → (L : Lends) {X Y : Fml} → Step K W (‵ (owns4 L Y) ∷ Γ) G (‵ (owns4 L X) ∷ ‵ Y ∷ Γ) G
-  with4 t L = step (λ k. fsplit t $ move t (1 ∷ []) $ fsplit t $ move t (1 ∷ []) $ fsplit t $ move t (1 ∷ []) $ fsplit t $ move t (1 ∷ []) $ drop t $
-      move t (0 ∷ 4 ∷ []) $ fjoin t $ move t (1 ∷ 0 ∷ []) $ fjoin t $ move t (1 ∷ 0 ∷ []) $ fjoin t $ move t (1 ∷ 0 ∷ []) $ fjoin t $ k)
+  with4 t L =
+      step (λ k. fsplit t $ move t (1 ∷ []) $ fsplit t $ move t (1 ∷ []) $ fsplit t $ move t (1 ∷ []) $ fsplit t $
+      move t (1 ∷ []) $ drop t $
+      move t (0 ∷ 4 ∷ []) $ fjoin t $ move t (1 ∷ 0 ∷ []) $ fjoin t $ move t (1 ∷ 0 ∷ []) $ fjoin t $
+      move t (1 ∷ 0 ∷ []) $ fjoin t $ k)
 
-  pub still4 : K → (L : Lends) {ps tb pb out : List ℕ} {X Y : Fml} → Step K W (‵ (left4 L ps tb pb out Y) ∷ Γ) G (‵ (left4 L ps tb pb out X) ∷ ‵ Y ∷ Γ) G
-  still4 t L = step (λ k. fsplit t $ move t (1 ∷ []) $ fsplit t $ move t (1 ∷ []) $ fsplit t $ move t (1 ∷ []) $ fsplit t $ move t (1 ∷ []) $ drop t $
-      move t (0 ∷ 4 ∷ []) $ fjoin t $ move t (1 ∷ 0 ∷ []) $ fjoin t $ move t (1 ∷ 0 ∷ []) $ fjoin t $ move t (1 ∷ 0 ∷ []) $ fjoin t $ k)
+  pub still4 : K → (L : Lends) {ps tb pb out : List ℕ} {X Y : Fml}
+      → Step K W (‵ (left4 L ps tb pb out Y) ∷ Γ) G (‵ (left4 L ps tb pb out X) ∷ ‵ Y ∷ Γ) G
+  still4 t L =
+      step (λ k. fsplit t $ move t (1 ∷ []) $ fsplit t $ move t (1 ∷ []) $ fsplit t $ move t (1 ∷ []) $ fsplit t $
+      move t (1 ∷ []) $ drop t $
+      move t (0 ∷ 4 ∷ []) $ fjoin t $ move t (1 ∷ 0 ∷ []) $ fjoin t $ move t (1 ∷ 0 ∷ []) $ fjoin t $
+      move t (1 ∷ 0 ∷ []) $ fjoin t $ k)
 
   pub with5 : K → (L : Lends) {X Y : Fml} → Step K W (‵ (owns5 L Y) ∷ Γ) G (‵ (owns5 L X) ∷ ‵ Y ∷ Γ) G
-  with5 t L = step (λ k. fsplit t $ move t (1 ∷ []) $ fsplit t $ move t (1 ∷ []) $ fsplit t $ move t (1 ∷ []) $ fsplit t $ move t (1 ∷ []) $ fsplit t $ move t (1 ∷ []) $ drop t $
-      move t (0 ∷ 5 ∷ []) $ fjoin t $ move t (1 ∷ 0 ∷ []) $ fjoin t $ move t (1 ∷ 0 ∷ []) $ fjoin t $ move t (1 ∷ 0 ∷ []) $ fjoin t $ move t (1 ∷ 0 ∷ []) $ fjoin t $ k)
+  with5 t L =
+      step (λ k. fsplit t $ move t (1 ∷ []) $ fsplit t $ move t (1 ∷ []) $ fsplit t $ move t (1 ∷ []) $ fsplit t $
+      move t (1 ∷ []) $ fsplit t $ move t (1 ∷ []) $ drop t $
+      move t (0 ∷ 5 ∷ []) $ fjoin t $ move t (1 ∷ 0 ∷ []) $ fjoin t $ move t (1 ∷ 0 ∷ []) $ fjoin t $
+      move t (1 ∷ 0 ∷ []) $ fjoin t $ move t (1 ∷ 0 ∷ []) $ fjoin t $ k)
 
-  pub still5 : K → (L : Lends) {ps tb pb out : List ℕ} {ts : List Thread} {X Y : Fml} → Step K W (‵ (left5 L ps tb pb out ts Y) ∷ Γ) G (‵ (left5 L ps tb pb out ts X) ∷ ‵ Y ∷ Γ) G
-  still5 t L = step (λ k. fsplit t $ move t (1 ∷ []) $ fsplit t $ move t (1 ∷ []) $ fsplit t $ move t (1 ∷ []) $ fsplit t $ move t (1 ∷ []) $ fsplit t $ move t (1 ∷ []) $ drop t $
-      move t (0 ∷ 5 ∷ []) $ fjoin t $ move t (1 ∷ 0 ∷ []) $ fjoin t $ move t (1 ∷ 0 ∷ []) $ fjoin t $ move t (1 ∷ 0 ∷ []) $ fjoin t $ move t (1 ∷ 0 ∷ []) $ fjoin t $ k)
+  pub still5 : K → (L : Lends) {ps tb pb out : List ℕ} {ts : List Thread} {X Y : Fml}
+      → Step K W (‵ (left5 L ps tb pb out ts Y) ∷ Γ) G (‵ (left5 L ps tb pb out ts X) ∷ ‵ Y ∷ Γ) G
+  still5 t L =
+      step (λ k. fsplit t $ move t (1 ∷ []) $ fsplit t $ move t (1 ∷ []) $ fsplit t $ move t (1 ∷ []) $ fsplit t $
+      move t (1 ∷ []) $ fsplit t $ move t (1 ∷ []) $ drop t $
+      move t (0 ∷ 5 ∷ []) $ fjoin t $ move t (1 ∷ 0 ∷ []) $ fjoin t $ move t (1 ∷ 0 ∷ []) $ fjoin t $
+      move t (1 ∷ 0 ∷ []) $ fjoin t $ move t (1 ∷ 0 ∷ []) $ fjoin t $ k)
 
-  pub unused4 : K → (L : Lends) {X : Fml} → Step K W (‵ (left4 L (L .ps .list) (L .tb .list) (L .pb .list) (L .out .list) X) ∷ Γ) G (‵ (owns4 L X) ∷ Γ) G
-  unused4 t L = step (λ k. fsplit t $ unused t (L .ps) $ move t (1 ∷ []) $ fsplit t $ unused t (L .tb) $ move t (1 ∷ []) $ fsplit t $ unused t (L .pb) $ move t (1 ∷ []) $ fsplit t $ unused t (L .out) $
+  pub unused4 : K → (L : Lends) {X : Fml}
+      → Step K W (‵ (left4 L (L .ps .list) (L .tb .list) (L .pb .list) (L .out .list) X) ∷ Γ) G (‵ (owns4 L X) ∷ Γ) G
+  unused4 t L =
+      step (λ k. fsplit t $ unused t (L .ps) $ move t (1 ∷ []) $ fsplit t $ unused t (L .tb) $ move t (1 ∷ []) $
+      fsplit t $ unused t (L .pb) $ move t (1 ∷ []) $ fsplit t $ unused t (L .out) $
       fjoin t $ move t (1 ∷ 0 ∷ []) $ fjoin t $ move t (1 ∷ 0 ∷ []) $ fjoin t $ move t (1 ∷ 0 ∷ []) $ fjoin t $ k)

@@ -1,4 +1,5 @@
--- A row of another length than the table's: every call is refused with 14 and leaves everything as it was, and a look is the empty part. Assumes nothing.
+-- A row of another length than the table's: every call is refused with 14 and leaves everything as it was,
+-- and a look is the empty part. Assumes nothing.
 use Prim.Native.Nat.{ℕ}
 use mathlib.Core.Path.{_≡_, refl, sym, ap, _∙_}
 use mathlib.Core.Bool.{Bool, true, false, not, _&&_, cond}
@@ -34,16 +35,20 @@ module _ (ps tb pb : List ℕ) (ts : List Thread) (o : T (not (eqb (length ts) t
   short : lengthsAre (lent ps (wordsOf ts) tb pb) ≡ false
   unfolding lengthsAre
   short =
-      let f : length ts ≡ threadPlaces → ⊥ = eqb-false (length ts) threadPlaces (not-so (eqb (length ts) threadPlaces) o) in
+      let f : length ts ≡ threadPlaces → ⊥ =
+      eqb-false (length ts) threadPlaces (not-so (eqb (length ts) threadPlaces) o) in
       let g : length (wordsOf ts) ≡ threadTable → ⊥ = λ e. f (omega (arith, e, words-length ts)) in
-      and-right (eqb (length ps) processTable) (and-left (eqb (length tb) bufferBytes && eqb (length pb) bufferBytes) (ne-eqb (length (wordsOf ts)) threadTable g))
+      and-right (eqb (length ps) processTable)
+      (and-left (eqb (length tb) bufferBytes && eqb (length pb) bufferBytes)
+      (ne-eqb (length (wordsOf ts)) threadTable g))
 
   unusable : (n : ℕ) → usable n before ≡ false
   unfolding usable soundTables
   unusable n =
       split (eqb n callClear)
       (λ e. cond-true (lengthsAre (lent ps (wordsOf ts) tb pb)) (soundTables (lent ps (wordsOf ts) tb pb)) e ∙ short)
-      (λ e. cond-false (lengthsAre (lent ps (wordsOf ts) tb pb)) (soundTables (lent ps (wordsOf ts) tb pb)) e ∙ and-left (sound (decoded (lent ps (wordsOf ts) tb pb))) short)
+      (λ e. cond-false (lengthsAre (lent ps (wordsOf ts) tb pb)) (soundTables (lent ps (wordsOf ts) tb pb)) e
+      ∙ and-left (sound (decoded (lent ps (wordsOf ts) tb pb))) short)
 
   no-look-here : (thread : ℕ) (r : List ℕ) → length r ≡ 0 → r ≡ lookAt ps tb pb ts thread
   unfolding lookAt lookBytes
@@ -74,11 +79,15 @@ module _ (ps tb pb : List ℕ) (ts : List Thread) (o : T (not (eqb (length ts) t
         ap (λ (us : List Thread). (host ps tb pb out us, EFAULT)) (sym (records-back ts))
         ∙ ap (λ (k : Lent × Answer). handedBack (length ts) (servedBy out k)) (sym refused-here)
 
-pub wrong-length : (h : Host) (number : ℕ) (g : Arguments) → T (not (eqb (length (h .threads)) threadPlaces)) → (h, EFAULT) ≡ callOn number g h
-wrong-length h number g o = wrong-length-here (h .processes) (h .threadBuffer) (h .processBuffer) (h .threads) o (h .answer) number g
+pub wrong-length : (h : Host) (number : ℕ) (g : Arguments) → T (not (eqb (length (h .threads)) threadPlaces))
+    → (h, EFAULT) ≡ callOn number g h
+wrong-length h number g o =
+    wrong-length-here (h .processes) (h .threadBuffer) (h .processBuffer) (h .threads) o (h .answer) number g
 
-pub no-look : (ps tb pb : List ℕ) (ts : List Thread) (thread : ℕ) (r : List ℕ) → T (not (eqb (length ts) threadPlaces)) → length r ≡ 0 → r ≡ lookAt ps tb pb ts thread
+pub no-look : (ps tb pb : List ℕ) (ts : List Thread) (thread : ℕ) (r : List ℕ) → T (not (eqb (length ts) threadPlaces))
+    → length r ≡ 0 → r ≡ lookAt ps tb pb ts thread
 no-look ps tb pb ts thread r o e = no-look-here ps tb pb ts o thread r e
 
-pub no-slot : (ps tb pb : List ℕ) (ts : List Thread) (thread : ℕ) → T (not (eqb (length ts) threadPlaces)) → 0 ≡ slotAt ps tb pb ts thread
+pub no-slot : (ps tb pb : List ℕ) (ts : List Thread) (thread : ℕ) → T (not (eqb (length ts) threadPlaces))
+    → 0 ≡ slotAt ps tb pb ts thread
 no-slot ps tb pb ts thread o = no-slot-here ps tb pb ts o thread

@@ -1,4 +1,5 @@
--- A mask call leaves a row of records with at most one mask changed, and the mask that code reads of the words is that one. Assumes nothing.
+-- A mask call leaves a row of records with at most one mask changed,
+-- and the mask that code reads of the words is that one. Assumes nothing.
 use Prim.Native.Nat.{ℕ, _*_, _<_}
 use mathlib.Core.Path.{_≡_, refl, sym, ap, _∙_}
 use mathlib.Core.Bool.{true, not}
@@ -85,8 +86,10 @@ module _ (n : ℕ) (m : SigSet) (ts : List Thread) where
       let t = getD ts i noThread in
       split (ltb i (length ts))
       (λ l.
-      ap (λ k. set ts i (withMask (getD (set ts i (withMask m t)) k noThread .mask) t)) (find-same (hasId n) noThread ts i (withMask m t) refl)
-      ∙ ap (λ (x : Thread). set ts i (withMask (x .mask) t)) (getD-set-same ts i (withMask m t) noThread (ltb-true i (length ts) l)))
+      ap (λ k. set ts i (withMask (getD (set ts i (withMask m t)) k noThread .mask) t))
+      (find-same (hasId n) noThread ts i (withMask m t) refl)
+      ∙ ap (λ (x : Thread). set ts i (withMask (x .mask) t))
+      (getD-set-same ts i (withMask m t) noThread (ltb-true i (length ts) l)))
       (λ l. let o = ltb-false i (length ts) l in set-out ts i _ o ∙ sym (set-out ts i _ o))
 
 -- the mask that it has
@@ -95,7 +98,8 @@ unfolding withMaskAt
 mask-changed-own n ts = set-getD ts (find (hasId n) ts) noThread
 
 -- the row, by its words after the change
-row-after : (ts : List Thread) → length ts ≡ threadPlaces → (ws : List ℕ) (n : ℕ) (m : SigSet) → ws ≡ wordsOf (withMaskAt n m ts)
+row-after : (ts : List Thread) → length ts ≡ threadPlaces → (ws : List ℕ) (n : ℕ) (m : SigSet)
+    → ws ≡ wordsOf (withMaskAt n m ts)
     → withMaskAt n (maskIn ws n) ts ≡ recordsOf (length ts) ws
 row-after ts e ws n m h =
     let us = withMaskAt n m ts in
@@ -108,7 +112,8 @@ row-after ts e ws n m h =
     ∙ ap (recordsOf (length ts)) (sym h)
 
 -- where the words are as they were
-pub row-same : (ts : List Thread) → length ts ≡ threadPlaces → (n : ℕ) → withMaskAt n (maskIn (wordsOf ts) n) ts ≡ recordsOf (length ts) (wordsOf ts)
+pub row-same : (ts : List Thread) → length ts ≡ threadPlaces → (n : ℕ)
+    → withMaskAt n (maskIn (wordsOf ts) n) ts ≡ recordsOf (length ts) (wordsOf ts)
 row-same ts e n = row-after ts e (wordsOf ts) n (maskOf ts n) (ap wordsOf (sym (mask-changed-own n ts)))
 
 -- ---- the call
@@ -123,21 +128,26 @@ module _ (ps tb pb : List ℕ) (ts : List Thread) (e : length ts ≡ threadPlace
   abbrev after : Option SigSet → List ℕ
   after set = stepOn (sigmask t way set) before .0 .threads
 
-  same-after : (set : Option SigSet) → after set ≡ wordsOf ts → withMaskAt t (maskIn (after set) t) ts ≡ recordsOf (length ts) (after set)
+  same-after : (set : Option SigSet) → after set ≡ wordsOf ts
+      → withMaskAt t (maskIn (after set) t) ts ≡ recordsOf (length ts) (after set)
   same-after set h = ap (λ ws. withMaskAt t (maskIn ws t) ts) h ∙ row-same ts e t ∙ ap (recordsOf (length ts)) (sym h)
 
   -- without a set
   none-after : refusalOn (sigmask t way none) before ≡ 0 → after none ≡ wordsOf ts
   unfolding encoded decoded changes maskChanges applyAll
-  none-after a = ap (λ x. x .0 .threads) (accepted-step (sigmask t way none) before a) ∙ thread-words-back (wordsOf ts) long
+  none-after a =
+      ap (λ x. x .0 .threads) (accepted-step (sigmask t way none) before a) ∙ thread-words-back (wordsOf ts) long
 
   -- with one: the rules' change of the live thread
-  module _ (m : SigSet) (s : soundTables (lent ps (wordsOf ts) tb pb) ≡ true) (live : liveThread (viewOf before) t ≡ true) where
+  module _ (m : SigSet) (s : soundTables (lent ps (wordsOf ts) tb pb) ≡ true)
+      (live : liveThread (viewOf before) t ≡ true) where
     abbrev masked : Place Held → Place Held
     masked x = record { holds = heldMask m (x .holds); marks = x .marks }
 
     live-found : find (isThread t) (heldThreads (wordsOf ts)) ≡ find (hasId t) ts
-    live-found = find-live-thread (heldThreads (wordsOf ts)) t (ap not (thread-named (decoded before) t live)) ∙ place-found ts e t
+    live-found =
+        find-live-thread (heldThreads (wordsOf ts)) t (ap not (thread-named (decoded before) t live))
+        ∙ place-found ts e t
 
     amended : threadWordsOf (amend (isThread t) (heldMask m) (threadsOf (wordsOf ts))) ≡ wordsOf (withMaskAt t m ts)
     unfolding withMaskAt
@@ -163,7 +173,8 @@ module _ (ps tb pb : List ℕ) (ts : List Thread) (e : length ts ≡ threadPlace
   accepted-after : (set : Option SigSet) → refusalOn (sigmask t way set) before ≡ 0
       → withMaskAt t (maskIn (after set) t) ts ≡ recordsOf (length ts) (after set)
   accepted-after none a = same-after none (none-after a)
-  accepted-after (some m) a = row-after ts e (after (some m)) t (newMask (theThread (viewOf before) t .mask) way m) (some-after m a)
+  accepted-after (some m) a =
+      row-after ts e (after (some m)) t (newMask (theThread (viewOf before) t .mask) way m) (some-after m a)
 
 -- whatever the store: the row after the call is the row before it, with the mask that the thread then has
 pub mask-row : (ps tb pb : List ℕ) (ts : List Thread) → length ts ≡ threadPlaces → (t way : ℕ) (set : Option SigSet)
@@ -174,15 +185,18 @@ mask-row ps tb pb ts e t way set =
     let l = lent ps (wordsOf ts) tb pb in
     split (eqb (refusalOn c l) 0)
     (λ a. accepted-after ps tb pb ts e t way set (eqb-true (refusalOn c l) 0 a))
-    (λ r. same-after ps tb pb ts e t way set (sym (ap (λ (x : Lent). x .threads) (refused-tables c l (eqb-false (refusalOn c l) 0 r)))))
+    (λ r. same-after ps tb pb ts e t way set
+    (sym (ap (λ (x : Lent). x .threads) (refused-tables c l (eqb-false (refusalOn c l) 0 r)))))
 
--- ---- the mask of the first thread with that id, as code reads it of the words: `place` is where it is, or the number of places
+-- ---- the mask of the first thread with that id, as code reads it of the words:
+--      `place` is where it is, or the number of places
 
 module _ (ws : List ℕ) (n place : ℕ) (here : place ≡ find (hasThreadId n) (heldThreads ws)) where
   pub mask-absent : place ≡ threadPlaces → empty ≡ maskIn ws n
   unfolding maskIn
   mask-absent z =
-      sym (ap (λ (x : Place Held). x .holds .mask) (List·getD-eq-default (threadsOf ws) freeThread (omega (arith, length-threadsOf ws))))
+      sym (ap (λ (x : Place Held). x .holds .mask)
+      (List·getD-eq-default (threadsOf ws) freeThread (omega (arith, length-threadsOf ws))))
 
   pub mask-held : (w : ℕ) → w ≡ getD (threadTo (threadAt ws place)) threadMask 0 → bits w ≡ maskIn ws n
   unfolding maskIn threadTo

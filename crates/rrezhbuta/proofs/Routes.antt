@@ -10,7 +10,8 @@ use Rattle.types.specs.declared.Answer.{Answer}
 use Rattle.types.specs.declared.Answer.the-variants.{Refused}
 use Rattle.sound.specs.Lent.{Lent}
 use Rattle.masks.proofs.Masks.{return-is}
-use Rattle.boundary.specs.Boundary.{Arguments, arguments, whereGiven, callsOf, numbered, isCall, usable, accepted, serveOn, servedBy, served}
+use Rattle.boundary.specs.Boundary.{Arguments, arguments, whereGiven, callsOf, numbered, isCall, usable, accepted}
+use Rattle.boundary.specs.Boundary.{serveOn, servedBy, served}
 use Rattle.rrezhbuta.specs.Entry.{Host, lentBy, handedBack, callOn}
 
 module _ (h : Host) (number a b c d e f x y z : ℕ) where
@@ -18,7 +19,8 @@ module _ (h : Host) (number a b c d e f x y z : ℕ) where
   whole = arguments a b c d e f x y z
 
   -- the mask call reads four of its numbers
-  pub mask-route : T (eqb number callSigmask) → callOn callSigmask (arguments a b c 0 0 0 x 0 0) h ≡ callOn number whole h
+  pub mask-route : T (eqb number callSigmask)
+      → callOn callSigmask (arguments a b c 0 0 0 x 0 0) h ≡ callOn number whole h
   unfolding callOn served serveOn numbered callsOf
   mask-route t = ap (λ (n : ℕ). callOn n whole h) (sym (eqb→eq number callSigmask t))
 
@@ -30,7 +32,8 @@ module _ (h : Host) (number a b c d e f x y z : ℕ) where
       (lentBy h, Refused (cond (usable callSigreturn (lentBy h)) EINVAL EFAULT)))
       (return-is (lentBy h) a (bits x))
 
-  pub return-route : T (eqb number callSigreturn) → callOn callSigmask (arguments a sigSetmask 1 0 0 0 x 0 0) h ≡ callOn number whole h
+  pub return-route : T (eqb number callSigreturn)
+      → callOn callSigmask (arguments a sigSetmask 1 0 0 0 x 0 0) h ≡ callOn number whole h
   unfolding callOn served
   return-route t =
       ap (λ (s : Lent × Answer). handedBack (length (h .threads)) (servedBy (h .answer) s)) return-served

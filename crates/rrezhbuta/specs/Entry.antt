@@ -35,7 +35,8 @@ lentBy h = lentRecords (h .processes) (h .threadBuffer) (h .processBuffer) (h .t
 -- what it holds once it is served, its row as long as before, and what is returned
 unfoldable pub handedBack : (records : ℕ) → Served → Host × ℕ
 handedBack n s = (
-  host (s .tables .processes) (s .tables .threadBuffer) (s .tables .processBuffer) (s .words) (recordsOf n (s .tables .threads)),
+  host (s .tables .processes) (s .tables .threadBuffer) (s .tables .processBuffer) (s .words)
+      (recordsOf n (s .tables .threads)),
   s .errno,
 )
 

@@ -48,7 +48,8 @@ fn work(
     z: u64,
 ) -> Out
     ensures { λ r. ⌜ (host (now (ps .exit)) (now (tb .exit)) (now (pb .exit)) (now (out .exit)) (r .ts), r .errno)
-        ≡ callOn number (arguments a b c d e f x y z) (host (now (ps .entry)) (now (tb .entry)) (now (pb .entry)) (now (out .entry)) ts) ⌝ }
+        ≡ callOn number (arguments a b c d e f x y z)
+        (host (now (ps .entry)) (now (tb .entry)) (now (pb .entry)) (now (out .entry)) ts) ⌝ }
 {
     let mut ws = threads::words_of(ts);
     let errno = boundary::serve(ps, &mut ws, tb, pb, out, number, a, b, c, d, e, f, x, y, z);
@@ -82,8 +83,12 @@ fn mask_work(
     given: u32,
     set: u64,
 ) -> MaskChange
-    ensures { λ r. ⌜ (host (now (ps .exit)) (now (tb .exit)) (now (pb .exit)) (now (out .exit)) (withMaskAt (r .thread) (r .mask) ts), r .errno)
-        ≡ callOn callSigmask (arguments thread way given 0 0 0 set 0 0) (host (now (ps .entry)) (now (tb .entry)) (now (pb .entry)) (now (out .entry)) ts) ⌝ }
+    ensures { λ r. ⌜ (
+      host (now (ps .exit)) (now (tb .exit)) (now (pb .exit)) (now (out .exit)) (withMaskAt (r .thread) (r .mask) ts),
+      r .errno,
+    )
+        ≡ callOn callSigmask (arguments thread way given 0 0 0 set 0 0)
+        (host (now (ps .entry)) (now (tb .entry)) (now (pb .entry)) (now (out .entry)) ts) ⌝ }
 {
     let mut ws = threads::words_of(ts);
     let errno = boundary::serve(
@@ -130,7 +135,8 @@ fn serve(
     y: u64,
     z: u64,
 ) -> u64
-    ensures { λ r. ⌜ (hostAfter ps tb pb out ts, r) ≡ callOn number (arguments a b c d e f x y z) (hostBefore ps tb pb out ts) ⌝ }
+    ensures { λ r. ⌜ (hostAfter ps tb pb out ts, r)
+        ≡ callOn number (arguments a b c d e f x y z) (hostBefore ps tb pb out ts) ⌝ }
 {
     if ts.len() != THREAD_PLACES {
         return EFAULT as u64;
@@ -153,7 +159,8 @@ fn serve_mask(
     given: u32,
     set: u64,
 ) -> u64
-    ensures { λ r. ⌜ (hostAfter ps tb pb out ts, r) ≡ callOn callSigmask (arguments thread way given 0 0 0 set 0 0) (hostBefore ps tb pb out ts) ⌝ }
+    ensures { λ r. ⌜ (hostAfter ps tb pb out ts, r)
+        ≡ callOn callSigmask (arguments thread way given 0 0 0 set 0 0) (hostBefore ps tb pb out ts) ⌝ }
 {
     if ts.len() != THREAD_PLACES {
         return EFAULT as u64;
@@ -185,7 +192,8 @@ pub extern "C" fn rrezhbuta_call(
     y: u64,
     z: u64,
 ) -> u64
-    ensures { λ r. ⌜ (hostAfter ps tb pb out ts, r) ≡ callOn number (arguments a b c d e f x y z) (hostBefore ps tb pb out ts) ⌝ }
+    ensures { λ r. ⌜ (hostAfter ps tb pb out ts, r)
+        ≡ callOn number (arguments a b c d e f x y z) (hostBefore ps tb pb out ts) ⌝ }
 {
     if number == CALL_SIGMASK {
         return serve_mask(ps, tb, pb, out, ts, a, b, c, x);
@@ -219,7 +227,8 @@ fn part_of<'a>(
     looking::look_part(ps, &ws, tb, pb, thread)
 }
 
-// The 32 bytes of the record that a thread takes next, in the buffer that holds it; an empty part for a mark, for nothing, and where the look is refused.
+// The 32 bytes of the record that a thread takes next, in the buffer that holds it;
+// an empty part for a mark, for nothing, and where the look is refused.
 pub fn look_part<'a>(ps: &[u64], tb: &'a [u8], pb: &'a [u8], ts: &[Thread], thread: u32) -> &'a [u8]
     ensures { λ r. ⌜ now r ≡ lookAt (now (ps .entry)) (now (tb .entry)) (now (pb .entry)) (now (ts .entry)) thread ⌝ }
 {
@@ -238,7 +247,8 @@ fn slot_of(ps: &[u64], tb: &[u8], pb: &[u8], ts: [Thread; THREAD_PLACES], thread
     looking::look_slot(ps, &ws, tb, pb, thread) as u64
 }
 
-// The same for a host that links it, which cannot be handed a part: 0 for the empty one, then the slots of the thread buffer from 1 on, then those of the process buffer.
+// The same for a host that links it, which cannot be handed a part: 0 for the empty one,
+// then the slots of the thread buffer from 1 on, then those of the process buffer.
 #[no_mangle]
 pub extern "C" fn rrezhbuta_look_slot(
     ps: &[u64],

@@ -1,4 +1,5 @@
--- What a record that is well aimed says of its place: it is live, it has the record's queue, and no other place has. Assumes nothing.
+-- What a record that is well aimed says of its place: it is live, it has the record's queue, and no other place has.
+-- Assumes nothing.
 use Prim.Native.Nat.{_≤_}
 use mathlib.Core.Path.{_≡_, sym, ap, ap₂, _∙_}
 use mathlib.Core.Bool.{Bool, true, not}
@@ -12,10 +13,12 @@ use Rattle.lists.proofs.Bools.{and-fst, and-snd, and-both}
 use Rattle.lists.proofs.Lists.{count-le, count-map}
 use Rattle.types.specs.declared.Siginfo.{Siginfo}
 use Rattle.rules.specs.Types.{Process, Thread, Queue}
-use Rattle.rules.specs.View.{isProcess, isThread, sameQueue, queueOf, processQueue, threadQueue, targetQueue, liveProcess, liveThread, theThread}
+use Rattle.rules.specs.View.{isProcess, isThread, sameQueue, queueOf, processQueue, threadQueue, targetQueue}
+use Rattle.rules.specs.View.{liveProcess, liveThread, theThread}
 use Rattle.rules.specs.Store.{Place, Store, held, view}
 use Rattle.rules.specs.Sound.{nameable, namesLive, aimedAtThread, aimedAtProcess}
-use Rattle.rules.proofs.Marks.{processWith, threadWith, the-thread, process-is, thread-is, process-named, thread-named, queue-same, same-queue}
+use Rattle.rules.proofs.Marks.{processWith, threadWith, the-thread, process-is, thread-is, process-named}
+use Rattle.rules.proofs.Marks.{thread-named, queue-same, same-queue}
 
 -- a test of values, and the places that pass it
 module _ {A : Type 0} (p t : A → Bool) (xs : List (Place A)) where
@@ -52,7 +55,8 @@ module _ (st : Store) (r : Siginfo) where
 
     pub thread-queue : sameQueue (threadQueue (threadWith st (r .thread) .holds)) (queueOf r) ≡ true
     thread-queue =
-        same-queue (threadQueue (threadWith st (r .thread) .holds)) (queueOf r) (ap₂ targetQueue thread-owner (thread-is st (r .thread) thread-live))
+        same-queue (threadQueue (threadWith st (r .thread) .holds)) (queueOf r)
+        (ap₂ targetQueue thread-owner (thread-is st (r .thread) thread-live))
 
     pub thread-queue-one : count (isThread (r .thread)) (map held (st .threads)) ≤ 1
         → count (λ (x : Place Thread). sameQueue (threadQueue (x .holds)) (queueOf r)) (st .threads) ≤ 1
@@ -60,7 +64,8 @@ module _ (st : Store) (r : Siginfo) where
     thread-queue-one =
         few (isThread (r .thread)) (λ (t : Thread). sameQueue (threadQueue t) (queueOf r)) (st .threads)
         (λ t k.
-        and-both (ap not (thread-named st (r .thread) thread-live)) (eq-eqb (t .id) (r .thread) (ap (λ (q : Queue). q .thread) (queue-same (threadQueue t) (queueOf r) k))))
+        and-both (ap not (thread-named st (r .thread) thread-live))
+        (eq-eqb (t .id) (r .thread) (ap (λ (q : Queue). q .thread) (queue-same (threadQueue t) (queueOf r) k))))
 
   module _ (e : aimedAtProcess (view st) r ≡ true) where
     pub process-live : liveProcess (view st) (r .process) ≡ true
@@ -73,7 +78,8 @@ module _ (st : Store) (r : Siginfo) where
 
     pub process-queue : sameQueue (processQueue (processWith st (r .process) .holds .id)) (queueOf r) ≡ true
     process-queue =
-        same-queue (processQueue (processWith st (r .process) .holds .id)) (queueOf r) (ap processQueue (process-is st (r .process) process-live) ∙ sym process-own)
+        same-queue (processQueue (processWith st (r .process) .holds .id)) (queueOf r)
+        (ap processQueue (process-is st (r .process) process-live) ∙ sym process-own)
 
     pub process-queue-one : count (isProcess (r .process)) (map held (st .processes)) ≤ 1
         → count (λ (x : Place Process). sameQueue (processQueue (x .holds .id)) (queueOf r)) (st .processes) ≤ 1
@@ -81,4 +87,6 @@ module _ (st : Store) (r : Siginfo) where
     process-queue-one =
         few (isProcess (r .process)) (λ (p : Process). sameQueue (processQueue (p .id)) (queueOf r)) (st .processes)
         (λ p k.
-        and-both (ap not (process-named st (r .process) process-live)) (eq-eqb (p .id) (r .process) (ap (λ (q : Queue). q .process) (queue-same (processQueue (p .id)) (queueOf r) k))))
+        and-both (ap not (process-named st (r .process) process-live))
+        (eq-eqb (p .id) (r .process)
+        (ap (λ (q : Queue). q .process) (queue-same (processQueue (p .id)) (queueOf r) k))))

@@ -1,4 +1,5 @@
--- Asking a thread yields a signal exactly when it should, and what is next for it is something that it may take. Assumes nothing.
+-- Asking a thread yields a signal exactly when it should, and what is next for it is something that it may take.
+-- Assumes nothing.
 use Prim.Native.Nat.{ℕ, _≤_}
 use mathlib.Core.Path.{_≡_, refl, sym, ap, ap₂, _∙_, subst}
 use mathlib.Core.Bool.{Bool, true, false, not, _&&_, _||_, cond}
@@ -8,7 +9,8 @@ use lib.Dec.{eqb}
 use borrow.Author.Tests.{eqb-true, eqb-false, eq-eqb, not-true, not-false}
 use Rattle.limits.specs.Limits.{signals, sigDfl}
 use Rattle.lists.specs.Lists.{any, range}
-use Rattle.lists.proofs.Bools.{split, clash, and-fst, and-snd, and-both, and-left, or-left, or-right, or-cases, cond-true, cond-false}
+use Rattle.lists.proofs.Bools.{split, clash, and-fst, and-snd, and-both, and-left, or-left, or-right, or-cases}
+use Rattle.lists.proofs.Bools.{cond-true, cond-false}
 use Rattle.lists.proofs.Lists.{Fail, any-All, All-any}
 use Rattle.lists.proofs.Loops.{All-range, All-range-at}
 use Rattle.sigset.specs.Set.{has}
@@ -18,7 +20,8 @@ use Rattle.types.specs.declared.Siginfo.{Siginfo}
 use Rattle.rules.specs.Types.{Thread, Queue, Next, noNext, nextRecord}
 use Rattle.rules.specs.Signals.{Outcome, ignores, stops, continues, ends, outcome}
 use Rattle.rules.specs.View.{View, threadQueue, processQueue, theProcess, threadAction, pendingIn, pendingFor}
-use Rattle.rules.specs.Taking.{isStopped, canTakeSignal, nextSignal, nextQueue, nextIn, next, outcomeAnswer, delivered, takeAnswer, markInfo}
+use Rattle.rules.specs.Taking.{isStopped, canTakeSignal, nextSignal, nextQueue, nextIn, next, outcomeAnswer}
+use Rattle.rules.specs.Taking.{delivered, takeAnswer, markInfo}
 use Rattle.rules.specs.Asking.{runs, isOffered, hasOffer, MayTake, isTaken}
 
 module _ (v : View) (t : Thread) where
@@ -34,7 +37,9 @@ module _ (v : View) (t : Thread) where
 
   takes : (s : ℕ) → runs v t ≡ true → isOffered v t s ≡ true → canTakeSignal v t s ≡ true
   unfolding canTakeSignal isStopped runs isOffered
-  takes s r o = and-both (ap (λ (b : Bool). not (not b)) r) (and-both (and-snd (not (has (t .mask) s)) _ o) (and-fst (not (has (t .mask) s)) _ o))
+  takes s r o =
+      and-both (ap (λ (b : Bool). not (not b)) r)
+      (and-both (and-snd (not (has (t .mask) s)) _ o) (and-fst (not (has (t .mask) s)) _ o))
 
   -- ---- whether there is one
 
@@ -47,7 +52,9 @@ module _ (v : View) (t : Thread) where
       (All-any (isOffered v t) (range 1 signals)
       (All-range (Fail (isOffered v t)) 1 signals
       (λ s l u.
-      split (isOffered v t s) (λ o. clash (takes s r o) (lowestOf-zero (canTakeSignal v t) z s (record { low = l; high = omega arith }))) (λ o. o)))))
+      split (isOffered v t s)
+      (λ o. clash (takes s r o) (lowestOf-zero (canTakeSignal v t) z s (record { low = l; high = omega arith })))
+      (λ o. o)))))
       (λ r. and-left (any (isOffered v t) (range 1 signals)) r)
 
   some-next : (nextSignal v t ≡ 0 → ⊥) → hasOffer v t ≡ true
@@ -60,7 +67,8 @@ module _ (v : View) (t : Thread) where
       and-both (c .0)
       (split (any (isOffered v t) (range 1 signals))
       (λ a. a)
-      (λ a. clash (c .1) (All-range-at (Fail (isOffered v t)) 1 signals (nextSignal v t) l (omega arith) (any-All (isOffered v t) (range 1 signals) a))))
+      (λ a. clash (c .1) (All-range-at (Fail (isOffered v t)) 1 signals (nextSignal v t) l (omega arith)
+      (any-All (isOffered v t) (range 1 signals) a))))
 
   offer-next : eqb (nextSignal v t) 0 ≡ not (hasOffer v t)
   offer-next =
@@ -79,7 +87,8 @@ module _ (v : View) (t : Thread) where
 
   pub delivered-yields : (a : Action) (r : Siginfo) → isTaken (delivered t a r) ≡ true
   unfolding delivered isTaken
-  delivered-yields a r = split (eqb (a .handler) sigDfl) (λ e. rw e (outcome-yields (outcome (r .signal)) (r .signal))) (λ e. rw e)
+  delivered-yields a r =
+      split (eqb (a .handler) sigDfl) (λ e. rw e (outcome-yields (outcome (r .signal)) (r .signal))) (λ e. rw e)
 
   next-yields : (o : Option Siginfo) (q : Queue) (s : ℕ) → isTaken (takeAnswer v t (nextIn v q s o)) ≡ true
   unfolding takeAnswer nextIn
@@ -92,12 +101,14 @@ module _ (v : View) (t : Thread) where
   asking-yields =
       split (eqb (nextSignal v t) 0)
       (λ e. rw e (sym (not-true (hasOffer v t) (sym offer-next ∙ e))))
-      (λ e. rw e (next-yields (v .oldest (nextQueue v t (nextSignal v t)) (nextSignal v t)) (nextQueue v t (nextSignal v t)) (nextSignal v t) ∙ sym (not-false (hasOffer v t) (sym offer-next ∙ e))))
+      (λ e. rw e (next-yields (v .oldest (nextQueue v t (nextSignal v t)) (nextSignal v t))
+      (nextQueue v t (nextSignal v t)) (nextSignal v t) ∙ sym (not-false (hasOffer v t) (sym offer-next ∙ e))))
 
   -- ---- what is next may be taken
 
   module _ (s : ℕ) (c : canTakeSignal v t s ≡ true) where
-    next-queue : (b : Bool) → pendingIn v (threadQueue t) s ≡ b → MayTake v t (cond b (threadQueue t) (processQueue (t .process))) s
+    next-queue : (b : Bool) → pendingIn v (threadQueue t) s ≡ b
+        → MayTake v t (cond b (threadQueue t) (processQueue (t .process))) s
     unfolding isOffered pendingFor
     next-queue true e =
         record {
@@ -108,7 +119,8 @@ module _ (v : View) (t : Thread) where
           pending = e;
         }
     next-queue false e =
-        let p : (pendingIn v (threadQueue t) s || pendingIn v (processQueue (t .process)) s) ≡ true = and-snd (not (has (t .mask) s)) _ (can-take s c .1) in
+        let p : (pendingIn v (threadQueue t) s || pendingIn v (processQueue (t .process)) s) ≡ true =
+        and-snd (not (has (t .mask) s)) _ (can-take s c .1) in
         record {
           process = refl;
           queue = or-right (eqb 0 (t .id)) refl;
@@ -119,13 +131,16 @@ module _ (v : View) (t : Thread) where
 
   next-may : (nextSignal v t ≡ 0 → ⊥) → MayTake v t (nextQueue v t (nextSignal v t)) (nextSignal v t)
   unfolding nextSignal nextQueue
-  next-may n = next-queue (nextSignal v t) (lowestOf-found (canTakeSignal v t) n .1) (pendingIn v (threadQueue t) (nextSignal v t)) refl
+  next-may n =
+      next-queue (nextSignal v t) (lowestOf-found (canTakeSignal v t) n .1)
+      (pendingIn v (threadQueue t) (nextSignal v t)) refl
 
   -- a record that is next: it is the oldest of its queue and signal, and may be taken
   Recorded : Next → Type 0
   Recorded n = (q : Queue) (s : ℕ) (r : Siginfo) → n ≡ nextRecord q s r → MayTake v t q s × (v .oldest q s ≡ some r)
 
-  recorded-in : (q : Queue) (s : ℕ) → MayTake v t q s → (o : Option Siginfo) → v .oldest q s ≡ o → Recorded (nextIn v q s o)
+  recorded-in : (q : Queue) (s : ℕ) → MayTake v t q s → (o : Option Siginfo) → v .oldest q s ≡ o
+      → Recorded (nextIn v q s o)
   unfolding nextIn Recorded
   recorded-in q s m none e q′ s′ r n = let z : _≡_ {A = ℕ} 0 1 = cc n in absurd (omega arith)
   recorded-in q s m (some x) e q′ s′ r n =
@@ -135,11 +150,13 @@ module _ (v : View) (t : Thread) where
       subst (λ (k : Queue). MayTake v t k s′ × (v .oldest k s′ ≡ some r)) zq
       (subst (λ (k : ℕ). MayTake v t q k × (v .oldest q k ≡ some r)) zs (m, e ∙ ap (λ (y : Siginfo). some y) zr))
 
-  pub next-record : (q : Queue) (s : ℕ) (r : Siginfo) → next v t ≡ nextRecord q s r → MayTake v t q s × (v .oldest q s ≡ some r)
+  pub next-record : (q : Queue) (s : ℕ) (r : Siginfo) → next v t ≡ nextRecord q s r
+      → MayTake v t q s × (v .oldest q s ≡ some r)
   unfolding next Recorded
   next-record q s r n =
       split (eqb (nextSignal v t) 0)
       (λ e. let z : _≡_ {A = ℕ} 0 1 = cc (sym (cond-true noNext _ e) ∙ n) in absurd (omega arith))
       (λ e.
-      recorded-in (nextQueue v t (nextSignal v t)) (nextSignal v t) (next-may (eqb-false (nextSignal v t) 0 e)) (v .oldest (nextQueue v t (nextSignal v t)) (nextSignal v t)) refl
+      recorded-in (nextQueue v t (nextSignal v t)) (nextSignal v t) (next-may (eqb-false (nextSignal v t) 0 e))
+      (v .oldest (nextQueue v t (nextSignal v t)) (nextSignal v t)) refl
       q s r (sym (cond-false noNext _ e) ∙ n))

@@ -1,4 +1,5 @@
--- What the changes of a call can be: one walk through the rules, for any statement about single changes. Assumes nothing.
+-- What the changes of a call can be: one walk through the rules, for any statement about single changes.
+-- Assumes nothing.
 use Prim.Native.Nat.{ℕ}
 use mathlib.Core.Path.{_≡_, refl, ap}
 use mathlib.Core.Bool.{Bool, true, false, cond}
@@ -17,8 +18,11 @@ use Rattle.rules.specs.Types.{Process, Thread, Queue, Next, noNext, next
 use Rattle.rules.specs.Types.{addThread, endProcess, endThread, kill, sigqueue, sigaction, sigmask, sigpending}
 use Rattle.rules.specs.Types.{look, who, take, sigreturn}
 use Rattle.rules.specs.Signals.{Outcome, ignores, stops, continues, ends, outcome, stopSignal, ignored}
-use Rattle.rules.specs.View.{View, Change, forget, newProcess, newThread, removeProcess, removeThread, setStopped, setAction, setMask, setMark, clearMark, append, dropOldest, discard, targetQueue, actionOf, theProcess, theThread, threadAction}
-use Rattle.rules.specs.Sending.{Generation, testing, killing, stopping, dropping, absorbing, marking, keeping, absorbs, generation, infoOf, jobControl, sendChanges, needsRecord}
+use Rattle.rules.specs.View.{View, Change, forget, newProcess, newThread, removeProcess, removeThread, setStopped}
+use Rattle.rules.specs.View.{setAction, setMask, setMark, clearMark, append, dropOldest, discard, targetQueue}
+use Rattle.rules.specs.View.{actionOf, theProcess, theThread, threadAction}
+use Rattle.rules.specs.Sending.{Generation, testing, killing, stopping, dropping, absorbing, marking, keeping}
+use Rattle.rules.specs.Sending.{absorbs, generation, infoOf, jobControl, sendChanges, needsRecord}
 use Rattle.rules.specs.Actions.{stored, storeChanges, actionChanges, maskChanges}
 use Rattle.rules.specs.Taking.{next, resets, reset, resetChanges, outcomeChanges, deliver, takeChanges}
 use Rattle.rules.specs.Asking.{takenBy}
@@ -45,7 +49,9 @@ pub data Keeps (v : View) : Call → Siginfo → Type 0 where
       → Keeps v (sigqueue by to t s value) (infoOf v by to t s value)
 
 -- a plain send keeps no record
-plain-generation : (a b c d e : Bool) → needsRecord (cond a testing (cond b killing (cond c stopping (cond d dropping (cond e absorbing marking))))) ≡ false
+plain-generation : (a b c d e : Bool)
+    → needsRecord (cond a testing (cond b killing (cond c stopping (cond d dropping (cond e absorbing marking)))))
+    ≡ false
 unfolding needsRecord
 plain-generation true b c d e = refl
 plain-generation false true c d e = refl
@@ -56,7 +62,9 @@ plain-generation false false false false false = refl
 
 pub plain-send : (v : View) (q : Queue) (s : ℕ) → needsRecord (generation v false q s) ≡ false
 unfolding generation
-plain-send v q s = plain-generation (eqb s 0) (eqb s SIGKILL) (eqb s SIGSTOP) (ignored (actionOf (theProcess v (q .process)) s) s) (absorbs v false q s)
+plain-send v q s =
+    plain-generation (eqb s 0) (eqb s SIGKILL) (eqb s SIGSTOP) (ignored (actionOf (theProcess v (q .process)) s) s)
+    (absorbs v false q s)
 
 -- a record is needed where one is kept
 pub needs-keeping : (f : Generation) → f ≡ keeping → needsRecord f ≡ true
@@ -76,7 +84,8 @@ keeping-needs keeping e = refl
 module _ (P : Change → Type 0) (h : Quiet P) where
   store-made : (p s : ℕ) (a : Action) → All P (storeChanges p s a)
   unfolding storeChanges
-  store-made p s a = split (ignored a s) (λ e. rw e (h .discards p (ofSignal s), (h .acts p s a, tt))) (λ e. rw e (h .acts p s a, tt))
+  store-made p s a =
+      split (ignored a s) (λ e. rw e (h .discards p (ofSignal s), (h .acts p s a, tt))) (λ e. rw e (h .acts p s a, tt))
 
   action-made : (p s : ℕ) (new : Option Action) → All P (actionChanges p s new)
   unfolding actionChanges
@@ -106,8 +115,11 @@ module _ (P : Change → Type 0) (h : Quiet P) where
   send-made stopping r k = job-made (r .process) (r .signal)
   send-made dropping r k = job-made (r .process) (r .signal)
   send-made absorbing r k = job-made (r .process) (r .signal)
-  send-made marking r k = All-append P (jobControl (r .process) (r .signal)) _ (job-made (r .process) (r .signal)) (h .marks _ (r .signal), tt)
-  send-made keeping r k = All-append P (jobControl (r .process) (r .signal)) _ (job-made (r .process) (r .signal)) (k refl, tt)
+  send-made marking r k =
+      All-append P (jobControl (r .process) (r .signal)) _ (job-made (r .process) (r .signal))
+      (h .marks _ (r .signal), tt)
+  send-made keeping r k =
+      All-append P (jobControl (r .process) (r .signal)) _ (job-made (r .process) (r .signal)) (k refl, tt)
 
   reset-made : (p s : ℕ) (a : Action) → All P (resetChanges p s a)
   unfolding resetChanges
@@ -128,7 +140,8 @@ module _ (P : Change → Type 0) (h : Quiet P) where
       (λ e. rw e (h .masks (t .id) _, reset-made (t .process) s a))
 
   module _ (v : View) where
-    take-made : (t : Thread) (n : Next) → ((q : Queue) (s : ℕ) (r : Siginfo) → n ≡ nextRecord q s r → P (dropOldest q s)) → All P (takeChanges v t n)
+    take-made : (t : Thread) (n : Next)
+        → ((q : Queue) (s : ℕ) (r : Siginfo) → n ≡ nextRecord q s r → P (dropOldest q s)) → All P (takeChanges v t n)
     unfolding takeChanges
     take-made t noNext d = tt
     take-made t (nextMark q s) d = (h .unmarks q s, deliver-made t (threadAction v t s) s)
@@ -139,14 +152,18 @@ module _ (P : Change → Type 0) (h : Quiet P) where
     end-made false x y e f = (f, tt)
 
     pub changes-made : (c : Call) → ((r : Siginfo) → Keeps v c r → P (append r))
-        → ((q : Queue) (s : ℕ) (r : Siginfo) → takenBy v c ≡ nextRecord q s r → P (dropOldest q s)) → All P (changes v c)
+        → ((q : Queue) (s : ℕ) (r : Siginfo) → takenBy v c ≡ nextRecord q s r → P (dropOldest q s))
+        → All P (changes v c)
     unfolding changes send addProcessChanges addThreadChanges endThreadChanges takenBy
     changes-made clear k d = (h .forgets, tt)
     changes-made (addProcess new) k d = (h .comes _, (h .joins _, tt))
     changes-made (addThread creator id) k d = (h .joins _, tt)
     changes-made (endProcess id) k d = (h .ended id, tt)
-    changes-made (endThread id) k d = end-made (any (otherThread v (theThread v id)) (v .threads)) _ _ (h .left _) (h .ended _)
-    changes-made (kill by to t s) k d = send-made (generation v false (targetQueue to t) s) (infoOf v by to t s 0) (λ e. clash (needs-keeping (generation v false (targetQueue to t) s) e) (plain-send v (targetQueue to t) s))
+    changes-made (endThread id) k d =
+        end-made (any (otherThread v (theThread v id)) (v .threads)) _ _ (h .left _) (h .ended _)
+    changes-made (kill by to t s) k d =
+        send-made (generation v false (targetQueue to t) s) (infoOf v by to t s 0)
+        (λ e. clash (needs-keeping (generation v false (targetQueue to t) s) e) (plain-send v (targetQueue to t) s))
     changes-made (sigqueue by to t s value) k d =
         send-made (generation v true (targetQueue to t) s) (infoOf v by to t s value) (λ e. k _ (queued e))
     changes-made (sigaction p s new) k d = action-made p s new

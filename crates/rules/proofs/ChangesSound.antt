@@ -1,9 +1,11 @@
--- A change that fits leaves a sound store sound, and so does a list of changes of which each fits the store that those before it leave. Assumes nothing.
+-- A change that fits leaves a sound store sound, and so does a list of changes of which each fits the store that those
+-- before it leave. Assumes nothing.
 use mathlib.Core.Path.{_≡_, refl}
 use mathlib.Core.Bool.{true}
 use mathlib.Core.List.{List, [], _∷_}
 use Rattle.lists.proofs.Bools.{clash, and-fst, and-snd}
-use Rattle.rules.specs.View.{Change, forget, newProcess, newThread, removeProcess, removeThread, setStopped, setAction, setMask, setMark, clearMark, append, dropOldest, discard}
+use Rattle.rules.specs.View.{Change, forget, newProcess, newThread, removeProcess, removeThread, setStopped}
+use Rattle.rules.specs.View.{setAction, setMask, setMark, clearMark, append, dropOldest, discard}
 use Rattle.rules.specs.Store.{Store, view, apply, applyAll}
 use Rattle.rules.specs.Sound.{sound}
 use Rattle.rules.specs.Fitting.{fits, fitsAll}
@@ -34,7 +36,8 @@ fits-keeps (append r) st e f = append-sound st e r f
 fits-keeps (dropOldest q s) st e f = dropOldest-sound st e q s
 fits-keeps (discard p signals) st e f = discard-sound st e p signals
 
-pub fits-all-keep : (cs : List Change) (st : Store) → sound st ≡ true → fitsAll cs st ≡ true → sound (applyAll cs st) ≡ true
+pub fits-all-keep : (cs : List Change) (st : Store) → sound st ≡ true → fitsAll cs st ≡ true
+    → sound (applyAll cs st) ≡ true
 unfolding fitsAll applyAll
 fits-all-keep [] st e f = e
 fits-all-keep (c ∷ cs) st e f =

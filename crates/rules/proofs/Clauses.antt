@@ -3,7 +3,9 @@ use mathlib.Core.Path.{_≡_}
 use mathlib.Core.Bool.{true}
 use Rattle.lists.proofs.Bools.{and-fst, and-snd, and-both}
 use Rattle.rules.specs.Store.{Store}
-use Rattle.rules.specs.Sound.{lengthsRight, freeZero, idsInRange, idsDistinct, fieldsInRange, threadsOwned, processesHaveThreads, nothingUnmaskable, unmaskableDefault, allFlagsKnown, recordsLaidOut, limitKept, pendingOnce, nothingIgnored, sound}
+use Rattle.rules.specs.Sound.{lengthsRight, freeZero, idsInRange, idsDistinct, fieldsInRange, threadsOwned}
+use Rattle.rules.specs.Sound.{processesHaveThreads, nothingUnmaskable, unmaskableDefault, allFlagsKnown}
+use Rattle.rules.specs.Sound.{recordsLaidOut, limitKept, pendingOnce, nothingIgnored, sound}
 
 pub record Clauses (st : Store) : Type 0 where
   pub lengths : lengthsRight st ≡ true

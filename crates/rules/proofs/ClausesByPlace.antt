@@ -16,7 +16,12 @@ use Rattle.types.specs.Values.{defaultAction, noSiginfo}
 use Rattle.rules.specs.Types.{Process, Thread}
 use Rattle.rules.specs.View.{actionOf}
 use Rattle.rules.specs.Store.{Place, Store, freeProcess, freeThread, used, queuedIn, view}
-use Rattle.rules.specs.Sound.{isLive, apart, ifLive, ifFree, processId, threadId, actionsLong, isDefault, zeroProcess, zeroThread, goodProcessId, goodThreadId, goodUser, fieldsFit, belongs, hasThread, actionUnmasked, processUnmasked, threadUnmasked, killStopDefault, flagsKnown, processFlagsKnown, restZero, aimedAtThread, aimedAtProcess, withinLimit, isStandard, notTwice, notMarkedToo, recordNotIgnored, processNotIgnored, threadNotIgnored, sound}
+use Rattle.rules.specs.Sound.{isLive, apart, ifLive, ifFree, processId, threadId, actionsLong, isDefault}
+use Rattle.rules.specs.Sound.{zeroProcess, zeroThread, goodProcessId, goodThreadId, goodUser, fieldsFit, belongs}
+use Rattle.rules.specs.Sound.{hasThread, actionUnmasked, processUnmasked, threadUnmasked, killStopDefault}
+use Rattle.rules.specs.Sound.{flagsKnown, processFlagsKnown, restZero, aimedAtThread, aimedAtProcess, withinLimit}
+use Rattle.rules.specs.Sound.{isStandard, notTwice, notMarkedToo, recordNotIgnored, processNotIgnored}
+use Rattle.rules.specs.Sound.{threadNotIgnored, sound}
 use Rattle.rules.proofs.ClausesByTable.{Parts, parts, sound-of}
 use Rattle.rules.proofs.Unmaskable.{unmasked-empty}
 
@@ -39,7 +44,8 @@ pub record OwnThread (x : Place Thread) : Type 0 where
 
 -- a free place has it
 pub own-free-process : OwnProcess freeProcess
-unfolding actionsLong zeroProcess isDefault goodUser fieldsFit processUnmasked actionUnmasked killStopDefault actionOf processFlagsKnown flagsKnown
+unfolding actionsLong zeroProcess isDefault goodUser fieldsFit processUnmasked actionUnmasked killStopDefault actionOf
+    processFlagsKnown flagsKnown
 own-free-process =
     let l : List Action = replicate signals defaultAction in
     let a : all isDefault l ≡ true = all-replicate isDefault defaultAction refl signals in
@@ -49,7 +55,9 @@ own-free-process =
       ids = refl;
       fields = refl;
       sets = and-both unmasked-empty (all-replicate actionUnmasked defaultAction unmasked-empty signals);
-      defaults = and-both (all-getD isDefault l (SIGKILL - 1) defaultAction refl a) (all-getD isDefault l (SIGSTOP - 1) defaultAction refl a);
+      defaults =
+          and-both (all-getD isDefault l (SIGKILL - 1) defaultAction refl a)
+          (all-getD isDefault l (SIGSTOP - 1) defaultAction refl a);
       flags = all-replicate flagsKnown defaultAction refl signals;
       not-ignored = refl;
     }
@@ -98,12 +106,14 @@ module _ (st : Store) where
   abbrev pub HaveThreads : Type 0
   HaveThreads = All (Pass (ifLive processId (hasThread (view st)))) (st .processes)
 
-  pub limit-by : (x : Place Process) → queuedIn st (x .holds .id) ≤ recordLimit → ifLive processId (withinLimit st) x ≡ true
+  pub limit-by : (x : Place Process) → queuedIn st (x .holds .id) ≤ recordLimit
+      → ifLive processId (withinLimit st) x ≡ true
   limit-by x h = imp-by (isLive processId x) (λ _. le-leb (queuedIn st (x .holds .id)) recordLimit h)
 
   -- ---- from a sound store
 
-  records-of : (aimed : Siginfo → Bool) (rs : List Siginfo) → all aimed rs ≡ true → all (notMarkedToo st) rs ≡ true → all (recordNotIgnored (view st)) rs ≡ true
+  records-of : (aimed : Siginfo → Bool) (rs : List Siginfo) → all aimed rs ≡ true → all (notMarkedToo st) rs ≡ true
+      → all (recordNotIgnored (view st)) rs ≡ true
       → All (GoodRecord aimed) rs
   records-of aimed rs a u h =
       All-each (GoodRecord aimed) rs noSiginfo
@@ -121,7 +131,8 @@ module _ (st : Store) where
         processes =
             All-each GoodProcess (st .processes) freeProcess
             (λ i l.
-            let at : (f : Place Process → Bool) → all f (st .processes) ≡ true → _ = λ f a. all-at f freeProcess (st .processes) i l a in
+            let at : (f : Place Process → Bool) → all f (st .processes) ≡ true → _ =
+            λ f a. all-at f freeProcess (st .processes) i l a in
             record {
               own =
                   record {
@@ -141,7 +152,8 @@ module _ (st : Store) where
         threads =
             All-each GoodThread (st .threads) freeThread
             (λ i l.
-            let at : (f : Place Thread → Bool) → all f (st .threads) ≡ true → _ = λ f a. all-at f freeThread (st .threads) i l a in
+            let at : (f : Place Thread → Bool) → all f (st .threads) ≡ true → _ =
+            λ f a. all-at f freeThread (st .threads) i l a in
             record {
               own =
                   record {
@@ -156,12 +168,16 @@ module _ (st : Store) where
         threadBuffer =
             record {
               laid = record { long = p .lengths .threadSlots; rest = p .threadRest; once = p .threadOnce };
-              records = records-of (aimedAtThread (view st)) (used (st .threadBuffer)) (p .threadAimed) (p .threadUnmarked) (p .threadRecordsNotIgnored);
+              records =
+                  records-of (aimedAtThread (view st)) (used (st .threadBuffer)) (p .threadAimed) (p .threadUnmarked)
+                  (p .threadRecordsNotIgnored);
             };
         processBuffer =
             record {
               laid = record { long = p .lengths .processSlots; rest = p .processRest; once = p .processOnce };
-              records = records-of (aimedAtProcess (view st)) (used (st .processBuffer)) (p .processAimed) (p .processUnmarked) (p .processRecordsNotIgnored);
+              records =
+                  records-of (aimedAtProcess (view st)) (used (st .processBuffer)) (p .processAimed)
+                  (p .processUnmarked) (p .processRecordsNotIgnored);
             };
       }
 
@@ -171,19 +187,23 @@ module _ (st : Store) where
   pub have-threads : sound st ≡ true → HaveThreads
   have-threads e =
       All-each (Pass (ifLive processId (hasThread (view st)))) (st .processes) freeProcess
-      (λ i l. all-at (ifLive processId (hasThread (view st))) freeProcess (st .processes) i l (parts st e .have-threads))
+      (λ i l. all-at (ifLive processId (hasThread (view st))) freeProcess (st .processes) i l
+      (parts st e .have-threads))
 
   -- ---- to a sound store
 
-  ofRecords : (aims : Siginfo → Bool) (slots : List Siginfo) → GoodBuffer aims slots → (f : Siginfo → Bool) → ((r : Siginfo) → GoodRecord aims r → f r ≡ true)
+  ofRecords : (aims : Siginfo → Bool) (slots : List Siginfo) → GoodBuffer aims slots → (f : Siginfo → Bool)
+      → ((r : Siginfo) → GoodRecord aims r → f r ≡ true)
       → all f (used slots) ≡ true
   ofRecords aims slots b f h = All-all f (used slots) (All-imp (GoodRecord aims) (Pass f) h (used slots) (b .records))
 
   module _ (g : Good) where
-    ofProcesses : (f : Place Process → Bool) → ((x : Place Process) → GoodProcess x → f x ≡ true) → all f (st .processes) ≡ true
+    ofProcesses : (f : Place Process → Bool) → ((x : Place Process) → GoodProcess x → f x ≡ true)
+        → all f (st .processes) ≡ true
     ofProcesses f h = All-all f (st .processes) (All-imp GoodProcess (Pass f) h (st .processes) (g .processes))
 
-    ofThreads : (f : Place Thread → Bool) → ((x : Place Thread) → GoodThread x → f x ≡ true) → all f (st .threads) ≡ true
+    ofThreads : (f : Place Thread → Bool) → ((x : Place Thread) → GoodThread x → f x ≡ true)
+        → all f (st .threads) ≡ true
     ofThreads f h = All-all f (st .threads) (All-imp GoodThread (Pass f) h (st .threads) (g .threads))
 
     pub good-sound : HaveThreads → sound st ≡ true
@@ -215,13 +235,25 @@ module _ (st : Store) where
           threadSets = ofThreads threadUnmasked (λ x k. k .own .sets);
           threadMarksNotIgnored = ofThreads (ifLive threadId (threadNotIgnored (view st))) (λ x k. k .not-ignored);
           threadRest = g .threadBuffer .laid .rest;
-          threadAimed = ofRecords (aimedAtThread (view st)) (st .threadBuffer) (g .threadBuffer) (aimedAtThread (view st)) (λ r k. k .aimed);
+          threadAimed =
+              ofRecords (aimedAtThread (view st)) (st .threadBuffer) (g .threadBuffer) (aimedAtThread (view st))
+              (λ r k. k .aimed);
           threadOnce = g .threadBuffer .laid .once;
-          threadUnmarked = ofRecords (aimedAtThread (view st)) (st .threadBuffer) (g .threadBuffer) (notMarkedToo st) (λ r k. k .unmarked);
-          threadRecordsNotIgnored = ofRecords (aimedAtThread (view st)) (st .threadBuffer) (g .threadBuffer) (recordNotIgnored (view st)) (λ r k. k .not-ignored);
+          threadUnmarked =
+              ofRecords (aimedAtThread (view st)) (st .threadBuffer) (g .threadBuffer) (notMarkedToo st)
+              (λ r k. k .unmarked);
+          threadRecordsNotIgnored =
+              ofRecords (aimedAtThread (view st)) (st .threadBuffer) (g .threadBuffer) (recordNotIgnored (view st))
+              (λ r k. k .not-ignored);
           processRest = g .processBuffer .laid .rest;
-          processAimed = ofRecords (aimedAtProcess (view st)) (st .processBuffer) (g .processBuffer) (aimedAtProcess (view st)) (λ r k. k .aimed);
+          processAimed =
+              ofRecords (aimedAtProcess (view st)) (st .processBuffer) (g .processBuffer) (aimedAtProcess (view st))
+              (λ r k. k .aimed);
           processOnce = g .processBuffer .laid .once;
-          processUnmarked = ofRecords (aimedAtProcess (view st)) (st .processBuffer) (g .processBuffer) (notMarkedToo st) (λ r k. k .unmarked);
-          processRecordsNotIgnored = ofRecords (aimedAtProcess (view st)) (st .processBuffer) (g .processBuffer) (recordNotIgnored (view st)) (λ r k. k .not-ignored);
+          processUnmarked =
+              ofRecords (aimedAtProcess (view st)) (st .processBuffer) (g .processBuffer) (notMarkedToo st)
+              (λ r k. k .unmarked);
+          processRecordsNotIgnored =
+              ofRecords (aimedAtProcess (view st)) (st .processBuffer) (g .processBuffer) (recordNotIgnored (view st))
+              (λ r k. k .not-ignored);
         })

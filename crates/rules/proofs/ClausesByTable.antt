@@ -1,4 +1,5 @@
--- The clauses of soundness table by table and buffer by buffer: what is taken from a sound store, and what makes one. Assumes nothing.
+-- The clauses of soundness table by table and buffer by buffer: what is taken from a sound store, and what makes one.
+-- Assumes nothing.
 use mathlib.Core.Path.{_≡_}
 use mathlib.Core.Bool.{true}
 use lib.Dec.{eqb}
@@ -8,7 +9,14 @@ use Rattle.limits.specs.Limits.{processPlaces, threadPlaces, bufferRecords}
 use Rattle.lists.specs.Lists.{all, pairsWhere}
 use Rattle.lists.proofs.Bools.{and-fst, and-snd, and-both}
 use Rattle.rules.specs.Store.{Store, used, view}
-use Rattle.rules.specs.Sound.{isLive, apart, ifLive, ifFree, processId, threadId, actionsLong, lengthsRight, zeroProcess, zeroThread, freeZero, goodProcessId, goodThreadId, idsInRange, idsDistinct, fieldsFit, fieldsInRange, belongs, hasThread, threadsOwned, processesHaveThreads, processUnmasked, threadUnmasked, nothingUnmaskable, killStopDefault, unmaskableDefault, processFlagsKnown, allFlagsKnown, restZero, aimedAtThread, aimedAtProcess, recordsLaidOut, withinLimit, limitKept, isStandard, notTwice, notMarkedToo, pendingOnce, recordNotIgnored, processNotIgnored, threadNotIgnored, nothingIgnored, sound}
+use Rattle.rules.specs.Sound.{isLive, apart, ifLive, ifFree, processId, threadId, actionsLong, lengthsRight}
+use Rattle.rules.specs.Sound.{zeroProcess, zeroThread, freeZero, goodProcessId, goodThreadId, idsInRange}
+use Rattle.rules.specs.Sound.{idsDistinct, fieldsFit, fieldsInRange, belongs, hasThread, threadsOwned}
+use Rattle.rules.specs.Sound.{processesHaveThreads, processUnmasked, threadUnmasked, nothingUnmaskable}
+use Rattle.rules.specs.Sound.{killStopDefault, unmaskableDefault, processFlagsKnown, allFlagsKnown, restZero}
+use Rattle.rules.specs.Sound.{aimedAtThread, aimedAtProcess, recordsLaidOut, withinLimit, limitKept, isStandard}
+use Rattle.rules.specs.Sound.{notTwice, notMarkedToo, pendingOnce, recordNotIgnored, processNotIgnored}
+use Rattle.rules.specs.Sound.{threadNotIgnored, nothingIgnored, sound}
 use Rattle.rules.proofs.Clauses.{Clauses, clauses, sound-by}
 
 pub record Lengths (st : Store) : Type 0 where
@@ -25,11 +33,16 @@ lengths-of st e =
     let e2 = and-snd (all actionsLong (st .processes)) _ e1 in
     let e3 = and-snd (eqb (length (st .threads)) threadPlaces) _ e2 in
     record {
-      processes = eqb-true (length (st .processes)) processPlaces (and-fst (eqb (length (st .processes)) processPlaces) _ e);
+      processes =
+          eqb-true (length (st .processes)) processPlaces (and-fst (eqb (length (st .processes)) processPlaces) _ e);
       actions = and-fst (all actionsLong (st .processes)) _ e1;
       threads = eqb-true (length (st .threads)) threadPlaces (and-fst (eqb (length (st .threads)) threadPlaces) _ e2);
-      threadSlots = eqb-true (length (st .threadBuffer)) bufferRecords (and-fst (eqb (length (st .threadBuffer)) bufferRecords) _ e3);
-      processSlots = eqb-true (length (st .processBuffer)) bufferRecords (and-snd (eqb (length (st .threadBuffer)) bufferRecords) _ e3);
+      threadSlots =
+          eqb-true (length (st .threadBuffer)) bufferRecords
+          (and-fst (eqb (length (st .threadBuffer)) bufferRecords) _ e3);
+      processSlots =
+          eqb-true (length (st .processBuffer)) bufferRecords
+          (and-snd (eqb (length (st .threadBuffer)) bufferRecords) _ e3);
     }
 
 pub lengths-by : (st : Store) → Lengths st → lengthsRight st ≡ true
@@ -38,7 +51,8 @@ lengths-by st l =
     and-both (eq-eqb (length (st .processes)) processPlaces (l .processes))
     (and-both (l .actions)
     (and-both (eq-eqb (length (st .threads)) threadPlaces (l .threads))
-    (and-both (eq-eqb (length (st .threadBuffer)) bufferRecords (l .threadSlots)) (eq-eqb (length (st .processBuffer)) bufferRecords (l .processSlots)))))
+    (and-both (eq-eqb (length (st .threadBuffer)) bufferRecords (l .threadSlots))
+    (eq-eqb (length (st .processBuffer)) bufferRecords (l .processSlots)))))
 
 pub record Parts (st : Store) : Type 0 where
   pub lengths : Lengths st
@@ -75,7 +89,8 @@ pub record Parts (st : Store) : Type 0 where
 
 module _ (st : Store) where
   parts-of : Clauses st → Parts st
-  unfolding freeZero idsInRange idsDistinct fieldsInRange threadsOwned processesHaveThreads nothingUnmaskable unmaskableDefault allFlagsKnown recordsLaidOut limitKept pendingOnce nothingIgnored
+  unfolding freeZero idsInRange idsDistinct fieldsInRange threadsOwned processesHaveThreads nothingUnmaskable
+      unmaskableDefault allFlagsKnown recordsLaidOut limitKept pendingOnce nothingIgnored
   parts-of c =
       let l1 = and-snd (restZero (st .threadBuffer)) _ (c .laidOut) in
       let l2 = and-snd (restZero (st .processBuffer)) _ l1 in
@@ -114,7 +129,8 @@ module _ (st : Store) where
       }
 
   clauses-by : Parts st → Clauses st
-  unfolding freeZero idsInRange idsDistinct fieldsInRange threadsOwned processesHaveThreads nothingUnmaskable unmaskableDefault allFlagsKnown recordsLaidOut limitKept pendingOnce nothingIgnored
+  unfolding freeZero idsInRange idsDistinct fieldsInRange threadsOwned processesHaveThreads nothingUnmaskable
+      unmaskableDefault allFlagsKnown recordsLaidOut limitKept pendingOnce nothingIgnored
   clauses-by p =
       record {
         lengths = lengths-by st (p .lengths);
@@ -130,7 +146,9 @@ module _ (st : Store) where
         laidOut = and-both (p .threadRest) (and-both (p .processRest) (and-both (p .threadAimed) (p .processAimed)));
         limit = p .limit;
         once = and-both (p .threadOnce) (and-both (p .processOnce) (and-both (p .threadUnmarked) (p .processUnmarked)));
-        not-ignored = and-both (p .processMarksNotIgnored) (and-both (p .threadMarksNotIgnored) (and-both (p .threadRecordsNotIgnored) (p .processRecordsNotIgnored)));
+        not-ignored =
+            and-both (p .processMarksNotIgnored)
+            (and-both (p .threadMarksNotIgnored) (and-both (p .threadRecordsNotIgnored) (p .processRecordsNotIgnored)));
       }
 
   pub parts : sound st ≡ true → Parts st

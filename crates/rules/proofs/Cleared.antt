@@ -14,7 +14,8 @@ use Rattle.rules.specs.Types.{sigaction, sigmask, sigpending, look, who,
 use Rattle.rules.specs.View.{isProcess, isThread, liveProcess, liveThread}
 use Rattle.rules.specs.Store.{Place, held, freeProcess, freeThread, cleared, view}
 use Rattle.rules.specs.Sound.{sound}
-use Rattle.rules.specs.Refusals.{refusal, badId, overLast, badAction, badWay, noProcessLive, noThreadLive, badTarget, noProcessPlace, noThreadPlace, rows, table, refusalOf}
+use Rattle.rules.specs.Refusals.{refusal, badId, overLast, badAction, badWay, noProcessLive, noThreadLive}
+use Rattle.rules.specs.Refusals.{badTarget, noProcessPlace, noThreadPlace, rows, table, refusalOf}
 use Rattle.rules.specs.Computing.{computing}
 use Rattle.rules.proofs.RefusalTable.{no-fault}
 
@@ -30,7 +31,8 @@ no-id zero = refl
 no-id (suc n) = and-right (not (eqb (suc n) 0)) (eqb·zero-suc n)
 
 -- none of so many places that hold the same passes a test that this fails
-none-held : {A : Type 0} (p : A → Bool) (x : Place A) (n : ℕ) → p (x .holds) ≡ false → any p (map held (replicate n x)) ≡ false
+none-held : {A : Type 0} (p : A → Bool) (x : Place A) (n : ℕ) → p (x .holds) ≡ false
+    → any p (map held (replicate n x)) ≡ false
 none-held {A} p x n e = any-map p held (replicate n x) ∙ any-replicate (λ (y : Place A). p (y .holds)) x e n
 
 pub no-process : (n : ℕ) → liveProcess (view cleared) n ≡ false

@@ -26,7 +26,8 @@ use Rattle.rules.proofs.PendingInView.{cutting, discarding}
 
 -- no mark is new
 pub unmarked-sound : (st : Store) → sound st ≡ true → (g : Queue → SigSet → SigSet)
-    → ((q : Queue) (m : SigSet) (s : ℕ) → Signal s → has (g q m) s ≡ true → has m s ≡ true) → ((q : Queue) → g q empty ≡ empty)
+    → ((q : Queue) (m : SigSet) (s : ℕ) → Signal s → has (g q m) s ≡ true → has m s ≡ true)
+    → ((q : Queue) → g q empty ≡ empty)
     → sound (onMarks g st) ≡ true
 unmarked-sound st e g h z =
     marks-sound st g (λ q s. false)
@@ -44,7 +45,8 @@ unfolding without
 without-empty x = set-none _ (λ s h. and-left (not (has x s)) (has-empty s))
 
 -- a signal that some sets lose
-pub cut-has : (b : Bool) (m x : SigSet) (s : ℕ) → Signal s → has (cond b (without m x) m) s ≡ (has m s && not (b && has x s))
+pub cut-has : (b : Bool) (m x : SigSet) (s : ℕ) → Signal s
+    → has (cond b (without m x) m) s ≡ (has m s && not (b && has x s))
 cut-has true m x s h = has-without m x s h
 cut-has false m x s h = sym (and-true (has m s))
 
@@ -56,7 +58,8 @@ cut-sound st e c x =
 
 -- ---- records
 
-module _ (g : List Siginfo → List Siginfo) (w : (rs : List Siginfo) → Within (g rs) rs) (st : Store) (e : sound st ≡ true) where
+module _ (g : List Siginfo → List Siginfo) (w : (rs : List Siginfo) → Within (g rs) rs) (st : Store)
+    (e : sound st ≡ true) where
   abbrev k : Good st
   k = good st e
 
@@ -65,11 +68,13 @@ module _ (g : List Siginfo → List Siginfo) (w : (rs : List Siginfo) → Within
   shrunk-both =
       buffers-sound st (onSlots g (st .threadBuffer)) (onSlots g (st .processBuffer))
       (λ p. omega (arith, queued-within g w st p, within-limit st e p))
-      e (buffer-within g w (st .threadBuffer) st _ (k .threadBuffer)) (buffer-within g w (st .processBuffer) st _ (k .processBuffer))
+      e (buffer-within g w (st .threadBuffer) st _ (k .threadBuffer))
+      (buffer-within g w (st .processBuffer) st _ (k .processBuffer))
 
   -- of the one buffer or of the other
   shrunk-one : (b : Bool)
-      → sound (withBuffers (cond b (st .threadBuffer) (onSlots g (st .threadBuffer))) (cond b (onSlots g (st .processBuffer)) (st .processBuffer)) st) ≡ true
+      → sound (withBuffers (cond b (st .threadBuffer) (onSlots g (st .threadBuffer)))
+      (cond b (onSlots g (st .processBuffer)) (st .processBuffer)) st) ≡ true
   unfolding queuedIn
   shrunk-one true =
       buffers-sound st (st .threadBuffer) (onSlots g (st .processBuffer))
@@ -89,7 +94,8 @@ module _ (st : Store) (e : sound st ≡ true) where
   pub discard-sound : (p : ℕ) (signals : SigSet) → sound (apply (discard p signals) st) ≡ true
   unfolding apply
   discard-sound p signals =
-      shrunk-both (keep (leftBy p signals)) (keep-within (leftBy p signals)) (onMarks (discarding p signals) st) (cut-sound st e (λ q. eqb (q .process) p) signals)
+      shrunk-both (keep (leftBy p signals)) (keep-within (leftBy p signals)) (onMarks (discarding p signals) st)
+      (cut-sound st e (λ q. eqb (q .process) p) signals)
 
   pub clearMark-sound : (q : Queue) (s : ℕ) → sound (apply (clearMark q s) st) ≡ true
   unfolding apply

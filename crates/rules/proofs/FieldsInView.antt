@@ -1,4 +1,5 @@
--- What is in view after a process is stopped or continued, after a new action, and after a new mask: one entry differs, the rest is the same. Assumes nothing.
+-- What is in view after a process is stopped or continued, after a new action, and after a new mask:
+-- one entry differs, the rest is the same. Assumes nothing.
 use Prim.Native.Nat.{ℕ, _-_, _<_}
 use mathlib.Core.Path.{_≡_, refl, sym, ap, ap₂, subst, _∙_}
 use mathlib.Core.Bool.{Bool, true, false, not, _&&_, _||_}
@@ -20,8 +21,11 @@ use Rattle.types.specs.declared.Action.{Action}
 use Rattle.types.specs.Values.{defaultAction}
 use Rattle.rules.specs.Types.{Process, Thread, Queue, noProcess, noThread}
 use Rattle.rules.specs.Signals.{isSignal}
-use Rattle.rules.specs.View.{View, setStopped, setMask, isProcess, isThread, sameQueue, processQueue, targetQueue, actionOf, liveProcess, liveThread, theProcess, theThread}
-use Rattle.rules.specs.Store.{Place, Store, held, freeProcess, freeThread, recordsFor, processMark, threadMark, markIn, queuedIn, view, amend, onProcesses, onThreads, withStopped, withAction, withMask, apply}
+use Rattle.rules.specs.View.{View, setStopped, setMask, isProcess, isThread, sameQueue, processQueue, targetQueue}
+use Rattle.rules.specs.View.{actionOf, liveProcess, liveThread, theProcess, theThread}
+use Rattle.rules.specs.Store.{Place, Store, held, freeProcess, freeThread, recordsFor, processMark, threadMark}
+use Rattle.rules.specs.Store.{markIn, queuedIn, view, amend, onProcesses, onThreads, withStopped, withAction}
+use Rattle.rules.specs.Store.{withMask, apply}
 use Rattle.rules.specs.Sound.{processId, threadId}
 use Rattle.rules.proofs.Cleared.{no-id}
 use Rattle.rules.proofs.Ids.{named}
@@ -60,7 +64,8 @@ two-ids k n i f e =
     (λ h. h))
 
 -- what g keeps is the same of every entry, if g is done to the n-th alone
-pub kept-but-one : {A B : Type 0} (t t′ : ℕ → A) (n : ℕ) (g : A → A) (f : A → B) → ((a : A) → f (g a) ≡ f a) → t′ n ≡ g (t n)
+pub kept-but-one : {A B : Type 0} (t t′ : ℕ → A) (n : ℕ) (g : A → A) (f : A → B) → ((a : A) → f (g a) ≡ f a)
+    → t′ n ≡ g (t n)
     → ((k : ℕ) → eqb k n ≡ false → t′ k ≡ t k) → (k : ℕ) → f (t′ k) ≡ f (t k)
 kept-but-one t t′ n g f h own other k =
     split (eqb k n)
@@ -89,20 +94,23 @@ module _ {A : Type 0} (id : A → ℕ) (n : ℕ) (g : A → A) (i : (a : A) → 
 
   live-amended : (k : ℕ) → any (named id k) after ≡ any (named id k) before
   live-amended k =
-      ap (any (named id k)) (held-amended (named id n) g xs) ∙ any-changed (named id k) (named id n) g before (λ a _. same-named k a)
+      ap (any (named id k)) (held-amended (named id n) g xs)
+      ∙ any-changed (named id k) (named id n) g before (λ a _. same-named k a)
 
   own-amended : (d : Place A) → named id n (d .holds) ≡ false → any (named id n) before ≡ true
       → Option·getD (first (named id n) after) (d .holds) ≡ g (Option·getD (first (named id n) before) (d .holds))
   own-amended d z l =
       ap (λ (ys : List A). Option·getD (first (named id n) ys) (d .holds)) (held-amended (named id n) g xs)
       ∙ first-changed (named id n) (named id n) g (d .holds) (λ a _. same-named n a) z before
-      ∙ cond-true (g (Option·getD (first (named id n) before) (d .holds))) (Option·getD (first (named id n) before) (d .holds))
+      ∙ cond-true (g (Option·getD (first (named id n) before) (d .holds)))
+      (Option·getD (first (named id n) before) (d .holds))
       (ap (named id n) (first-held d (named id n) xs) ∙ where-passes d (named id n) xs l)
 
   other-amended : (k : ℕ) → eqb k n ≡ false → first (named id k) after ≡ first (named id k) before
   other-amended k f =
       ap (first (named id k)) (held-amended (named id n) g xs)
-      ∙ first-apart (named id k) (named id n) g (λ a t. (two-ids k n (id a) f t, same-named k a ∙ two-ids k n (id a) f t)) before
+      ∙ first-apart (named id k) (named id n) g
+      (λ a t. (two-ids k n (id a) f t, same-named k a ∙ two-ids k n (id a) f t)) before
 
 -- ---- a process
 
@@ -120,7 +128,8 @@ module _ (st : Store) (n : ℕ) (g : Process → Process) (i : (p : Process) →
 
   process-other : (k : ℕ) → eqb k n ≡ false → theProcess (view afterProcess) k ≡ theProcess (view st) k
   unfolding theProcess view isProcess
-  process-other k f = ap (λ (o : Option Process). Option·getD o noProcess) (other-amended processId n g i (st .processes) k f)
+  process-other k f =
+      ap (λ (o : Option Process). Option·getD o noProcess) (other-amended processId n g i (st .processes) k f)
 
   process-marks-kept : (q : Queue) (s : ℕ) → markIn afterProcess q s ≡ markIn st q s
   unfolding markIn
@@ -146,7 +155,8 @@ module _ (st : Store) (n : ℕ) (g : Process → Process) (i : (p : Process) →
 
 -- ---- a thread
 
-module _ (st : Store) (n : ℕ) (g : Thread → Thread) (i : (t : Thread) → g t .id ≡ t .id) (o : (t : Thread) → g t .process ≡ t .process) where
+module _ (st : Store) (n : ℕ) (g : Thread → Thread) (i : (t : Thread) → g t .id ≡ t .id)
+    (o : (t : Thread) → g t .process ≡ t .process) where
   abbrev afterThread : Store
   afterThread = onThreads (amend (isThread n) g) st
 
@@ -189,11 +199,15 @@ module _ (st : Store) (n : ℕ) (g : Thread → Thread) (i : (t : Thread) → g 
 module _ (p : Process) (s : ℕ) where
   pub action-own : (a : Action) → length (p .actions) ≡ signals → Signal s → actionOf (withAction s a p) s ≡ a
   unfolding actionOf
-  action-own a l f = let h : s - 1 < length (p .actions) = omega (arith, f .low, f .high) in getD-set-same (p .actions) (s - 1) a defaultAction h
+  action-own a l f =
+      let h : s - 1 < length (p .actions) = omega (arith, f .low, f .high) in
+      getD-set-same (p .actions) (s - 1) a defaultAction h
 
-  pub action-other : (k : ℕ) (a : Action) → Signal s → Signal k → (k ≡ s → ⊥) → actionOf (withAction s a p) k ≡ actionOf p k
+  pub action-other : (k : ℕ) (a : Action) → Signal s → Signal k → (k ≡ s → ⊥)
+      → actionOf (withAction s a p) k ≡ actionOf p k
   unfolding actionOf
-  action-other k a f g d = getD-set-other (p .actions) (s - 1) (k - 1) a defaultAction (λ z. d (omega (arith, f .low, g .low)))
+  action-other k a f g d =
+      getD-set-other (p .actions) (s - 1) (k - 1) a defaultAction (λ z. d (omega (arith, f .low, g .low)))
 
 -- ---- the changes
 

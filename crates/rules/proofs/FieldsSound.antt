@@ -9,7 +9,8 @@ use lib.ListN.{length, set, length-set}
 use borrow.Author.Tests.{eqb-true, eqb-false, eq-eqb, not-true}
 use Rattle.limits.specs.Limits.{signals, recordLimit, SIGKILL, SIGSTOP}
 use Rattle.lists.specs.Lists.{any}
-use Rattle.lists.proofs.Bools.{split, clash, and-fst, and-snd, and-both, or-left, or-fst-false, or-snd-false, imp-use, imp-by}
+use Rattle.lists.proofs.Bools.{split, clash, and-fst, and-snd, and-both, or-left, or-fst-false, or-snd-false, imp-use}
+use Rattle.lists.proofs.Bools.{imp-by}
 use Rattle.lists.proofs.Lists.{Pass, All-imp, All-changed, Stands, any-changed, length-change}
 use Rattle.lists.proofs.Loops.{all-set}
 use Rattle.lists.proofs.Members.{All-standing}
@@ -18,17 +19,24 @@ use Rattle.sigset.specs.Set.{Signal, isUnmaskable}
 use Rattle.types.specs.declared.Action.{Action}
 use Rattle.rules.specs.Types.{Process, Thread}
 use Rattle.rules.specs.Signals.{isSignal, ignored}
-use Rattle.rules.specs.View.{setStopped, setAction, setMask, isProcess, isThread, belongsTo, processQueue, actionOf, liveProcess, liveThread, theProcess, theThread, threadAction}
-use Rattle.rules.specs.Store.{Place, Store, held, queuedIn, view, amend, onProcesses, onThreads, withStopped, withAction, withMask, apply}
-use Rattle.rules.specs.Sound.{isLive, ifLive, processId, threadId, actionsLong, goodUser, fieldsFit, belongs, hasThread, unmasked, actionUnmasked, processUnmasked, threadUnmasked, isDefault, killStopDefault, flagsKnown, processFlagsKnown, nameable, processNotIgnored, sound}
+use Rattle.rules.specs.View.{setStopped, setAction, setMask, isProcess, isThread, belongsTo, processQueue}
+use Rattle.rules.specs.View.{actionOf, liveProcess, liveThread, theProcess, theThread, threadAction}
+use Rattle.rules.specs.Store.{Place, Store, held, queuedIn, view, amend, onProcesses, onThreads, withStopped}
+use Rattle.rules.specs.Store.{withAction, withMask, apply}
+use Rattle.rules.specs.Sound.{isLive, ifLive, processId, threadId, actionsLong, goodUser, fieldsFit, belongs}
+use Rattle.rules.specs.Sound.{hasThread, unmasked, actionUnmasked, processUnmasked, threadUnmasked, isDefault}
+use Rattle.rules.specs.Sound.{killStopDefault, flagsKnown, processFlagsKnown, nameable, processNotIgnored, sound}
 use Rattle.rules.specs.Fitting.{pendsSomewhere, fits}
-use Rattle.rules.proofs.FieldsInView.{with, ProcessAmended, ThreadAmended, kept-but-one, action-own, action-other, held-amended, process-amended, thread-amended}
+use Rattle.rules.proofs.FieldsInView.{with, ProcessAmended, ThreadAmended, kept-but-one, action-own}
+use Rattle.rules.proofs.FieldsInView.{action-other, held-amended, process-amended, thread-amended}
 use Rattle.rules.proofs.IdsApart.{apart-changed}
-use Rattle.rules.proofs.CarriedOver.{always, Carries, process-carried, thread-carried, threads-kept, processes-kept, process-buffer-kept, thread-buffer-kept}
+use Rattle.rules.proofs.CarriedOver.{always, Carries, process-carried, thread-carried, threads-kept}
+use Rattle.rules.proofs.CarriedOver.{processes-kept, process-buffer-kept, thread-buffer-kept}
 use Rattle.rules.proofs.Facts.{actions-length}
 use Rattle.rules.proofs.Found.{not-ignored-at, not-ignored-by}
 use Rattle.rules.proofs.Ids.{named-live}
-use Rattle.rules.proofs.ClausesByPlace.{OwnProcess, GoodProcess, GoodThread, Good, HaveThreads, good, have-threads, good-sound}
+use Rattle.rules.proofs.ClausesByPlace.{OwnProcess, GoodProcess, GoodThread, Good, HaveThreads, good}
+use Rattle.rules.proofs.ClausesByPlace.{have-threads, good-sound}
 use Rattle.rules.proofs.PendingSomewhere.{marked-pends, process-marked, process-pends}
 use Rattle.rules.proofs.Signals.{is-signal, nameable-signal}
 use Rattle.rules.proofs.Unmaskable.{kill-signal, stop-signal}
@@ -44,7 +52,8 @@ module _ (st : Store) (e : sound st ≡ true) (n : ℕ) (g : Process → Process
 
   -- what is pending in the process stays unignored
   module _ (l : liveProcess (view st) n ≡ true)
-      (h : (s : ℕ) → isSignal s ≡ true → pendsSomewhere (view st) n s ≡ true → ignored (actionOf (theProcess (view st) n) s) s ≡ false
+      (h : (s : ℕ) → isSignal s ≡ true → pendsSomewhere (view st) n s ≡ true
+      → ignored (actionOf (theProcess (view st) n) s) s ≡ false
       → ignored (actionOf (g (theProcess (view st) n)) s) s ≡ false) where
     amends : ProcessAmended (view st) (view afterProcess) n g
     amends = process-amended st n g i
@@ -63,14 +72,17 @@ module _ (st : Store) (e : sound st ≡ true) (n : ℕ) (g : Process → Process
               let q : n ≡ k = sym (eqb-true k n z) in
               subst (λ (m : ℕ). ignored (actionOf (theProcess (view afterProcess) m) s) s ≡ false) q
               (ap (λ (p : Process). ignored (actionOf p s) s) (amends .own l)
-              ∙ h s f (ap (λ (m : ℕ). pendsSomewhere (view st) m s) q ∙ p) (ap (λ (m : ℕ). ignored (actionOf (theProcess (view st) m) s) s) q ∙ u)))
+              ∙ h s f (ap (λ (m : ℕ). pendsSomewhere (view st) m s) q ∙ p)
+              (ap (λ (m : ℕ). ignored (actionOf (theProcess (view st) m) s) s) q ∙ u)))
               (λ z. ap (λ (p : Process). ignored (actionOf p s) s) (amends .other k z) ∙ u);
           unmarked = λ q s u. amends .marks q s ∙ u;
           queued = λ k. omega (arith, amends .queued k);
         }
 
-    module _ (own : (x : Place Process) → Stands (st .processes) x → isHere x ≡ true → OwnProcess x → OwnProcess (with g x)) where
-      good-with : (x : Place Process) → isHere x ≡ true → Stands (st .processes) x × GoodProcess st x → GoodProcess afterProcess (with g x)
+    module _ (own : (x : Place Process) → Stands (st .processes) x → isHere x ≡ true → OwnProcess x
+        → OwnProcess (with g x)) where
+      good-with : (x : Place Process) → isHere x ≡ true → Stands (st .processes) x × GoodProcess st x
+          → GoodProcess afterProcess (with g x)
       good-with x t p =
           record {
             own = own x (p .0) t (p .1 .own);
@@ -85,24 +97,30 @@ module _ (st : Store) (e : sound st ≡ true) (n : ℕ) (g : Process → Process
           record {
             processesLong = length-change isHere (with g) (st .processes) ∙ k .processesLong;
             processes =
-                All-changed (λ x. Stands (st .processes) x × GoodProcess st x) (GoodProcess afterProcess) isHere (with g)
+                All-changed (λ x. Stands (st .processes) x × GoodProcess st x)
+                (GoodProcess afterProcess) isHere (with g)
                 good-with
                 (λ x _ p. process-carried st afterProcess always always carries-process x (p .1) (p .1 .own))
                 (st .processes) (All-standing (GoodProcess st) (st .processes) (k .processes));
             processApart =
-                apart-changed processId isHere (with g) (λ x. or-left (eqb (g (x .holds) .id) 0) (eq-eqb (g (x .holds) .id) (x .holds .id) (i (x .holds))))
+                apart-changed processId isHere (with g)
+                (λ x. or-left (eqb (g (x .holds) .id) 0) (eq-eqb (g (x .holds) .id) (x .holds .id) (i (x .holds))))
                 (st .processes) (k .processApart);
             threadsLong = k .threadsLong;
             threads = threads-kept st afterProcess always always carries-process (λ _. refl) (k .threads);
             threadApart = k .threadApart;
-            threadBuffer = thread-buffer-kept st afterProcess always always carries-process (λ _. refl) (λ _. refl) (k .threadBuffer);
-            processBuffer = process-buffer-kept st afterProcess always always carries-process (λ _. refl) (k .processBuffer);
+            threadBuffer =
+                thread-buffer-kept st afterProcess always always carries-process (λ _. refl) (λ _. refl)
+                (k .threadBuffer);
+            processBuffer =
+                process-buffer-kept st afterProcess always always carries-process (λ _. refl) (k .processBuffer);
           }
 
       have-threads-amended : HaveThreads afterProcess
       unfolding hasThread view
       have-threads-amended =
-          All-changed (Pass (ifLive processId (hasThread (view st)))) (Pass (ifLive processId (hasThread (view afterProcess)))) isHere (with g)
+          All-changed (Pass (ifLive processId (hasThread (view st))))
+          (Pass (ifLive processId (hasThread (view afterProcess)))) isHere (with g)
           (λ x _ p. ap (λ (m : ℕ). not (not (eqb m 0)) || any (belongsTo m) (view st .threads)) (i (x .holds)) ∙ p)
           (λ x _ p. p)
           (st .processes) (have-threads st e)
@@ -127,14 +145,16 @@ module _ (n b : ℕ) (r : leb b 1 ≡ true) where
         ids = o .ids;
         fields =
             and-both (and-fst (goodUser (p .real)) _ (o .fields))
-            (and-both (and-fst (goodUser (p .effective)) _ f1) (and-both (and-fst (goodUser (p .saved)) _ f2) (and-both (and-fst (goodUser (p .session)) _ f3) r)));
+            (and-both (and-fst (goodUser (p .effective)) _ f1)
+            (and-both (and-fst (goodUser (p .saved)) _ f2) (and-both (and-fst (goodUser (p .session)) _ f3) r)));
         sets = o .sets;
         defaults = o .defaults;
         flags = o .flags;
         not-ignored = o .not-ignored;
       }
 
-pub setStopped-sound : (st : Store) → sound st ≡ true → (n b : ℕ) → fits (view st) (setStopped n b) ≡ true → sound (apply (setStopped n b) st) ≡ true
+pub setStopped-sound : (st : Store) → sound st ≡ true → (n b : ℕ) → fits (view st) (setStopped n b) ≡ true
+    → sound (apply (setStopped n b) st) ≡ true
 unfolding apply fits actionOf
 setStopped-sound st e n b f =
     process-amended-sound st e n (withStopped b) (λ p. refl) (and-fst (liveProcess (view st) n) _ f) (λ s _ _ u. u)
@@ -142,9 +162,11 @@ setStopped-sound st e n b f =
 
 -- ---- a new action
 
-module _ (st : Store) (n s : ℕ) (a : Action) (i : Signal s) (q : ignored a s ≡ true → pendsSomewhere (view st) n s ≡ false) where
+module _ (st : Store) (n s : ℕ) (a : Action) (i : Signal s)
+    (q : ignored a s ≡ true → pendsSomewhere (view st) n s ≡ false) where
   -- what is pending stays unignored
-  still-not-ignored : (p : Process) → length (p .actions) ≡ signals → (k : ℕ) → isSignal k ≡ true → pendsSomewhere (view st) n k ≡ true
+  still-not-ignored : (p : Process) → length (p .actions) ≡ signals → (k : ℕ) → isSignal k ≡ true
+      → pendsSomewhere (view st) n k ≡ true
       → ignored (actionOf p k) k ≡ false → ignored (actionOf (withAction s a p) k) k ≡ false
   still-not-ignored p l k f h u =
       split (eqb k s)
@@ -162,10 +184,13 @@ module _ (st : Store) (n s : ℕ) (a : Action) (i : Signal s) (q : ignored a s �
         let k = eqb-false s SIGKILL (or-fst-false (eqb s SIGKILL) (eqb s SIGSTOP) u) in
         let t = eqb-false s SIGSTOP (or-snd-false (eqb s SIGKILL) (eqb s SIGSTOP) u) in
         and-both
-        (ap isDefault (action-other p s SIGKILL a i kill-signal (λ z. k (sym z))) ∙ and-fst (isDefault (actionOf p SIGKILL)) _ d)
-        (ap isDefault (action-other p s SIGSTOP a i stop-signal (λ z. t (sym z))) ∙ and-snd (isDefault (actionOf p SIGKILL)) _ d)
+        (ap isDefault (action-other p s SIGKILL a i kill-signal (λ z. k (sym z)))
+        ∙ and-fst (isDefault (actionOf p SIGKILL)) _ d)
+        (ap isDefault (action-other p s SIGSTOP a i stop-signal (λ z. t (sym z)))
+        ∙ and-snd (isDefault (actionOf p SIGKILL)) _ d)
 
-    own-action : (x : Place Process) → Stands (st .processes) x → isProcess n (x .holds) ≡ true → OwnProcess x → OwnProcess (with (withAction s a) x)
+    own-action : (x : Place Process) → Stands (st .processes) x → isProcess n (x .holds) ≡ true → OwnProcess x
+        → OwnProcess (with (withAction s a) x)
     unfolding actionsLong fieldsFit processUnmasked actionUnmasked killStopDefault processFlagsKnown isProcess
     own-action x c t o =
         let p : Process = x .holds in
@@ -178,7 +203,8 @@ module _ (st : Store) (n s : ℕ) (a : Action) (i : Signal s) (q : ignored a s �
           ids = o .ids;
           fields = o .fields;
           sets =
-              and-both (and-fst (unmasked (x .marks)) _ (o .sets)) (all-set actionUnmasked (p .actions) (s - 1) a (and-snd (unmasked (x .marks)) _ (o .sets)) m);
+              and-both (and-fst (unmasked (x .marks)) _ (o .sets))
+              (all-set actionUnmasked (p .actions) (s - 1) a (and-snd (unmasked (x .marks)) _ (o .sets)) m);
           defaults = default-kept p (o .defaults);
           flags = all-set flagsKnown (p .actions) (s - 1) a (o .flags) y;
           not-ignored =
@@ -187,11 +213,14 @@ module _ (st : Store) (n s : ℕ) (a : Action) (i : Signal s) (q : ignored a s �
               not-ignored-by (x .marks) (actionOf (withAction s a p))
               (λ k f h.
               still-not-ignored p l k f
-              (ap (λ (j : ℕ). pendsSomewhere (view st) j k) (sym d) ∙ process-pends st (p .id) k (marked-pends st (processQueue (p .id)) k (process-marked st x c k f h)))
-              (not-ignored-at (x .marks) (actionOf p) (imp-use (isLive processId x) (processNotIgnored x) (o .not-ignored) v) k f h)));
+              (ap (λ (j : ℕ). pendsSomewhere (view st) j k) (sym d)
+              ∙ process-pends st (p .id) k (marked-pends st (processQueue (p .id)) k (process-marked st x c k f h)))
+              (not-ignored-at (x .marks) (actionOf p)
+              (imp-use (isLive processId x) (processNotIgnored x) (o .not-ignored) v) k f h)));
         }
 
-pub setAction-sound : (st : Store) → sound st ≡ true → (n s : ℕ) (a : Action) → fits (view st) (setAction n s a) ≡ true → sound (apply (setAction n s a) st) ≡ true
+pub setAction-sound : (st : Store) → sound st ≡ true → (n s : ℕ) (a : Action) → fits (view st) (setAction n s a) ≡ true
+    → sound (apply (setAction n s a) st) ≡ true
 unfolding apply fits nameable
 setAction-sound st e n s a f =
     let f1 = and-snd (liveProcess (view st) n) _ f in
@@ -209,7 +238,8 @@ setAction-sound st e n s a f =
 
 -- ---- a new mask
 
-module _ (st : Store) (e : sound st ≡ true) (n : ℕ) (m : SigSet) (l : liveThread (view st) n ≡ true) (u : unmasked m ≡ true) where
+module _ (st : Store) (e : sound st ≡ true) (n : ℕ) (m : SigSet) (l : liveThread (view st) n ≡ true)
+    (u : unmasked m ≡ true) where
   abbrev afterThread : Store
   afterThread = onThreads (amend (isThread n) (withMask m)) st
 
@@ -220,7 +250,9 @@ module _ (st : Store) (e : sound st ≡ true) (n : ℕ) (m : SigSet) (l : liveTh
   masks = thread-amended st n (withMask m) (λ t. refl) (λ t. refl)
 
   owner-kept : (k : ℕ) → theThread (view afterThread) k .process ≡ theThread (view st) k .process
-  owner-kept = kept-but-one (theThread (view st)) (theThread (view afterThread)) n (withMask m) (λ (t : Thread). t .process) (λ t. refl) (masks .own l) (masks .other)
+  owner-kept =
+      kept-but-one (theThread (view st)) (theThread (view afterThread)) n (withMask m) (λ (t : Thread). t .process)
+      (λ t. refl) (masks .own l) (masks .other)
 
   carries-mask : Carries st afterThread always always
   unfolding view
@@ -237,12 +269,18 @@ module _ (st : Store) (e : sound st ≡ true) (n : ℕ) (m : SigSet) (l : liveTh
   carried : (x : Place Thread) → Stands (st .threads) x × GoodThread st x → GoodThread afterThread x
   carried x p = thread-carried st afterThread always always carries-mask x (p .0) (p .1) (λ _. refl)
 
-  with-mask : (x : Place Thread) → isThreadHere x ≡ true → Stands (st .threads) x × GoodThread st x → GoodThread afterThread (with (withMask m) x)
+  with-mask : (x : Place Thread) → isThreadHere x ≡ true → Stands (st .threads) x × GoodThread st x
+      → GoodThread afterThread (with (withMask m) x)
   unfolding threadUnmasked belongs threadAction isThread
   with-mask x t p =
       let z : eqb (x .holds .id) 0 ≡ false = named-live n (x .holds .id) t in
       record {
-        own = record { free = rw z; ids = p .1 .own .ids; sets = and-both u (and-snd (unmasked (x .holds .mask)) _ (p .1 .own .sets)) };
+        own =
+            record {
+              free = rw z;
+              ids = p .1 .own .ids;
+              sets = and-both u (and-snd (unmasked (x .holds .mask)) _ (p .1 .own .sets));
+            };
         owned = carried x p .owned;
         not-ignored = carried x p .not-ignored;
       }
@@ -256,13 +294,16 @@ module _ (st : Store) (e : sound st ≡ true) (n : ℕ) (m : SigSet) (l : liveTh
         processApart = k .processApart;
         threadsLong = length-change isThreadHere (with (withMask m)) (st .threads) ∙ k .threadsLong;
         threads =
-            All-changed (λ x. Stands (st .threads) x × GoodThread st x) (GoodThread afterThread) isThreadHere (with (withMask m))
+            All-changed (λ x. Stands (st .threads) x × GoodThread st x) (GoodThread afterThread) isThreadHere
+            (with (withMask m))
             with-mask (λ x _ p. carried x p)
             (st .threads) (All-standing (GoodThread st) (st .threads) (k .threads));
         threadApart =
-            apart-changed threadId isThreadHere (with (withMask m)) (λ x. or-left (eqb (x .holds .id) 0) (eq-eqb (x .holds .id) (x .holds .id) refl))
+            apart-changed threadId isThreadHere (with (withMask m))
+            (λ x. or-left (eqb (x .holds .id) 0) (eq-eqb (x .holds .id) (x .holds .id) refl))
             (st .threads) (k .threadApart);
-        threadBuffer = thread-buffer-kept st afterThread always always carries-mask (λ _. refl) (λ _. refl) (k .threadBuffer);
+        threadBuffer =
+            thread-buffer-kept st afterThread always always carries-mask (λ _. refl) (λ _. refl) (k .threadBuffer);
         processBuffer = process-buffer-kept st afterThread always always carries-mask (λ _. refl) (k .processBuffer);
       }
 
@@ -282,6 +323,8 @@ module _ (st : Store) (e : sound st ≡ true) (n : ℕ) (m : SigSet) (l : liveTh
   setMask-keeps : sound afterThread ≡ true
   setMask-keeps = good-sound afterThread good-masked have-threads-masked
 
-pub setMask-sound : (st : Store) → sound st ≡ true → (n : ℕ) (m : SigSet) → fits (view st) (setMask n m) ≡ true → sound (apply (setMask n m) st) ≡ true
+pub setMask-sound : (st : Store) → sound st ≡ true → (n : ℕ) (m : SigSet) → fits (view st) (setMask n m) ≡ true
+    → sound (apply (setMask n m) st) ≡ true
 unfolding apply fits
-setMask-sound st e n m f = setMask-keeps st e n m (and-fst (liveThread (view st) n) _ f) (and-snd (liveThread (view st) n) _ f)
+setMask-sound st e n m f =
+    setMask-keeps st e n m (and-fst (liveThread (view st) n) _ f) (and-snd (liveThread (view st) n) _ f)

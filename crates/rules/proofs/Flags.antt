@@ -27,12 +27,15 @@ min-assoc a b c = omega arith
 and-assoc : (a b c : ℕ) → bitAnd (bitAnd a b) c ≡ bitAnd a (bitAnd b c)
 and-assoc a =
     bin-ind (λ (n : ℕ). (b c : ℕ) → bitAnd (bitAnd n b) c ≡ bitAnd n (bitAnd b c)) (λ b c. refl)
-    (λ n ih b c. and-step (bitAnd n b) c ∙ rw (and-high n b, and-low n b, and-step n (bitAnd b c), and-high b c, and-low b c, ih (b / 2) (c / 2), min-assoc)) a
+    (λ n ih b c. and-step (bitAnd n b) c
+    ∙ rw (and-high n b, and-low n b, and-step n (bitAnd b c), and-high b c, and-low b c, ih (b / 2) (c / 2), min-assoc))
+    a
 
 -- ---- what is stored
 
 -- the bits that are left are of the known ones
-known-left : (flags left : ℕ) → bitAnd left knownFlags ≡ left → bitAnd (bitAnd flags left) knownFlags ≡ bitAnd flags left
+known-left : (flags left : ℕ) → bitAnd left knownFlags ≡ left
+    → bitAnd (bitAnd flags left) knownFlags ≡ bitAnd flags left
 known-left flags left e = and-assoc flags left knownFlags ∙ ap (bitAnd flags) e
 
 pub stored-known : (a : Action) → flagsKnown (stored a) ≡ true

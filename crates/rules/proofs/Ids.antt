@@ -1,4 +1,5 @@
--- Ids that are 0 or met once: no two live members have one id exactly if each live member is the first with its id. Assumes nothing.
+-- Ids that are 0 or met once: no two live members have one id exactly if each live member is the first with its id.
+-- Assumes nothing.
 use Prim.Native.Nat.{ℕ, _≤_, _<_}
 use mathlib.Core.Path.{_≡_, refl, sym, ap, _∙_}
 use mathlib.Core.Bool.{Bool, true, false, not, _&&_, _||_}
@@ -50,7 +51,8 @@ module _ {B : Type 0} (id : B → ℕ) where
       (λ e.
       let ex : named n x ≡ true = and-fst (named n x) (named n y) e in
       let p : id x ≡ n = eqb-true (id x) n (and-snd (not (eqb n 0)) (eqb (id x) n) ex) in
-      let q : id y ≡ n = eqb-true (id y) n (and-snd (not (eqb n 0)) (eqb (id y) n) (and-snd (named n x) (named n y) e)) in
+      let q : id y ≡ n =
+      eqb-true (id y) n (and-snd (not (eqb n 0)) (eqb (id y) n) (and-snd (named n x) (named n y) e)) in
       let z : eqb n 0 ≡ false = not-true (eqb n 0) (and-fst (not (eqb n 0)) (eqb (id x) n) ex) in
       let f : unlikeNamed x y ≡ false = rw (p, q, z, eq-eqb n n refl) in
       clash h f)
@@ -61,20 +63,26 @@ module _ {B : Type 0} (id : B → ℕ) where
     distinct-pairs e = sym (pairsWhere-pairs isNamed unlike xs) ∙ e
 
     pub one-named : distinct xs ≡ true → (n : ℕ) → count (named n) xs ≤ 1
-    one-named e n = pairs-count (named n) xs (pairs-imp unlikeNamed (λ x y. not (named n x && named n y)) (named-twice n) xs (distinct-pairs e))
+    one-named e n =
+        pairs-count (named n) xs
+        (pairs-imp unlikeNamed (λ x y. not (named n x && named n y)) (named-twice n) xs (distinct-pairs e))
 
     module _ (d : B) where
-      pub distinct-first : distinct xs ≡ true → (i : ℕ) → i < length xs → isNamed (getD xs i d) ≡ true → find (named (id (getD xs i d))) xs ≡ i
+      pub distinct-first : distinct xs ≡ true → (i : ℕ) → i < length xs → isNamed (getD xs i d) ≡ true
+          → find (named (id (getD xs i d))) xs ≡ i
       distinct-first e i h l =
           let n : ℕ = id (getD xs i d) in
           let s : named n (getD xs i d) ≡ true = named-self (getD xs i d) l in
           find-first (named n) d xs i h s
           (λ j k.
           split (named n (getD xs j d))
-          (λ t. clash (named-twice n (getD xs j d) (getD xs i d) (pairs-at unlikeNamed d xs j i k h (distinct-pairs e))) (ap not (and-both t s)))
+          (λ t. clash (named-twice n (getD xs j d) (getD xs i d) (pairs-at unlikeNamed d xs j i k h (distinct-pairs e)))
+          (ap not (and-both t s)))
           (λ t. t))
 
-      pub first-distinct : ((i : ℕ) → i < length xs → isNamed (getD xs i d) ≡ true → find (named (id (getD xs i d))) xs ≡ i) → distinct xs ≡ true
+      pub first-distinct :
+          ((i : ℕ) → i < length xs → isNamed (getD xs i d) ≡ true → find (named (id (getD xs i d))) xs ≡ i)
+          → distinct xs ≡ true
       first-distinct f =
           pairsWhere-pairs isNamed unlike xs
           ∙ pairs-each unlikeNamed d xs
@@ -86,7 +94,8 @@ module _ {B : Type 0} (id : B → ℕ) where
           let p : id (getD xs i d) ≡ id (getD xs j d) = eqb-true (id (getD xs i d)) (id (getD xs j d)) t in
           let m : isNamed (getD xs j d) ≡ true = ap (λ (n : ℕ). not (eqb n 0)) (sym p) ∙ l in
           let a : find (named (id (getD xs j d))) xs ≡ j = f j h m in
-          let b : find (named (id (getD xs j d))) xs ≤ i = find-below (named (id (getD xs j d))) d xs i (omega arith) (and-both m t) in
+          let b : find (named (id (getD xs j d))) xs ≤ i =
+          find-below (named (id (getD xs j d))) d xs i (omega arith) (and-both m t) in
           absurd (omega arith))
           (λ t. ap not t)))
 
@@ -100,10 +109,13 @@ module _ {A : Type 0} (id : A → ℕ) (xs : List (Place A)) where
   one-held e n = rw count-map (one-named idOf xs e n)
 
   module _ (d : Place A) where
-    pub distinct-held : pairsWhere (isLive id) (apart id) xs ≡ true → (i : ℕ) → i < length xs → isLive id (getD xs i d) ≡ true
+    pub distinct-held : pairsWhere (isLive id) (apart id) xs ≡ true → (i : ℕ) → i < length xs
+        → isLive id (getD xs i d) ≡ true
         → find (named id (id (getD xs i d .holds))) (map held xs) ≡ i
     distinct-held e i h l = find-map (named id (id (getD xs i d .holds))) held xs ∙ distinct-first idOf xs d e i h l
 
-    pub held-distinct : ((i : ℕ) → i < length xs → isLive id (getD xs i d) ≡ true → find (named id (id (getD xs i d .holds))) (map held xs) ≡ i)
+    pub held-distinct : ((i : ℕ) → i < length xs → isLive id (getD xs i d) ≡ true
+        → find (named id (id (getD xs i d .holds))) (map held xs) ≡ i)
         → pairsWhere (isLive id) (apart id) xs ≡ true
-    held-distinct f = first-distinct idOf xs d (λ i h l. sym (find-map (named id (id (getD xs i d .holds))) held xs) ∙ f i h l)
+    held-distinct f =
+        first-distinct idOf xs d (λ i h l. sym (find-map (named id (id (getD xs i d .holds))) held xs) ∙ f i h l)

@@ -8,7 +8,8 @@ use lib.ListN.{length-map}
 use borrow.Author.Tests.{eqb-true, not-true, not-false}
 use Rattle.lists.specs.Lists.{all, any, All}
 use Rattle.lists.proofs.Bools.{split, clash, and-fst, and-snd, and-both, or-left, or-right, or-cases, imp-use, imp-by}
-use Rattle.lists.proofs.Lists.{Pass, All-imp, All-both, All-every, All-map, all-All, All-all, any-map, any-imp, all-same}
+use Rattle.lists.proofs.Lists.{Pass, All-imp, All-both, All-every, All-map, all-All, All-all, any-map, any-imp}
+use Rattle.lists.proofs.Lists.{all-same}
 use Rattle.lists.proofs.Members.{all-mapped, pairsWhere-map}
 use Rattle.sigset.specs.declared.SigSet.{SigSet}
 use Rattle.sigset.specs.Set.{Signal, has, bits, empty, isUnmaskable}
@@ -16,16 +17,24 @@ use Rattle.types.specs.declared.Action.{Action}
 use Rattle.types.specs.declared.Siginfo.{Siginfo}
 use Rattle.rules.specs.Types.{Process, Thread, Queue}
 use Rattle.rules.specs.Signals.{isSignal, standard, ignored}
-use Rattle.rules.specs.View.{View, sameQueue, processQueue, threadQueue, targetQueue, queueOf, inQueue, actionOf, theProcess, threadAction}
-use Rattle.rules.specs.Store.{Place, Store, used, recordsFor, processMark, threadMark, markIn, queuedIn, onMarks, view}
-use Rattle.rules.specs.Sound.{ifLive, ifFree, isLive, apart, processId, threadId, actionsLong, zeroProcess, zeroThread, goodProcessId, goodThreadId, fieldsFit, belongs, hasThread, unmasked, processUnmasked, threadUnmasked, killStopDefault, processFlagsKnown, aimedAtThread, aimedAtProcess, withinLimit, isStandard, notMarkedToo, recordNotIgnored, marksNotIgnored, processNotIgnored, threadNotIgnored, sound}
+use Rattle.rules.specs.View.{View, sameQueue, processQueue, threadQueue, targetQueue, queueOf, inQueue, actionOf}
+use Rattle.rules.specs.View.{theProcess, threadAction}
+use Rattle.rules.specs.Store.{Place, Store, used, recordsFor, processMark, threadMark, markIn, queuedIn, onMarks}
+use Rattle.rules.specs.Store.{view}
+use Rattle.rules.specs.Sound.{ifLive, ifFree, isLive, apart, processId, threadId, actionsLong, zeroProcess}
+use Rattle.rules.specs.Sound.{zeroThread, goodProcessId, goodThreadId, fieldsFit, belongs, hasThread, unmasked}
+use Rattle.rules.specs.Sound.{processUnmasked, threadUnmasked, killStopDefault, processFlagsKnown, aimedAtThread}
+use Rattle.rules.specs.Sound.{aimedAtProcess, withinLimit, isStandard, notMarkedToo, recordNotIgnored}
+use Rattle.rules.specs.Sound.{marksNotIgnored, processNotIgnored, threadNotIgnored, sound}
 use Rattle.rules.proofs.Facts.{within-limit}
 use Rattle.rules.proofs.Found.{not-ignored-at, not-ignored-by, not-marked}
 use Rattle.rules.proofs.Marks.{queue-same, free-of-nobody}
 use Rattle.rules.proofs.ClausesByPlace.{limit-by}
 use Rattle.rules.proofs.FoundByKey.{Queued, own-process, thread-queued, process-queued}
 use Rattle.rules.proofs.ClausesByTable.{parts, sound-of}
-use Rattle.rules.proofs.PendingInView.{same-belongs, same-hasThread, same-theProcess, same-recordNotIgnored, same-aimedAtThread, same-aimedAtProcess, seen-marks-processes, seen-marks-threads}
+use Rattle.rules.proofs.PendingInView.{same-belongs, same-hasThread, same-theProcess, same-recordNotIgnored}
+use Rattle.rules.proofs.PendingInView.{same-aimedAtThread, same-aimedAtProcess, seen-marks-processes}
+use Rattle.rules.proofs.PendingInView.{seen-marks-threads}
 use Rattle.rules.proofs.Signals.{is-signal}
 use Rattle.rules.proofs.Unmaskable.{unmasked-if, unmasked-has}
 
@@ -54,7 +63,8 @@ pub record Remarked (st : Store) (g : Queue → SigSet → SigSet) (new : Queue 
   -- 0 is no id
   pub free : g (processQueue 0) empty ≡ empty
   pub maskable : (q : Queue) (s : ℕ) → new q s ≡ true → isUnmaskable s ≡ false
-  pub not-ignored : (q : Queue) (s : ℕ) → new q s ≡ true → ignored (actionOf (theProcess (view st) (q .process)) s) s ≡ false
+  pub not-ignored : (q : Queue) (s : ℕ) → new q s ≡ true
+      → ignored (actionOf (theProcess (view st) (q .process)) s) s ≡ false
   -- a standard signal that is new has no record
   pub once : (q : Queue) (s : ℕ) → new q s ≡ true → standard s ≡ true → any (inQueue q s) (recordsFor q st) ≡ false
 
@@ -70,7 +80,8 @@ module _ (st : Store) (g : Queue → SigSet → SigSet) (new : Queue → ℕ →
 
   -- ---- by queue
 
-  was-marked : (q q′ : Queue) (m : SigSet) (s : ℕ) → new q s ≡ false → Signal s → (sameQueue q q′ && has (g q′ m) s) ≡ true
+  was-marked : (q q′ : Queue) (m : SigSet) (s : ℕ) → new q s ≡ false → Signal s
+      → (sameQueue q q′ && has (g q′ m) s) ≡ true
       → (sameQueue q q′ && has m s) ≡ true
   was-marked q q′ m s n h e =
       let k : sameQueue q q′ ≡ true = and-fst (sameQueue q q′) (has (g q′ m) s) e in
@@ -84,7 +95,8 @@ module _ (st : Store) (g : Queue → SigSet → SigSet) (new : Queue → ℕ →
   old-mark q s n e =
       let i : isSignal s ≡ true = and-fst (isSignal s) _ e in
       and-both i
-      (or-cases (any (processMark q s) (after .processes)) (any (threadMark q s) (after .threads)) (and-snd (isSignal s) _ e)
+      (or-cases (any (processMark q s) (after .processes)) (any (threadMark q s) (after .threads))
+      (and-snd (isSignal s) _ e)
       (λ f.
       or-left (any (threadMark q s) (st .threads))
       (any-imp (λ (x : Place Process). processMark q s (processAfter x)) (processMark q s)
@@ -103,10 +115,12 @@ module _ (st : Store) (g : Queue → SigSet → SigSet) (new : Queue → ℕ →
       unmasked-if (g q m)
       (λ s h u.
       split (has (g q m) s)
-      (λ k. or-cases (has m s) (new q s) (c .bound q m s h k) (λ f. clash f (unmasked-has m e s u)) (λ f. clash u (c .maskable q s f)))
+      (λ k. or-cases (has m s) (new q s) (c .bound q m s h k)
+      (λ f. clash f (unmasked-has m e s u)) (λ f. clash u (c .maskable q s f)))
       (λ k. k))
 
-  not-ignored-after : (q : Queue) (m : SigSet) (f : ℕ → Action) → ((s : ℕ) → f s ≡ actionOf (theProcess (view st) (q .process)) s)
+  not-ignored-after : (q : Queue) (m : SigSet) (f : ℕ → Action)
+      → ((s : ℕ) → f s ≡ actionOf (theProcess (view st) (q .process)) s)
       → marksNotIgnored m f ≡ true → marksNotIgnored (g q m) f ≡ true
   not-ignored-after q m f a e =
       not-ignored-by (g q m) f
@@ -117,58 +131,70 @@ module _ (st : Store) (g : Queue → SigSet → SigSet) (new : Queue → ℕ →
 
   -- ---- the places
 
-  free-process-after : (x : Place Process) → ifFree processId zeroProcess x ≡ true → ifFree processId zeroProcess (processAfter x) ≡ true
+  free-process-after : (x : Place Process) → ifFree processId zeroProcess x ≡ true
+      → ifFree processId zeroProcess (processAfter x) ≡ true
   free-process-after x e =
       imp-by (not (isLive processId x))
       (λ f.
       let z : zeroProcess x ≡ true = imp-use (not (isLive processId x)) (zeroProcess x) e f in
-      let i : x .holds .id ≡ 0 = eqb-true (x .holds .id) 0 (not-false (eqb (x .holds .id) 0) (not-true (isLive processId x) f)) in
+      let i : x .holds .id ≡ 0 =
+      eqb-true (x .holds .id) 0 (not-false (eqb (x .holds .id) 0) (not-true (isLive processId x) f)) in
       let m : x .marks ≡ empty = free-process-marks x z in
-      let k : g (processQueue (x .holds .id)) (x .marks) ≡ x .marks = ap₂ (λ (n : ℕ) (a : SigSet). g (processQueue n) a) i m ∙ c .free ∙ sym m in
+      let k : g (processQueue (x .holds .id)) (x .marks) ≡ x .marks =
+      ap₂ (λ (n : ℕ) (a : SigSet). g (processQueue n) a) i m ∙ c .free ∙ sym m in
       ap (λ (a : SigSet). zeroProcess (record { holds = x .holds; marks = a })) k ∙ z)
 
-  free-thread-after : (x : Place Thread) → ifFree threadId zeroThread x ≡ true → ifFree threadId zeroThread (threadAfter x) ≡ true
+  free-thread-after : (x : Place Thread) → ifFree threadId zeroThread x ≡ true
+      → ifFree threadId zeroThread (threadAfter x) ≡ true
   free-thread-after x e =
       imp-by (not (isLive threadId x))
       (λ f.
       let z : zeroThread x ≡ true = imp-use (not (isLive threadId x)) (zeroThread x) e f in
       let i : eqb (x .holds .id) 0 ≡ true = not-false (eqb (x .holds .id) 0) (not-true (isLive threadId x) f) in
       let m : x .marks ≡ empty = free-thread-marks x z in
-      let q : threadQueue (x .holds) ≡ processQueue 0 = ap₂ targetQueue (eqb-true (x .holds .process) 0 (free-of-nobody x e i)) (eqb-true (x .holds .id) 0 i) in
+      let q : threadQueue (x .holds) ≡ processQueue 0 =
+      ap₂ targetQueue (eqb-true (x .holds .process) 0 (free-of-nobody x e i)) (eqb-true (x .holds .id) 0 i) in
       let k : g (threadQueue (x .holds)) (x .marks) ≡ x .marks = ap₂ g q m ∙ c .free ∙ sym m in
       ap (λ (a : SigSet). zeroThread (record { holds = x .holds; marks = a })) k ∙ z)
 
   process-sets-after : (x : Place Process) → processUnmasked x ≡ true → processUnmasked (processAfter x) ≡ true
   unfolding processUnmasked
   process-sets-after x e =
-      and-both (unmasked-after (processQueue (x .holds .id)) (x .marks) (and-fst (unmasked (x .marks)) _ e)) (and-snd (unmasked (x .marks)) _ e)
+      and-both (unmasked-after (processQueue (x .holds .id)) (x .marks) (and-fst (unmasked (x .marks)) _ e))
+      (and-snd (unmasked (x .marks)) _ e)
 
   thread-sets-after : (x : Place Thread) → threadUnmasked x ≡ true → threadUnmasked (threadAfter x) ≡ true
   unfolding threadUnmasked
   thread-sets-after x e =
-      and-both (and-fst (unmasked (x .holds .mask)) _ e) (unmasked-after (threadQueue (x .holds)) (x .marks) (and-snd (unmasked (x .holds .mask)) _ e))
+      and-both (and-fst (unmasked (x .holds .mask)) _ e)
+      (unmasked-after (threadQueue (x .holds)) (x .marks) (and-snd (unmasked (x .holds .mask)) _ e))
 
   -- the action of a live place is the one of its id
-  process-not-ignored-after : (x : Place Process) → (isLive processId x ≡ true → theProcess (view st) (x .holds .id) ≡ x .holds)
+  process-not-ignored-after : (x : Place Process)
+      → (isLive processId x ≡ true → theProcess (view st) (x .holds .id) ≡ x .holds)
       → ifLive processId processNotIgnored x ≡ true → ifLive processId processNotIgnored (processAfter x) ≡ true
   process-not-ignored-after x o e =
       imp-by (isLive processId x)
       (λ l.
-      not-ignored-after (processQueue (x .holds .id)) (x .marks) (actionOf (x .holds)) (λ s. ap (λ (p : Process). actionOf p s) (sym (o l)))
+      not-ignored-after (processQueue (x .holds .id)) (x .marks) (actionOf (x .holds))
+      (λ s. ap (λ (p : Process). actionOf p s) (sym (o l)))
       (imp-use (isLive processId x) (processNotIgnored x) e l))
 
-  thread-not-ignored-after : (x : Place Thread) → ifLive threadId (threadNotIgnored (view st)) x ≡ true → ifLive threadId (threadNotIgnored (view after)) (threadAfter x) ≡ true
+  thread-not-ignored-after : (x : Place Thread) → ifLive threadId (threadNotIgnored (view st)) x ≡ true
+      → ifLive threadId (threadNotIgnored (view after)) (threadAfter x) ≡ true
   unfolding threadAction
   thread-not-ignored-after x e =
       imp-by (isLive threadId x)
       (λ l.
-      ap (λ (p : Process). marksNotIgnored (threadAfter x .marks) (actionOf p)) (same-theProcess (view after) (view st) (seen-marks-processes st g) (x .holds .process))
+      ap (λ (p : Process). marksNotIgnored (threadAfter x .marks) (actionOf p))
+      (same-theProcess (view after) (view st) (seen-marks-processes st g) (x .holds .process))
       ∙ not-ignored-after (threadQueue (x .holds)) (x .marks) (threadAction (view st) (x .holds)) (λ s. refl)
       (imp-use (isLive threadId x) (threadNotIgnored (view st) x) e l))
 
   -- ---- the records
 
-  unmarked-after : (rs : List Siginfo) → All (Queued st) rs → all (notMarkedToo st) rs ≡ true → all (notMarkedToo after) rs ≡ true
+  unmarked-after : (rs : List Siginfo) → All (Queued st) rs → all (notMarkedToo st) rs ≡ true
+      → all (notMarkedToo after) rs ≡ true
   unfolding notMarkedToo isStandard
   unmarked-after rs h a =
       All-all (notMarkedToo after) rs
@@ -184,20 +210,25 @@ module _ (st : Store) (g : Queue → SigSet → SigSet) (new : Queue → ℕ →
       (λ m. ap not m)))
       rs (All-both (Queued st) (Pass (notMarkedToo st)) rs h (all-All (notMarkedToo st) rs a)))
 
-  processes-not-ignored : sound st ≡ true → all (ifLive processId processNotIgnored) (st .processes) ≡ true → all (ifLive processId processNotIgnored) (after .processes) ≡ true
+  processes-not-ignored : sound st ≡ true → all (ifLive processId processNotIgnored) (st .processes) ≡ true
+      → all (ifLive processId processNotIgnored) (after .processes) ≡ true
   processes-not-ignored e a =
-      let O : Place Process → Type 0 = λ x. isLive processId x ≡ true → theProcess (view st) (x .holds .id) ≡ x .holds in
+      let O : Place Process → Type 0 =
+      λ x. isLive processId x ≡ true → theProcess (view st) (x .holds .id) ≡ x .holds in
       let H : Place Process → Type 0 = Pass (ifLive processId processNotIgnored) in
       All-all (ifLive processId processNotIgnored) (after .processes)
       (All-map H processAfter (st .processes)
       (All-imp (λ x. O x × H x) (λ x. H (processAfter x)) (λ x d. process-not-ignored-after x (d .0) (d .1))
-      (st .processes) (All-both O H (st .processes) (own-process st e) (all-All (ifLive processId processNotIgnored) (st .processes) a))))
+      (st .processes)
+      (All-both O H (st .processes) (own-process st e)
+      (all-All (ifLive processId processNotIgnored) (st .processes) a))))
 
   limit-after : sound st ≡ true → (xs : List (Place Process)) → all (ifLive processId (withinLimit after)) xs ≡ true
   unfolding queuedIn
   limit-after e xs =
       All-all (ifLive processId (withinLimit after)) xs
-      (All-every (Pass (ifLive processId (withinLimit after))) (λ x. limit-by after x (within-limit st e (x .holds .id))) xs)
+      (All-every (Pass (ifLive processId (withinLimit after)))
+      (λ x. limit-by after x (within-limit st e (x .holds .id))) xs)
 
   pub marks-sound : sound st ≡ true → sound after ≡ true
   unfolding actionsLong fieldsFit hasThread belongs killStopDefault processFlagsKnown
@@ -211,40 +242,61 @@ module _ (st : Store) (g : Queue → SigSet → SigSet) (new : Queue → ℕ →
         lengths =
             record {
               processes = length-map (st .processes) processAfter ∙ a .lengths .processes;
-              actions = all-mapped processAfter actionsLong actionsLong (λ x h. h) (st .processes) (a .lengths .actions);
+              actions =
+                  all-mapped processAfter actionsLong actionsLong (λ x h. h) (st .processes) (a .lengths .actions);
               threads = length-map (st .threads) threadAfter ∙ a .lengths .threads;
               threadSlots = a .lengths .threadSlots;
               processSlots = a .lengths .processSlots;
             };
-        processFree = all-mapped processAfter (ifFree processId zeroProcess) (ifFree processId zeroProcess) free-process-after (st .processes) (a .processFree);
-        processIds = all-mapped processAfter (ifLive processId goodProcessId) (ifLive processId goodProcessId) (λ x h. h) (st .processes) (a .processIds);
-        processApart = pairsWhere-map processAfter (isLive processId) (apart processId) (st .processes) ∙ a .processApart;
+        processFree =
+            all-mapped processAfter (ifFree processId zeroProcess) (ifFree processId zeroProcess) free-process-after
+            (st .processes) (a .processFree);
+        processIds =
+            all-mapped processAfter (ifLive processId goodProcessId) (ifLive processId goodProcessId) (λ x h. h)
+            (st .processes) (a .processIds);
+        processApart =
+            pairsWhere-map processAfter (isLive processId) (apart processId) (st .processes) ∙ a .processApart;
         fields = all-mapped processAfter fieldsFit fieldsFit (λ x h. h) (st .processes) (a .fields);
         have-threads =
             all-mapped processAfter (ifLive processId (hasThread v)) (ifLive processId (hasThread w))
             (λ x h. rw (same-hasThread w v vt (processAfter x)) h) (st .processes) (a .have-threads);
-        processSets = all-mapped processAfter processUnmasked processUnmasked process-sets-after (st .processes) (a .processSets);
+        processSets =
+            all-mapped processAfter processUnmasked processUnmasked process-sets-after (st .processes) (a .processSets);
         defaults = all-mapped processAfter killStopDefault killStopDefault (λ x h. h) (st .processes) (a .defaults);
         flags = all-mapped processAfter processFlagsKnown processFlagsKnown (λ x h. h) (st .processes) (a .flags);
         limit = limit-after e (after .processes);
         processMarksNotIgnored = processes-not-ignored e (a .processMarksNotIgnored);
-        threadFree = all-mapped threadAfter (ifFree threadId zeroThread) (ifFree threadId zeroThread) free-thread-after (st .threads) (a .threadFree);
-        threadIds = all-mapped threadAfter (ifLive threadId goodThreadId) (ifLive threadId goodThreadId) (λ x h. h) (st .threads) (a .threadIds);
+        threadFree =
+            all-mapped threadAfter (ifFree threadId zeroThread) (ifFree threadId zeroThread) free-thread-after
+            (st .threads) (a .threadFree);
+        threadIds =
+            all-mapped threadAfter (ifLive threadId goodThreadId) (ifLive threadId goodThreadId) (λ x h. h)
+            (st .threads) (a .threadIds);
         threadApart = pairsWhere-map threadAfter (isLive threadId) (apart threadId) (st .threads) ∙ a .threadApart;
         owned =
             all-mapped threadAfter (ifLive threadId (belongs v)) (ifLive threadId (belongs w))
             (λ x h. rw (same-belongs w v vp (threadAfter x)) h) (st .threads) (a .owned);
-        threadSets = all-mapped threadAfter threadUnmasked threadUnmasked thread-sets-after (st .threads) (a .threadSets);
+        threadSets =
+            all-mapped threadAfter threadUnmasked threadUnmasked thread-sets-after (st .threads) (a .threadSets);
         threadMarksNotIgnored =
-            all-mapped threadAfter (ifLive threadId (threadNotIgnored v)) (ifLive threadId (threadNotIgnored w)) thread-not-ignored-after (st .threads) (a .threadMarksNotIgnored);
+            all-mapped threadAfter (ifLive threadId (threadNotIgnored v))
+            (ifLive threadId (threadNotIgnored w)) thread-not-ignored-after (st .threads) (a .threadMarksNotIgnored);
         threadRest = a .threadRest;
-        threadAimed = all-same (aimedAtThread w) (aimedAtThread v) (used (st .threadBuffer)) (same-aimedAtThread w v vp vt) ∙ a .threadAimed;
+        threadAimed =
+            all-same (aimedAtThread w) (aimedAtThread v) (used (st .threadBuffer)) (same-aimedAtThread w v vp vt)
+            ∙ a .threadAimed;
         threadOnce = a .threadOnce;
         threadUnmarked = unmarked-after (used (st .threadBuffer)) (thread-queued st e) (a .threadUnmarked);
-        threadRecordsNotIgnored = all-same (recordNotIgnored w) (recordNotIgnored v) (used (st .threadBuffer)) (same-recordNotIgnored w v vp) ∙ a .threadRecordsNotIgnored;
+        threadRecordsNotIgnored =
+            all-same (recordNotIgnored w) (recordNotIgnored v) (used (st .threadBuffer)) (same-recordNotIgnored w v vp)
+            ∙ a .threadRecordsNotIgnored;
         processRest = a .processRest;
-        processAimed = all-same (aimedAtProcess w) (aimedAtProcess v) (used (st .processBuffer)) (same-aimedAtProcess w v vp) ∙ a .processAimed;
+        processAimed =
+            all-same (aimedAtProcess w) (aimedAtProcess v) (used (st .processBuffer)) (same-aimedAtProcess w v vp)
+            ∙ a .processAimed;
         processOnce = a .processOnce;
         processUnmarked = unmarked-after (used (st .processBuffer)) (process-queued st e) (a .processUnmarked);
-        processRecordsNotIgnored = all-same (recordNotIgnored w) (recordNotIgnored v) (used (st .processBuffer)) (same-recordNotIgnored w v vp) ∙ a .processRecordsNotIgnored;
+        processRecordsNotIgnored =
+            all-same (recordNotIgnored w) (recordNotIgnored v) (used (st .processBuffer)) (same-recordNotIgnored w v vp)
+            ∙ a .processRecordsNotIgnored;
       }

@@ -1,4 +1,5 @@
--- What is in view after a change of what is pending: the same processes and threads. What reads those alone says the same. Assumes nothing.
+-- What is in view after a change of what is pending: the same processes and threads.
+-- What reads those alone says the same. Assumes nothing.
 use Prim.Native.Nat.{ℕ}
 use mathlib.Core.Path.{_≡_, refl, ap, ap₂}
 use mathlib.Core.Bool.{Bool, not, _&&_, _||_, cond}
@@ -13,9 +14,12 @@ use Rattle.sigset.specs.Set.{union, without, ofSignal}
 use Rattle.types.specs.declared.Siginfo.{Siginfo}
 use Rattle.rules.specs.Types.{Process, Thread, Queue, noProcess, noThread}
 use Rattle.rules.specs.Signals.{ignored}
-use Rattle.rules.specs.View.{View, setMark, clearMark, dropOldest, discard, isProcess, isThread, belongsTo, sameQueue, processQueue, threadQueue, actionOf, liveProcess, liveThread, theProcess, theThread, threadAction}
+use Rattle.rules.specs.View.{View, setMark, clearMark, dropOldest, discard, isProcess, isThread, belongsTo}
+use Rattle.rules.specs.View.{sameQueue, processQueue, threadQueue, actionOf, liveProcess, liveThread, theProcess}
+use Rattle.rules.specs.View.{theThread, threadAction}
 use Rattle.rules.specs.Store.{Place, Store, held, mapMarks, onMarks, view, apply}
-use Rattle.rules.specs.Sound.{nameable, belongs, hasThread, namesLive, aimedAtThread, aimedAtProcess, marksNotIgnored, recordNotIgnored, threadNotIgnored}
+use Rattle.rules.specs.Sound.{nameable, belongs, hasThread, namesLive, aimedAtThread, aimedAtProcess}
+use Rattle.rules.specs.Sound.{marksNotIgnored, recordNotIgnored, threadNotIgnored}
 use Rattle.rules.specs.Refusals.{noProcessLive, noThreadLive, badTarget}
 
 -- ---- two views with the same processes, the same threads, or both
@@ -36,15 +40,18 @@ module _ (v w : View) where
 
     pub same-recordNotIgnored : (r : Siginfo) → recordNotIgnored v r ≡ recordNotIgnored w r
     unfolding recordNotIgnored
-    same-recordNotIgnored r = ap (λ (a : Process). not (ignored (actionOf a (r .signal)) (r .signal))) (same-theProcess (r .process))
+    same-recordNotIgnored r =
+        ap (λ (a : Process). not (ignored (actionOf a (r .signal)) (r .signal))) (same-theProcess (r .process))
 
     pub same-threadNotIgnored : (x : Place Thread) → threadNotIgnored v x ≡ threadNotIgnored w x
     unfolding threadAction
-    same-threadNotIgnored x = ap (λ (a : Process). marksNotIgnored (x .marks) (actionOf a)) (same-theProcess (x .holds .process))
+    same-threadNotIgnored x =
+        ap (λ (a : Process). marksNotIgnored (x .marks) (actionOf a)) (same-theProcess (x .holds .process))
 
     same-namesLive : (r : Siginfo) → namesLive v r ≡ namesLive w r
     unfolding namesLive
-    same-namesLive r = ap (λ (b : Bool). eqb (r .code) siQueue && (nameable (r .signal) && b)) (same-liveProcess (r .process))
+    same-namesLive r =
+        ap (λ (b : Bool). eqb (r .code) siQueue && (nameable (r .signal) && b)) (same-liveProcess (r .process))
 
     pub same-aimedAtProcess : (r : Siginfo) → aimedAtProcess v r ≡ aimedAtProcess w r
     unfolding aimedAtProcess
@@ -64,14 +71,17 @@ module _ (v w : View) where
     same-hasThread x = ap (any (belongsTo (x .holds .id))) t
 
     -- the thread is live and of the process
-    same-ofProcess : (n p : ℕ) → (liveThread v n && eqb (theThread v n .process) p) ≡ (liveThread w n && eqb (theThread w n .process) p)
+    same-ofProcess : (n p : ℕ)
+        → (liveThread v n && eqb (theThread v n .process) p) ≡ (liveThread w n && eqb (theThread w n .process) p)
     same-ofProcess n p = ap₂ (λ (b : Bool) (a : Thread). b && eqb (a .process) p) (same-liveThread n) (same-theThread n)
 
-  pub same-target : (to n : ℕ) → liveProcess v to ≡ liveProcess w to → liveThread v n ≡ liveThread w n → theThread v n ≡ theThread w n
+  pub same-target : (to n : ℕ) → liveProcess v to ≡ liveProcess w to → liveThread v n ≡ liveThread w n
+      → theThread v n ≡ theThread w n
       → badTarget v to n ≡ badTarget w to n
   unfolding badTarget noProcessLive noThreadLive
   same-target to n p l t =
-      ap₂ (λ (a b : Bool). not a || (not (eqb n 0) && b)) p (ap₂ (λ (b : Bool) (a : Thread). not b || not (eqb (a .process) to)) l t)
+      ap₂ (λ (a b : Bool). not a || (not (eqb n 0) && b)) p
+      (ap₂ (λ (b : Bool) (a : Thread). not b || not (eqb (a .process) to)) l t)
 
   module _ (p : v .processes ≡ w .processes) (t : v .threads ≡ w .threads) where
     pub same-aimedAtThread : (r : Siginfo) → aimedAtThread v r ≡ aimedAtThread w r
@@ -98,7 +108,8 @@ abbrev pub discarding : ℕ → SigSet → Queue → SigSet → SigSet
 discarding p signals = cutting (λ q. eqb (q .process) p) signals
 
 pub held-marks : {A : Type 0} (g : A → SigSet → SigSet) (xs : List (Place A)) → map held (mapMarks g xs) ≡ map held xs
-held-marks {A} g = map-same held (λ (x : Place A). record { holds = x .holds; marks = g (x .holds) (x .marks) }) (λ x. refl)
+held-marks {A} g =
+    map-same held (λ (x : Place A). record { holds = x .holds; marks = g (x .holds) (x .marks) }) (λ x. refl)
 
 module _ (st : Store) where
   module _ (g : Queue → SigSet → SigSet) where

@@ -45,4 +45,5 @@ module _ (v : View) (p : ℕ) (l : liveProcess v p ≡ true) where
   unfolding badTarget noProcessLive noThreadLive
   own-live t k e =
       target-queue v p t
-      (or-both (ap not l) (and-right (not (eqb t 0)) (or-both (ap not k) (ap not (eq-eqb (theThread v t .process) p e)))))
+      (or-both (ap not l)
+      (and-right (not (eqb t 0)) (or-both (ap not k) (ap not (eq-eqb (theThread v t .process) p e)))))

@@ -1,5 +1,6 @@
--- A list of calls on a sound store, computed quickly: without the row of 14, which never applies since sound stays sound, and with marks looked for
--- only where a place has some. So what it costs hardly grows with the tables, and it comes to the same as `run`. Assumes nothing.
+-- A list of calls on a sound store, computed quickly: without the row of 14,
+-- which never applies since sound stays sound, and with marks looked for only where a place has some.
+-- So what it costs hardly grows with the tables, and it comes to the same as `run`. Assumes nothing.
 use Prim.Native.Nat.{ℕ, zero, suc}
 use mathlib.Core.Path.{_≡_, refl, sym, ap, ap₂, _∙_}
 use mathlib.Core.Bool.{Bool, true, false, not, _&&_, _||_, cond}
@@ -52,7 +53,12 @@ module _ {A : Type 0} (queueAt : Place A → Queue) (q : Queue) (s : ℕ) where
 -- the store with the marked places alone
 unfoldable pub markedPlaces : Store → Store
 markedPlaces st =
-    record { processes = keep marked (st .processes); threads = keep marked (st .threads); threadBuffer = st .threadBuffer; processBuffer = st .processBuffer }
+    record {
+      processes = keep marked (st .processes);
+      threads = keep marked (st .threads);
+      threadBuffer = st .threadBuffer;
+      processBuffer = st .processBuffer;
+    }
 
 same-mark : (st : Store) (q : Queue) (s : ℕ) → markIn st q s ≡ markIn (markedPlaces st) q s
 unfolding markIn markedPlaces markAt
@@ -113,7 +119,8 @@ same-step : (c : Call) (st : Store) → sound st ≡ true → step c st ≡ quic
 unfolding step quickStep
 same-step c st e =
     ap (λ (n : ℕ). finish n c st) (sound-refusal c st e)
-    ∙ (finishes (refusal (rows (view st) c)) c st ∙ ap (λ (v : View). quickFinish v (refusal (rows v c)) c st) (same-view st))
+    ∙ (finishes (refusal (rows (view st) c)) c st
+    ∙ ap (λ (v : View). quickFinish v (refusal (rows v c)) c st) (same-view st))
 
 -- ---- a list of calls
 
@@ -123,7 +130,8 @@ same-run [] st u e = refl
 same-run (c ∷ cs) st u e =
     let a : step c st ≡ quickStep c st = same-step c st e in
     let r : run cs (step c st .0) ≡ quickRun cs (quickStep c st .0) =
-    same-run cs (step c st .0) (and-snd (machine c) (all machine cs) u) (step-sound c st (and-fst (machine c) (all machine cs) u) e)
+    same-run cs (step c st .0) (and-snd (machine c) (all machine cs) u)
+    (step-sound c st (and-fst (machine c) (all machine cs) u) e)
     ∙ ap (λ (x : Store × Answer). quickRun cs (x .0)) a in
     λ i. (r i .0, a i .1 ∷ r i .1)
 
@@ -131,13 +139,16 @@ same-run (c ∷ cs) st u e =
 
 unfoldable pub quickPart : (thread : ℕ) → Store → Part
 quickPart t st =
-    let v : View = quickView st in cond (eqb (refusal (rows v (look t))) 0) (partOf st (next v (theThread v t))) emptyPart
+    let v : View = quickView st in
+    cond (eqb (refusal (rows v (look t))) 0) (partOf st (next v (theThread v t))) emptyPart
 
 pub same-part : (t : ℕ) (st : Store) → sound st ≡ true → lookPart t st ≡ quickPart t st
 unfolding lookPart quickPart
 same-part t st e =
-    ap (λ (n : ℕ). cond (eqb n 0) (partOf st (next (view st) (theThread (view st) t))) emptyPart) (sound-refusal (look t) st e)
-    ∙ ap (λ (v : View). cond (eqb (refusal (rows v (look t))) 0) (partOf st (next v (theThread v t))) emptyPart) (same-view st)
+    ap (λ (n : ℕ). cond (eqb n 0) (partOf st (next (view st) (theThread (view st) t))) emptyPart)
+    (sound-refusal (look t) st e)
+    ∙ ap (λ (v : View). cond (eqb (refusal (rows v (look t))) 0) (partOf st (next v (theThread v t))) emptyPart)
+    (same-view st)
 
 -- what a quick run opens, beside the rules
 unfoldable pub quickComputing : Unit {0}

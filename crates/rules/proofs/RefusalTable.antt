@@ -27,7 +27,8 @@ Off r = r .applies ≡ false
 -- ---- any rows
 
 -- the first row that applies is the one given
-pub first-given : (before : List Row) (r : Row) (after : List Row) → All Off before → r .applies ≡ true → refusal (before ++ (r ∷ after)) ≡ r .errno
+pub first-given : (before : List Row) (r : Row) (after : List Row) → All Off before → r .applies ≡ true
+    → refusal (before ++ (r ∷ after)) ≡ r .errno
 unfolding refusal
 first-given [] r after off on = rw on
 first-given (b ∷ before) r after off on = rw (off .0) (first-given before r after (off .1) on)
@@ -39,7 +40,8 @@ none-given [] off = refl
 none-given (r ∷ rs) off = rw (off .0) (none-given rs (off .1))
 
 -- what is given passes a test that 0 passes and that each row's number passes, where the row applies
-pub given-passes : (p : ℕ → Bool) (rs : List Row) → p 0 ≡ true → All (λ (r : Row). r .applies ≡ true → p (r .errno) ≡ true) rs → p (refusal rs) ≡ true
+pub given-passes : (p : ℕ → Bool) (rs : List Row) → p 0 ≡ true
+    → All (λ (r : Row). r .applies ≡ true → p (r .errno) ≡ true) rs → p (refusal rs) ≡ true
 unfolding refusal
 given-passes p [] z h = z
 given-passes p (r ∷ rs) z h = split (r .applies) (λ e. rw e (h .0 e)) (λ e. rw e (given-passes p rs z (h .1)))
@@ -121,7 +123,8 @@ rows-no-fault v c =
 -- ---- what is given
 
 -- the first row of a call's table that applies is the one given
-pub first-of-table : (st : Store) (c : Call) (before : List Row) (r : Row) (after : List Row) → table st c ≡ before ++ (r ∷ after)
+pub first-of-table : (st : Store) (c : Call) (before : List Row) (r : Row) (after : List Row)
+    → table st c ≡ before ++ (r ∷ after)
     → All Off before → r .applies ≡ true → refusalOf st c ≡ r .errno
 unfolding refusalOf
 first-of-table st c before r after e off on = ap refusal e ∙ first-given before r after off on
@@ -131,7 +134,8 @@ pub only-listed : (st : Store) (c : Call) → (eqb (refusalOf st c) 0 || listed 
 unfolding refusalOf
 only-listed st c =
     given-passes (λ n. eqb n 0 || listed n) (table st c) refl
-    (All-imp (Pass listedRow) (λ (r : Row). r .applies ≡ true → (eqb (r .errno) 0 || listed (r .errno)) ≡ true) (λ r h e. or-right (eqb (r .errno) 0) h) (table st c) (rows-listed st c))
+    (All-imp (Pass listedRow) (λ (r : Row). r .applies ≡ true → (eqb (r .errno) 0 || listed (r .errno)) ≡ true)
+    (λ r h e. or-right (eqb (r .errno) 0) h) (table st c) (rows-listed st c))
 
 all-off : (rs : List Row) → All (Pass listedRow) rs → refusal rs ≡ 0 → All Off rs
 unfolding refusal any
@@ -176,7 +180,9 @@ notFull n = not (eqb n EAGAIN)
 pub kill-has-room : (st : Store) (by to t s : ℕ) → refusalOf st (kill by to t s) ≡ EAGAIN → ⊥
 unfolding refusalOf table rows fault
 kill-has-room st by to t s e =
-    clash (given-passes notFull (table st (kill by to t s)) refl ((λ k. refl), ((λ k. refl), ((λ k. refl), ((λ k. refl), tt))))) (ap notFull e)
+    clash (given-passes notFull (table st (kill by to t s)) refl
+    ((λ k. refl), ((λ k. refl), ((λ k. refl), ((λ k. refl), tt)))))
+    (ap notFull e)
 
 -- nor does a queued KILL or STOP, whatever is pending
 pub queue-has-room : (st : Store) (by to t s value : ℕ) → isUnmaskable s ≡ true

@@ -1,4 +1,5 @@
--- A process below its limit finds a free slot in either buffer: the processes' limits together are no more than a buffer holds. Assumes nothing.
+-- A process below its limit finds a free slot in either buffer:
+-- the processes' limits together are no more than a buffer holds. Assumes nothing.
 use Prim.Native.Nat.{ℕ, _+_, _*_, _≤_, _<_}
 use mathlib.Core.Path.{_≡_, sym, ap, _∙_}
 use mathlib.Core.Bool.{Bool, true, not}
@@ -10,7 +11,8 @@ use borrow.Author.Tests.{eqb-true, eq-eqb}
 use Rattle.limits.specs.Limits.{processPlaces, bufferRecords, recordLimit}
 use Rattle.lists.specs.Lists.{count, All}
 use Rattle.lists.proofs.Bools.{split, and-snd}
-use Rattle.lists.proofs.Lists.{Pass, All-imp, All-every, All-append, All-map, any-map, any-imp, any-count, count-yes, count-no, count-map, count-append}
+use Rattle.lists.proofs.Lists.{Pass, All-imp, All-every, All-append, All-map, any-map, any-imp, any-count, count-yes}
+use Rattle.lists.proofs.Lists.{count-no, count-map, count-append}
 use Rattle.lists.proofs.Sums.{pigeonhole}
 use Rattle.types.specs.declared.Siginfo.{Siginfo}
 use Rattle.rules.specs.Types.{Process}
@@ -33,7 +35,9 @@ module _ (st : Store) where
   names = map named (used (st .threadBuffer) ++ used (st .processBuffer))
 
   names-length : length names ≡ length (used (st .threadBuffer)) + length (used (st .processBuffer))
-  names-length = length-map (used (st .threadBuffer) ++ used (st .processBuffer)) named ∙ length-append (used (st .threadBuffer)) (used (st .processBuffer))
+  names-length =
+      length-map (used (st .threadBuffer) ++ used (st .processBuffer)) named
+      ∙ length-append (used (st .threadBuffer)) (used (st .processBuffer))
 
   names-count : (x : Place Process) → count (isOf x) names ≡ queuedIn st (x .holds .id)
   unfolding queuedIn
@@ -47,17 +51,21 @@ module _ (st : Store) where
   placed n l =
       any-count (λ x. isOf x n) (st .processes)
       (any-imp (λ (x : Place Process). isProcess n (x .holds)) (λ x. isOf x n)
-      (λ x k. eq-eqb n (x .holds .id) (sym (eqb-true (x .holds .id) n (and-snd (not (eqb n 0)) (eqb (x .holds .id) n) k))))
+      (λ x k.
+      eq-eqb n (x .holds .id) (sym (eqb-true (x .holds .id) n (and-snd (not (eqb n 0)) (eqb (x .holds .id) n) k))))
       (st .processes) (sym (any-map (isProcess n) held (st .processes)) ∙ l))
 
   module _ (e : sound st ≡ true) where
     names-placed : All (λ n. 1 ≤ count (λ x. isOf x n) (st .processes)) names
     names-placed =
         let P : Siginfo → Type 0 = λ r. 1 ≤ count (λ x. isOf x (r .process)) (st .processes) in
-        All-map (λ n. 1 ≤ count (λ x. isOf x n) (st .processes)) named (used (st .threadBuffer) ++ used (st .processBuffer))
+        All-map (λ n. 1 ≤ count (λ x. isOf x n) (st .processes)) named
+        (used (st .threadBuffer) ++ used (st .processBuffer))
         (All-append P (used (st .threadBuffer)) (used (st .processBuffer))
-        (All-imp (Pass (aimedAtThread (view st))) P (λ r a. placed (r .process) (thread-process-live st r a)) (used (st .threadBuffer)) (thread-aimed st e))
-        (All-imp (Pass (aimedAtProcess (view st))) P (λ r a. placed (r .process) (process-live st r a)) (used (st .processBuffer)) (process-aimed st e)))
+        (All-imp (Pass (aimedAtThread (view st))) P (λ r a. placed (r .process) (thread-process-live st r a))
+        (used (st .threadBuffer)) (thread-aimed st e))
+        (All-imp (Pass (aimedAtProcess (view st))) P (λ r a. placed (r .process) (process-live st r a))
+        (used (st .processBuffer)) (process-aimed st e)))
 
     -- with one record more of a process below its limit, no place has too many
     names-fit : (p : ℕ) → queuedIn st p < recordLimit → (x : Place Process) → count (isOf x) (p ∷ names) ≤ recordLimit
@@ -74,5 +82,6 @@ module _ (st : Store) where
         let n : length (p ∷ names) ≤ length (st .processes) * recordLimit =
         pigeonhole isOf recordLimit (st .processes) (p ∷ names) (placed p l, names-placed)
         (All-every (λ x. count (isOf x) (p ∷ names) ≤ recordLimit) (names-fit p h) (st .processes)) in
-        let k : length (st .processes) * recordLimit ≡ processPlaces * recordLimit = ap (λ (m : ℕ). m * recordLimit) (processes-length st e) in
+        let k : length (st .processes) * recordLimit ≡ processPlaces * recordLimit =
+        ap (λ (m : ℕ). m * recordLimit) (processes-length st e) in
         (omega (arith, names-length), omega (arith, names-length))

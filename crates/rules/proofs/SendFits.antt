@@ -1,4 +1,5 @@
--- The changes of a send, of a new action and of a new mask fit, one after the other, the store that the call found. Assumes nothing.
+-- The changes of a send, of a new action and of a new mask fit, one after the other, the store that the call found.
+-- Assumes nothing.
 use Prim.Native.Nat.{ℕ, _≤_}
 use mathlib.Core.Path.{_≡_, refl, sym, ap, _∙_}
 use mathlib.Core.Bool.{Bool, true, false, not, _&&_, cond, and-assoc}
@@ -8,28 +9,33 @@ use native.Mathlib.Omega.{arith}
 use lib.Dec.{eqb, leb, ltb}
 use borrow.Author.Tests.{eq-eqb, eqb-false, ltb-false, leb-false, lt-ltb, le-leb}
 use Rattle.limits.specs.Limits.{signals, recordLimit, SIGKILL, SIGCONT, SIGSTOP, siQueue}
-use Rattle.lists.proofs.Bools.{split, clash, and-fst, and-both, cond-true, cond-false, or-both, or-fst-false, or-snd-false, imp-by}
+use Rattle.lists.proofs.Bools.{split, clash, and-fst, and-both, cond-true, cond-false, or-both, or-fst-false}
+use Rattle.lists.proofs.Bools.{or-snd-false, imp-by}
 use Rattle.sigset.specs.declared.SigSet.{SigSet}
 use Rattle.sigset.specs.Set.{setOf, ofSignal, isUnmaskable}
 use Rattle.types.specs.declared.Action.{Action}
 use Rattle.types.specs.declared.Siginfo.{Siginfo}
 use Rattle.rules.specs.Types.{Queue}
 use Rattle.rules.specs.Signals.{isSignal, standard, stopSignal, ignored}
-use Rattle.rules.specs.View.{View, Change, setStopped, setAction, setMark, append, discard, targetQueue, actionOf, liveProcess, liveThread, theProcess, pendingIn}
+use Rattle.rules.specs.View.{View, Change, setStopped, setAction, setMark, append, discard, targetQueue, actionOf}
+use Rattle.rules.specs.View.{liveProcess, liveThread, theProcess, pendingIn}
 use Rattle.rules.specs.Store.{Store, view, apply, applyAll}
 use Rattle.rules.specs.Sound.{unmasked, flagsKnown, nameable, sound}
-use Rattle.rules.specs.Sending.{Generation, testing, killing, stopping, dropping, absorbing, marking, keeping, absorbs, generation, infoOf, jobControl, sendChanges, needsRecord}
+use Rattle.rules.specs.Sending.{Generation, testing, killing, stopping, dropping, absorbing, marking, keeping}
+use Rattle.rules.specs.Sending.{absorbs, generation, infoOf, jobControl, sendChanges, needsRecord}
 use Rattle.rules.specs.Actions.{stored, storeChanges, actionChanges, newMask, maskChanges}
 use Rattle.rules.specs.Refusals.{overLast, badAction, badTarget, noRoom}
 use Rattle.rules.specs.Calls.{send}
 use Rattle.rules.specs.Fitting.{liveQueue, pendsSomewhere, admits, fits, fitsAll}
-use Rattle.rules.proofs.FewerPending.{FewerPending, fewer-refl, fewer-trans, fewer-discard, fewer-stopped, admits-fewer, append-fewer}
+use Rattle.rules.proofs.FewerPending.{FewerPending, fewer-refl, fewer-trans, fewer-discard, fewer-stopped}
+use Rattle.rules.proofs.FewerPending.{admits-fewer, append-fewer}
 use Rattle.rules.proofs.DiscardPending.{discard-clears}
 use Rattle.rules.proofs.Flags.{stored-known}
 use Rattle.rules.proofs.Queues.{target-process}
 use Rattle.rules.proofs.Unmaskable.{unmasked-maskable}
 
-pub fitsAll-append : (xs ys : List Change) (st : Store) → fitsAll (xs ++ ys) st ≡ (fitsAll xs st && fitsAll ys (applyAll xs st))
+pub fitsAll-append : (xs ys : List Change) (st : Store)
+    → fitsAll (xs ++ ys) st ≡ (fitsAll xs st && fitsAll ys (applyAll xs st))
 unfolding fitsAll applyAll
 fitsAll-append [] ys st = refl
 fitsAll-append (c ∷ xs) ys st =
@@ -38,7 +44,8 @@ fitsAll-append (c ∷ xs) ys st =
 
 -- ---- job control
 
-job-cases : (P : List Change → Type 0) (p s : ℕ) → ((x : SigSet) (b : ℕ) → leb b 1 ≡ true → P (discard p x ∷ setStopped p b ∷ []))
+job-cases : (P : List Change → Type 0) (p s : ℕ)
+    → ((x : SigSet) (b : ℕ) → leb b 1 ≡ true → P (discard p x ∷ setStopped p b ∷ []))
     → ((x : SigSet) → P (discard p x ∷ [])) → P [] → P (jobControl p s)
 unfolding jobControl
 job-cases P p s two one nil =
@@ -65,7 +72,8 @@ module _ (st : Store) (e : sound st ≡ true) (p : ℕ) (l : liveProcess (view s
       (λ x. fewer-discard st e p x)
       (fewer-refl (view st))
 
-pub job-fits : (st : Store) → sound st ≡ true → (p s : ℕ) → liveProcess (view st) p ≡ true → fitsAll (jobControl p s) st ≡ true
+pub job-fits : (st : Store) → sound st ≡ true → (p s : ℕ) → liveProcess (view st) p ≡ true
+    → fitsAll (jobControl p s) st ≡ true
 unfolding fitsAll fits
 job-fits st e p s l =
     job-cases (λ cs. fitsAll cs st ≡ true) p s
@@ -84,8 +92,10 @@ nameable-by s z o u =
 
 module _ (v : View) where
   -- a generation that keeps or marks has failed every test before it
-  generation-cases : (P : Generation → Type 0) (queued : Bool) (q : Queue) (s : ℕ) → P testing → P killing → P stopping → P dropping → P absorbing
-      → (eqb s 0 ≡ false → isUnmaskable s ≡ false → ignored (actionOf (theProcess v (q .process)) s) s ≡ false → absorbs v queued q s ≡ false
+  generation-cases : (P : Generation → Type 0) (queued : Bool) (q : Queue) (s : ℕ) → P testing → P killing → P stopping
+      → P dropping → P absorbing
+      → (eqb s 0 ≡ false → isUnmaskable s ≡ false → ignored (actionOf (theProcess v (q .process)) s) s ≡ false
+      → absorbs v queued q s ≡ false
       → P (cond queued keeping marking))
       → P (generation v queued q s)
   unfolding generation
@@ -106,18 +116,25 @@ module _ (v : View) where
       (λ e4. rw (e0, e1, e2, e3, e4) a)
       (λ e4. rw (e0, e1, e2, e3, e4) (m e0 (or-both e1 e2) e3 e4))))))
 
-  admits-by : (queued : Bool) (to t s : ℕ) → overLast s ≡ false → badTarget v to t ≡ false → eqb s 0 ≡ false → isUnmaskable s ≡ false
-      → ignored (actionOf (theProcess v to) s) s ≡ false → absorbs v queued (targetQueue to t) s ≡ false → admits v (targetQueue to t) s ≡ true
+  admits-by : (queued : Bool) (to t s : ℕ) → overLast s ≡ false → badTarget v to t ≡ false → eqb s 0 ≡ false
+      → isUnmaskable s ≡ false
+      → ignored (actionOf (theProcess v to) s) s ≡ false → absorbs v queued (targetQueue to t) s ≡ false
+      → admits v (targetQueue to t) s ≡ true
   unfolding admits liveQueue absorbs
   admits-by queued to t s o b z u i a =
       and-both (ap not b)
-      (and-both (nameable-by s z o u) (and-both (ap not i) (ap not (or-fst-false (standard s && pendingIn v (targetQueue to t) s) _ a))))
+      (and-both (nameable-by s z o u)
+      (and-both (ap not i) (ap not (or-fst-false (standard s && pendingIn v (targetQueue to t) s) _ a))))
 
-  room-by : (to t s : ℕ) → noRoom v to t s ≡ false → generation v true (targetQueue to t) s ≡ keeping → ltb (v .queued to) recordLimit ≡ true
+  room-by : (to t s : ℕ) → noRoom v to t s ≡ false → generation v true (targetQueue to t) s ≡ keeping
+      → ltb (v .queued to) recordLimit ≡ true
   unfolding noRoom needsRecord
-  room-by to t s n k = let f : leb recordLimit (v .queued to) ≡ false = rw k at n in lt-ltb (v .queued to) recordLimit (leb-false recordLimit (v .queued to) f)
+  room-by to t s n k =
+      let f : leb recordLimit (v .queued to) ≡ false = rw k at n in
+      lt-ltb (v .queued to) recordLimit (leb-false recordLimit (v .queued to) f)
 
-module _ (st : Store) (e : sound st ≡ true) (by to t s value : ℕ) (o : overLast s ≡ false) (b : badTarget (view st) to t ≡ false) where
+module _ (st : Store) (e : sound st ≡ true) (by to t s value : ℕ) (o : overLast s ≡ false)
+    (b : badTarget (view st) to t ≡ false) where
   abbrev sent : Siginfo
   sent = infoOf (view st) by to t s value
 
@@ -125,24 +142,32 @@ module _ (st : Store) (e : sound st ≡ true) (by to t s value : ℕ) (o : overL
   controls = job-fits st e to s (target-process (view st) to t b)
 
   -- a change after job control that fitted before it
-  then-fits : (c : Change) → (FewerPending (view st) (view (applyAll (jobControl to s) st)) → fits (view (applyAll (jobControl to s) st)) c ≡ true)
+  then-fits : (c : Change)
+      → (FewerPending (view st) (view (applyAll (jobControl to s) st))
+      → fits (view (applyAll (jobControl to s) st)) c ≡ true)
       → fitsAll (jobControl to s ++ (c ∷ [])) st ≡ true
   unfolding fitsAll
   then-fits c f =
-      fitsAll-append (jobControl to s) (c ∷ []) st ∙ and-both controls (and-both (f (job-fewer st e to (target-process (view st) to t b) s)) refl)
+      fitsAll-append (jobControl to s) (c ∷ []) st
+      ∙ and-both controls (and-both (f (job-fewer st e to (target-process (view st) to t b) s)) refl)
 
   marking-fits : admits (view st) (targetQueue to t) s ≡ true → fitsAll (sendChanges marking sent) st ≡ true
   unfolding sendChanges infoOf fits
   marking-fits a = then-fits (setMark (targetQueue to t) s) (λ c. admits-fewer c (targetQueue to t) s a)
 
-  keeping-fits : admits (view st) (targetQueue to t) s ≡ true → ltb (view st .queued to) recordLimit ≡ true → fitsAll (sendChanges keeping sent) st ≡ true
+  keeping-fits : admits (view st) (targetQueue to t) s ≡ true → ltb (view st .queued to) recordLimit ≡ true
+      → fitsAll (sendChanges keeping sent) st ≡ true
   unfolding sendChanges infoOf fits
-  keeping-fits a r = then-fits (append sent) (λ c. append-fewer c sent (and-both (eq-eqb siQueue siQueue refl) (and-both a r)))
+  keeping-fits a r =
+      then-fits (append sent) (λ c. append-fewer c sent (and-both (eq-eqb siQueue siQueue refl) (and-both a r)))
 
-  sent-fits : (queued : Bool) → (queued ≡ true → noRoom (view st) to t s ≡ false) → fitsAll (sendChanges (generation (view st) queued (targetQueue to t) s) sent) st ≡ true
+  sent-fits : (queued : Bool) → (queued ≡ true → noRoom (view st) to t s ≡ false)
+      → fitsAll (sendChanges (generation (view st) queued (targetQueue to t) s) sent) st ≡ true
   unfolding sendChanges infoOf fitsAll fits
   sent-fits queued n =
-      generation-cases (view st) (λ f. generation (view st) queued (targetQueue to t) s ≡ f → fitsAll (sendChanges f sent) st ≡ true) queued (targetQueue to t) s
+      generation-cases (view st)
+      (λ f. generation (view st) queued (targetQueue to t) s ≡ f → fitsAll (sendChanges f sent) st ≡ true) queued
+      (targetQueue to t) s
       (λ _. refl)
       (λ _. and-both (target-process (view st) to t b) refl)
       (λ _. controls)
@@ -155,19 +180,23 @@ module _ (st : Store) (e : sound st ≡ true) (by to t s value : ℕ) (o : overL
       (λ k. rw k (λ h. marking-fits d)))
       refl
 
-pub send-fits : (st : Store) → sound st ≡ true → (queued : Bool) (by to t s value : ℕ) → overLast s ≡ false → badTarget (view st) to t ≡ false
+pub send-fits : (st : Store) → sound st ≡ true → (queued : Bool) (by to t s value : ℕ) → overLast s ≡ false
+    → badTarget (view st) to t ≡ false
     → (queued ≡ true → noRoom (view st) to t s ≡ false) → fitsAll (send (view st) queued by to t s value) st ≡ true
 unfolding send
 send-fits st e queued by to t s value o b n = sent-fits st e by to t s value o b queued n
 
 -- ---- an action
 
-setAction-fits : (v : View) (p s : ℕ) (a : Action) → liveProcess v p ≡ true → nameable s ≡ true → flagsKnown a ≡ true → unmasked (a .mask) ≡ true
+setAction-fits : (v : View) (p s : ℕ) (a : Action) → liveProcess v p ≡ true → nameable s ≡ true → flagsKnown a ≡ true
+    → unmasked (a .mask) ≡ true
     → (ignored a s ≡ true → pendsSomewhere v p s ≡ false) → fits v (setAction p s a) ≡ true
 unfolding fits
-setAction-fits v p s a l n f m h = and-both l (and-both n (and-both f (and-both m (imp-by (ignored a s) (λ i. ap not (h i))))))
+setAction-fits v p s a l n f m h =
+    and-both l (and-both n (and-both f (and-both m (imp-by (ignored a s) (λ i. ap not (h i))))))
 
-pub store-fits : (st : Store) → sound st ≡ true → (p s : ℕ) (a : Action) → liveProcess (view st) p ≡ true → nameable s ≡ true → flagsKnown a ≡ true
+pub store-fits : (st : Store) → sound st ≡ true → (p s : ℕ) (a : Action) → liveProcess (view st) p ≡ true
+    → nameable s ≡ true → flagsKnown a ≡ true
     → unmasked (a .mask) ≡ true → fitsAll (storeChanges p s a) st ≡ true
 unfolding storeChanges fitsAll fits nameable
 store-fits st e p s a l n f m =
@@ -176,12 +205,14 @@ store-fits st e p s a l n f m =
     (λ i.
     ap (λ (cs : List Change). fitsAll cs st) (cond-true _ _ i)
     ∙ and-both l
-    (and-both (setAction-fits (view after) p s a (live-after st e p l (ofSignal s)) n f m (λ _. discard-clears st e p s (and-fst (isSignal s) _ n))) refl))
+    (and-both (setAction-fits (view after) p s a (live-after st e p l (ofSignal s)) n f m
+    (λ _. discard-clears st e p s (and-fst (isSignal s) _ n))) refl))
     (λ i.
     ap (λ (cs : List Change). fitsAll cs st) (cond-false _ _ i)
     ∙ and-both (setAction-fits (view st) p s a l n f m (λ k. clash k i)) refl)
 
-pub action-fits : (st : Store) → sound st ≡ true → (p s : ℕ) (new : Option Action) → badAction s new ≡ false → liveProcess (view st) p ≡ true
+pub action-fits : (st : Store) → sound st ≡ true → (p s : ℕ) (new : Option Action) → badAction s new ≡ false
+    → liveProcess (view st) p ≡ true
     → fitsAll (actionChanges p s new) st ≡ true
 unfolding actionChanges badAction fitsAll stored
 action-fits st e p s none b l = refl
@@ -193,7 +224,8 @@ action-fits st e p s (some a) b l =
 
 -- ---- a mask
 
-pub mask-fits : (st : Store) → (t way : ℕ) (set : Option SigSet) → liveThread (view st) t ≡ true → fitsAll (maskChanges (view st) t way set) st ≡ true
+pub mask-fits : (st : Store) → (t way : ℕ) (set : Option SigSet) → liveThread (view st) t ≡ true
+    → fitsAll (maskChanges (view st) t way set) st ≡ true
 unfolding maskChanges newMask fitsAll fits
 mask-fits st t way none l = refl
 mask-fits st t way (some set) l = and-both (and-both l (unmasked-maskable _)) refl

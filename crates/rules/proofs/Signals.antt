@@ -14,7 +14,11 @@ use Rattle.rules.specs.Sound.{nameable}
 module _ (s : ℕ) where
   pub is-signal : isSignal s ≡ true → Signal s
   unfolding isSignal
-  is-signal e = record { low = leb-true 1 s (and-fst (leb 1 s) (leb s signals) e); high = leb-true s signals (and-snd (leb 1 s) (leb s signals) e) }
+  is-signal e =
+      record {
+        low = leb-true 1 s (and-fst (leb 1 s) (leb s signals) e);
+        high = leb-true s signals (and-snd (leb 1 s) (leb s signals) e);
+      }
 
   pub signal-is : Signal s → isSignal s ≡ true
   unfolding isSignal

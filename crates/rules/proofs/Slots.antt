@@ -9,7 +9,8 @@ use borrow.Author.Tests.{eqb-true}
 use Rattle.limits.specs.Limits.{bufferRecords}
 use Rattle.lists.specs.Lists.{all, leading, padded}
 use Rattle.lists.proofs.Bools.{and-fst, and-snd}
-use Rattle.lists.proofs.Lists.{Pass, All-imp, all-All, All-all, all-replicate, leading-passes, leading-padded, leading-take, length-leading, getD-leading, drop-padded, all-equal}
+use Rattle.lists.proofs.Lists.{Pass, All-imp, all-All, All-all, all-replicate, leading-passes, leading-padded}
+use Rattle.lists.proofs.Lists.{leading-take, length-leading, getD-leading, drop-padded, all-equal}
 use Rattle.lists.proofs.Sublists.{Within, all-within}
 use Rattle.types.specs.declared.Siginfo.{Siginfo}
 use Rattle.types.specs.Values.{noSiginfo}
@@ -21,9 +22,11 @@ use Rattle.rules.specs.Sound.{isZero, restZero}
 pub zero-is : (r : Siginfo) → isZero r ≡ true → r ≡ noSiginfo
 unfolding isZero
 zero-is r =
-    field (r .process) _ (λ e₀. field (r .thread) _ (λ e₁. field (r .signal) _ (λ e₂. field (r .code) _ (λ e₃. field (r .sender) _
+    field (r .process) _ (λ e₀. field (r .thread) _ (λ e₁. field (r .signal) _ (λ e₂. field (r .code) _ (λ e₃.
+    field (r .sender) _
     (λ e₄. field (r .uid) _ (λ e₅ h. let e₆ : r .value ≡ 0 = eqb-true (r .value) 0 h in
-    λ i. record { process = e₀ i; thread = e₁ i; signal = e₂ i; code = e₃ i; sender = e₄ i; uid = e₅ i; value = e₆ i }))))))
+    λ i.
+    record { process = e₀ i; thread = e₁ i; signal = e₂ i; code = e₃ i; sender = e₄ i; uid = e₅ i; value = e₆ i }))))))
   where
     field : (n : ℕ) (b : Bool) → (n ≡ 0 → b ≡ true → r ≡ noSiginfo) → (eqb n 0 && b) ≡ true → r ≡ noSiginfo
     field n b f e = f (eqb-true n 0 (and-fst (eqb n 0) b e)) (and-snd (eqb n 0) b e)
@@ -57,8 +60,10 @@ module _ (cs : List Siginfo) where
   laid-padded e =
       let k : ℕ = length (leading inUse cs) in
       let z : drop k cs ≡ replicate (length (drop k cs)) noSiginfo =
-      all-equal noSiginfo (drop k cs) (All-imp (Pass isZero) (λ r. r ≡ noSiginfo) zero-is (drop k cs) (all-All isZero (drop k cs) e)) in
-      sym (take-append-drop k cs) ∙ ap₂ (λ x y. x ++ y) (sym (leading-take inUse cs)) (z ∙ ap (λ n. replicate n noSiginfo) (length-drop k cs))
+      all-equal noSiginfo (drop k cs)
+      (All-imp (Pass isZero) (λ r. r ≡ noSiginfo) zero-is (drop k cs) (all-All isZero (drop k cs) e)) in
+      sym (take-append-drop k cs)
+      ∙ ap₂ (λ x y. x ++ y) (sym (leading-take inUse cs)) (z ∙ ap (λ n. replicate n noSiginfo) (length-drop k cs))
 
 module _ (n : ℕ) (rs : List Siginfo) (u : all inUse rs ≡ true) where
   pub used-padded : used (padded noSiginfo n rs) ≡ rs
@@ -68,7 +73,8 @@ module _ (n : ℕ) (rs : List Siginfo) (u : all inUse rs ≡ true) where
   pub padded-laid : restZero (padded noSiginfo n rs) ≡ true
   unfolding restZero
   padded-laid =
-      rw (used-padded, drop-padded noSiginfo n rs) (all-replicate isZero noSiginfo (is-zero noSiginfo refl) (n - length rs))
+      rw (used-padded, drop-padded noSiginfo n rs)
+      (all-replicate isZero noSiginfo (is-zero noSiginfo refl) (n - length rs))
 
 -- ---- after a change of the records
 

@@ -1,4 +1,5 @@
--- Sound stays sound: every call, accepted or refused, and every list of calls leaves a sound store sound. Assumes nothing.
+-- Sound stays sound: every call, accepted or refused, and every list of calls leaves a sound store sound.
+-- Assumes nothing.
 use Prim.Native.Nat.{ℕ}
 use mathlib.Core.Path.{_≡_, refl, ap, _∙_}
 use mathlib.Core.Bool.{Bool, true, false, not, _||_}
@@ -64,29 +65,35 @@ module _ (st : Store) where
   process-place e = not-false (any isFreeProcess (view st .processes)) e
 
   -- a thread is added to its creator's process, with its mask
-  add-thread-fits : sound st ≡ true → (creator id : ℕ) → badId id ≡ false → noThreadLive (view st) creator ≡ false → liveThread (view st) id ≡ false
+  add-thread-fits : sound st ≡ true → (creator id : ℕ) → badId id ≡ false → noThreadLive (view st) creator ≡ false
+      → liveThread (view st) id ≡ false
       → noThreadPlace (view st) ≡ false → fitsAll (addThreadChanges (view st) creator id) st ≡ true
   unfolding addThreadChanges fitsAll fits
   add-thread-fits e creator id b l d f =
       and-both
       (and-both (good-id id b)
       (and-both (ap not d)
-      (and-both (owner-live st e creator (thread-lives creator l)) (and-both (mask-unmasked st e creator) (thread-place f)))))
+      (and-both (owner-live st e creator (thread-lives creator l))
+      (and-both (mask-unmasked st e creator) (thread-place f)))))
       refl
 
-pub call-fits : (c : Call) (st : Store) → isAddProcess c ≡ false → refusalOf st c ≡ 0 → fitsAll (changes (view st) c) st ≡ true
+pub call-fits : (c : Call) (st : Store) → isAddProcess c ≡ false → refusalOf st c ≡ 0
+    → fitsAll (changes (view st) c) st ≡ true
 unfolding isAddProcess isClear changes table rows fitsAll fits
 call-fits clear st k e = refl
 call-fits (addProcess new) st k e = clash refl k
 call-fits (addThread creator id) st k e =
     let o = accepted-off st (addThread creator id) e .1 in
-    add-thread-fits st (accepted-sound st (addThread creator id) refl e) creator id (o .0) (o .1 .0) (o .1 .1 .0) (o .1 .1 .1 .0)
+    add-thread-fits st (accepted-sound st (addThread creator id) refl e) creator id (o .0) (o .1 .0) (o .1 .1 .0)
+    (o .1 .1 .1 .0)
 call-fits (endProcess id) st k e = and-both (process-lives st id (accepted-off st (endProcess id) e .1 .0)) refl
 call-fits (endThread id) st k e =
-    end-thread-fits st (accepted-sound st (endThread id) refl e) id (thread-lives st id (accepted-off st (endThread id) e .1 .0))
+    end-thread-fits st (accepted-sound st (endThread id) refl e) id
+    (thread-lives st id (accepted-off st (endThread id) e .1 .0))
 call-fits (kill by to t s) st k e =
     let o = accepted-off st (kill by to t s) e .1 in
-    send-fits st (accepted-sound st (kill by to t s) refl e) false by to t s 0 (o .0) (or-snd-false (noProcessLive (view st) by) _ (o .1 .0)) (λ h. clash h refl)
+    send-fits st (accepted-sound st (kill by to t s) refl e) false by to t s 0 (o .0)
+    (or-snd-false (noProcessLive (view st) by) _ (o .1 .0)) (λ h. clash h refl)
 call-fits (sigqueue by to t s value) st k e =
     let o = accepted-off st (sigqueue by to t s value) e .1 in
     send-fits st (accepted-sound st (sigqueue by to t s value) refl e) true by to t s value (o .0)
@@ -99,7 +106,8 @@ call-fits (sigmask t way set) st k e =
 call-fits (sigpending t) st k e = refl
 call-fits (look t) st k e = refl
 call-fits (who p) st k e = refl
-call-fits (take t) st k e = take-fits st (accepted-sound st (take t) refl e) t (thread-lives st t (accepted-off st (take t) e .1 .0))
+call-fits (take t) st k e =
+    take-fits st (accepted-sound st (take t) refl e) t (thread-lives st t (accepted-off st (take t) e .1 .0))
 call-fits (sigreturn t saved) st k e =
     mask-fits st t sigSetmask (some saved) (thread-lives st t (accepted-off st (sigreturn t saved) e .1 .0))
 
@@ -128,7 +136,8 @@ module _ (new : NewProcess) (st : Store) where
       (and-fst (isU32 (new .session)) _ u4)
 
 -- a call other than clearing and adding a process
-fitting-sound : (c : Call) (st : Store) → isClear c ≡ false → isAddProcess c ≡ false → refusalOf st c ≡ 0 → sound (applyAll (changes (view st) c) st) ≡ true
+fitting-sound : (c : Call) (st : Store) → isClear c ≡ false → isAddProcess c ≡ false → refusalOf st c ≡ 0
+    → sound (applyAll (changes (view st) c) st) ≡ true
 fitting-sound c st k a e = fits-all-keep (changes (view st) c) st (accepted-sound st c k e) (call-fits c st a e)
 
 kind-sound : {c : Call} (k : Kind c) → kindOf c ≡ k → (st : Store) → machine c ≡ true → refusalOf st c ≡ 0
@@ -144,7 +153,8 @@ changes-sound : (c : Call) (st : Store) → machine c ≡ true → refusalOf st 
     → sound (applyAll (changes (view st) c) st) ≡ true
 changes-sound c = kind-sound (kindOf c) refl
 
--- every accepted call leaves a sound store, through the same test that errno 14 uses; of arguments it asks only that they are machine numbers
+-- every accepted call leaves a sound store, through the same test that errno 14 uses;
+-- of arguments it asks only that they are machine numbers
 pub accepted-sound-after : (c : Call) (st : Store) → machine c ≡ true → refusalOf st c ≡ 0 → sound (step c st .0) ≡ true
 accepted-sound-after c st u e = ap sound (accepted-step c st e) ∙ changes-sound c st u e
 
@@ -156,4 +166,5 @@ pub run-sound : (cs : List Call) (st : Store) → all machine cs ≡ true → so
 unfolding run all
 run-sound [] st u e = e
 run-sound (c ∷ cs) st u e =
-    run-sound cs (step c st .0) (and-snd (machine c) (all machine cs) u) (step-sound c st (and-fst (machine c) (all machine cs) u) e)
+    run-sound cs (step c st .0) (and-snd (machine c) (all machine cs) u)
+    (step-sound c st (and-fst (machine c) (all machine cs) u) e)

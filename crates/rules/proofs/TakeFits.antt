@@ -16,10 +16,13 @@ use Rattle.types.specs.declared.Action.{Action}
 use Rattle.types.specs.declared.Siginfo.{Siginfo}
 use Rattle.rules.specs.Types.{Thread, Queue, Next}
 use Rattle.rules.specs.Signals.{Outcome, ignores, stops, continues, ends, outcome, isSignal}
-use Rattle.rules.specs.View.{Change, setMask, clearMark, dropOldest, sameQueue, threadQueue, processQueue, queueOf, inQueue, liveProcess, liveThread, theThread, threadAction, pendingIn, pendingFor}
+use Rattle.rules.specs.View.{Change, setMask, clearMark, dropOldest, sameQueue, threadQueue, processQueue}
+use Rattle.rules.specs.View.{queueOf, inQueue, liveProcess, liveThread, theThread, threadAction, pendingIn}
+use Rattle.rules.specs.View.{pendingFor}
 use Rattle.rules.specs.Store.{Store, used, recordsFor, markIn, view, apply}
 use Rattle.rules.specs.Sound.{unmasked, nameable, namesLive, aimedAtThread, aimedAtProcess, sound}
-use Rattle.rules.specs.Taking.{isStopped, canTakeSignal, nextSignal, nextQueue, nextIn, next, handlerMask, resets, reset, resetChanges, outcomeChanges, deliver, takeChanges}
+use Rattle.rules.specs.Taking.{isStopped, canTakeSignal, nextSignal, nextQueue, nextIn, next, handlerMask, resets}
+use Rattle.rules.specs.Taking.{reset, resetChanges, outcomeChanges, deliver, takeChanges}
 use Rattle.rules.specs.Adding.{otherThread, endThreadChanges}
 use Rattle.rules.specs.Fitting.{liveQueue, fits, fitsAll}
 use Rattle.rules.proofs.Aimed.{names-signal}
@@ -31,7 +34,9 @@ use Rattle.rules.proofs.SendFits.{store-fits}
 use Rattle.rules.proofs.Flags.{reset-known}
 use Rattle.rules.proofs.Marks.{the-thread-id}
 use Rattle.rules.proofs.PendingSomewhere.{pending-is}
-use Rattle.rules.proofs.PendingInView.{same-liveProcess, same-liveThread, seen-clearMark-processes, seen-clearMark-threads, seen-dropOldest-processes, seen-dropOldest-threads}
+use Rattle.rules.proofs.PendingInView.{same-liveProcess, same-liveThread, seen-clearMark-processes}
+use Rattle.rules.proofs.PendingInView.{seen-clearMark-threads, seen-dropOldest-processes}
+use Rattle.rules.proofs.PendingInView.{seen-dropOldest-threads}
 use Rattle.rules.proofs.DiscardsSound.{clearMark-sound, dropOldest-sound}
 use Rattle.rules.proofs.Unmaskable.{unmasked-maskable}
 
@@ -44,9 +49,11 @@ module _ (st : Store) (e : sound st ≡ true) where
   records-nameable : (b : Bool) → All Nameable (used (cond b (st .processBuffer) (st .threadBuffer)))
   unfolding aimedAtThread aimedAtProcess
   records-nameable true =
-      All-imp (Pass (aimedAtProcess (view st))) Nameable (λ r a. names-signal st r (and-fst (namesLive (view st) r) _ a)) (used (st .processBuffer)) (process-aimed st e)
+      All-imp (Pass (aimedAtProcess (view st))) Nameable
+      (λ r a. names-signal st r (and-fst (namesLive (view st) r) _ a)) (used (st .processBuffer)) (process-aimed st e)
   records-nameable false =
-      All-imp (Pass (aimedAtThread (view st))) Nameable (λ r a. names-signal st r (and-fst (namesLive (view st) r) _ a)) (used (st .threadBuffer)) (thread-aimed st e)
+      All-imp (Pass (aimedAtThread (view st))) Nameable (λ r a. names-signal st r (and-fst (namesLive (view st) r) _ a))
+      (used (st .threadBuffer)) (thread-aimed st e)
 
   record-nameable : (q : Queue) (s : ℕ) → any (inQueue q s) (recordsFor q st) ≡ true → nameable s ≡ true
   unfolding recordsFor inQueue
@@ -64,7 +71,8 @@ module _ (st : Store) (e : sound st ≡ true) where
 
   pub pending-nameable : (q : Queue) (s : ℕ) → pendingIn (view st) q s ≡ true → nameable s ≡ true
   pending-nameable q s a =
-      or-cases (any (inQueue q s) (recordsFor q st)) (markIn st q s) (sym (pending-is st q s) ∙ a) (record-nameable q s) (mark-nameable q s)
+      or-cases (any (inQueue q s) (recordsFor q st)) (markIn st q s) (sym (pending-is st q s) ∙ a) (record-nameable q s)
+      (mark-nameable q s)
 
 -- ---- a delivery
 
@@ -76,7 +84,8 @@ module _ (st : Store) (e : sound st ≡ true) (t : Thread) (p : liveProcess (vie
   outcome-fits continues = refl
   outcome-fits ends = and-both p refl
 
-  module _ (l : liveThread (view st) (t .id) ≡ true) (a : Action) (m : unmasked (a .mask) ≡ true) (s : ℕ) (n : nameable s ≡ true) where
+  module _ (l : liveThread (view st) (t .id) ≡ true) (a : Action) (m : unmasked (a .mask) ≡ true) (s : ℕ)
+      (n : nameable s ≡ true) where
     abbrev handling : Change
     handling = setMask (t .id) (handlerMask (t .mask) a s)
 
@@ -90,7 +99,8 @@ module _ (st : Store) (e : sound st ≡ true) (t : Thread) (p : liveProcess (vie
         split (resets a s)
         (λ r.
         ap (λ (cs : List Change). fitsAll cs (apply handling st)) (cond-true _ _ r)
-        ∙ store-fits (apply handling st) (setMask-sound st e (t .id) (handlerMask (t .mask) a s) handling-fits) (t .process) s (reset a)
+        ∙ store-fits (apply handling st) (setMask-sound st e (t .id) (handlerMask (t .mask) a s) handling-fits)
+        (t .process) s (reset a)
         (setMask-amended st (t .id) (handlerMask (t .mask) a s) .processLive (t .process) ∙ p) n (reset-known a) m)
         (λ r. ap (λ (cs : List Change). fitsAll cs (apply handling st)) (cond-false _ _ r))
 
@@ -114,7 +124,9 @@ module _ (st : Store) (e : sound st ≡ true) (t : ℕ) (l : liveThread (view st
   its-process = owner-live st e t l
 
   pub thread-queue-live : liveQueue (view st) (threadQueue it) ≡ true
-  thread-queue-live = own-live (view st) (it .process) its-process (it .id) it-lives (ap (λ (k : ℕ). theThread (view st) k .process) (the-thread-id st t l))
+  thread-queue-live =
+      own-live (view st) (it .process) its-process (it .id) it-lives
+      (ap (λ (k : ℕ). theThread (view st) k .process) (the-thread-id st t l))
 
   pub process-queue-live : liveQueue (view st) (processQueue (it .process)) ≡ true
   process-queue-live = shared-live (view st) (it .process) its-process
@@ -147,20 +159,24 @@ module _ (st : Store) (e : sound st ≡ true) (t : ℕ) (l : liveThread (view st
     its-action-unmasked = action-unmasked st e (it .process) s
 
     -- on a store that has the same processes and threads
-    delivers : (st′ : Store) → sound st′ ≡ true → view st′ .processes ≡ view st .processes → view st′ .threads ≡ view st .threads
+    delivers : (st′ : Store) → sound st′ ≡ true → view st′ .processes ≡ view st .processes
+        → view st′ .threads ≡ view st .threads
         → fitsAll (deliver it its-action s) st′ ≡ true
     delivers st′ e′ ps ts =
         deliver-fits st′ e′ it (same-liveProcess (view st′) (view st) ps (it .process) ∙ its-process)
         (same-liveThread (view st′) (view st) ts (it .id) ∙ it-lives) its-action its-action-unmasked s its-nameable
 
-    next-fits : (o : Option Siginfo) → view st .oldest its-queue s ≡ o → fitsAll (takeChanges (view st) it (nextIn (view st) its-queue s o)) st ≡ true
+    next-fits : (o : Option Siginfo) → view st .oldest its-queue s ≡ o
+        → fitsAll (takeChanges (view st) it (nextIn (view st) its-queue s o)) st ≡ true
     unfolding takeChanges nextIn fitsAll fits
     next-fits none o =
         and-both its-queue-live
-        (delivers (apply (clearMark its-queue s) st) (clearMark-sound st e its-queue s) (seen-clearMark-processes st its-queue s) (seen-clearMark-threads st its-queue s))
+        (delivers (apply (clearMark its-queue s) st) (clearMark-sound st e its-queue s)
+        (seen-clearMark-processes st its-queue s) (seen-clearMark-threads st its-queue s))
     next-fits (some r) o =
         and-both (ap isSome o)
-        (delivers (apply (dropOldest its-queue s) st) (dropOldest-sound st e its-queue s) (seen-dropOldest-processes st its-queue s) (seen-dropOldest-threads st its-queue s))
+        (delivers (apply (dropOldest its-queue s) st) (dropOldest-sound st e its-queue s)
+        (seen-dropOldest-processes st its-queue s) (seen-dropOldest-threads st its-queue s))
 
 pub take-fits : (st : Store) → sound st ≡ true → (t : ℕ) → liveThread (view st) t ≡ true
     → fitsAll (takeChanges (view st) (theThread (view st) t) (next (view st) (theThread (view st) t))) st ≡ true
@@ -172,7 +188,8 @@ take-fits st e t l =
     (λ z. ap (λ (n : Next). fitsAll (takeChanges (view st) x n) st) (cond-true _ _ z))
     (λ z.
     ap (λ (n : Next). fitsAll (takeChanges (view st) x n) st) (cond-false _ _ z)
-    ∙ next-fits st e t l s (lowestOf-found (canTakeSignal (view st) x) (λ k. clash (eq-eqb s 0 k) z) .1) (view st .oldest (nextQueue (view st) x s) s) refl)
+    ∙ next-fits st e t l s (lowestOf-found (canTakeSignal (view st) x) (λ k. clash (eq-eqb s 0 k) z) .1)
+    (view st .oldest (nextQueue (view st) x s) s) refl)
 
 -- ---- a thread's end
 
@@ -184,5 +201,7 @@ end-thread-fits st e t l =
     split (any (otherThread (view st) x) (view st .threads))
     (λ o.
     ap (λ (c : Change). fits (view st) c && true) (cond-true _ _ o)
-    ∙ and-both (and-both (it-lives st e t l) (ap (λ (k : ℕ). any (otherThread (view st) (theThread (view st) k)) (view st .threads)) (the-thread-id st t l) ∙ o)) refl)
+    ∙ and-both (and-both (it-lives st e t l)
+    (ap (λ (k : ℕ). any (otherThread (view st) (theThread (view st) k)) (view st .threads)) (the-thread-id st t l) ∙ o))
+    refl)
     (λ o. ap (λ (c : Change). fits (view st) c && true) (cond-false _ _ o) ∙ and-both (its-process st e t l) refl)

@@ -16,7 +16,8 @@ use Rattle.types.specs.declared.Siginfo.{Siginfo}
 use Rattle.types.specs.Values.{defaultAction}
 use Rattle.lists.specs.Lists.{all, any, change}
 use Rattle.lists.proofs.Bools.{split, clash, and-fst, and-snd, and-both, and-left, or-both, or-fst-false, or-snd-false}
-use Rattle.lists.proofs.Lists.{all-map, all-imp, all-append, all-replicate, all-replaceFirst, all-change-keeps, all-getD, all-first}
+use Rattle.lists.proofs.Lists.{all-map, all-imp, all-append, all-replicate, all-replaceFirst, all-change-keeps}
+use Rattle.lists.proofs.Lists.{all-getD, all-first}
 use Rattle.lists.proofs.Members.{all-mapped}
 use Rattle.lists.proofs.Loops.{all-set}
 use Rattle.types.specs.declared.Taken.{Taken}
@@ -29,10 +30,15 @@ use Rattle.rules.specs.Types.{Process, Thread, Queue, noProcess, noThrea
 use Rattle.rules.specs.Types.{endProcess, endThread, kill, sigqueue, sigaction, sigmask, sigpending, look, who}
 use Rattle.rules.specs.Types.{take, sigreturn, Next, noNext, nextMark, nextRecord}
 use Rattle.rules.specs.Signals.{Outcome, ignores, stops, continues, ends, outcome, ignored, stopSignal}
-use Rattle.rules.specs.View.{View, Change, forget, newProcess, newThread, removeProcess, removeThread, setStopped, setAction, setMask, setMark, clearMark, append, dropOldest, discard, isProcess, isThread, sameQueue, processQueue, threadQueue, actionOf, theProcess, theThread, threadAction, pendingFor}
-use Rattle.rules.specs.Store.{Place, Store, held, freeProcess, freeThread, cleared, view, apply, applyAll, onMarks}
+use Rattle.rules.specs.View.{View, Change, forget, newProcess, newThread, removeProcess, removeThread, setStopped}
+use Rattle.rules.specs.View.{setAction, setMask, setMark, clearMark, append, dropOldest, discard, isProcess}
+use Rattle.rules.specs.View.{isThread, sameQueue, processQueue, threadQueue, actionOf, theProcess, theThread}
+use Rattle.rules.specs.View.{threadAction, pendingFor}
+use Rattle.rules.specs.Store.{Place, Store, held, freeProcess, freeThread, cleared, view, apply, applyAll}
+use Rattle.rules.specs.Store.{onMarks}
 use Rattle.rules.specs.Sound.{unmasked, actionUnmasked, processUnmasked, threadUnmasked, nothingUnmaskable}
-use Rattle.rules.specs.Sending.{Generation, testing, killing, stopping, dropping, absorbing, marking, keeping, generation, infoOf, jobControl, sendChanges}
+use Rattle.rules.specs.Sending.{Generation, testing, killing, stopping, dropping, absorbing, marking, keeping}
+use Rattle.rules.specs.Sending.{generation, infoOf, jobControl, sendChanges}
 use Rattle.rules.specs.Actions.{stored, storeChanges, actionChanges, newMask, maskChanges, blockedPending}
 use Rattle.rules.specs.Taking.{whoAnswer, taker, handlerMask, resets, reset, resetChanges, outcomeChanges}
 use Rattle.rules.specs.Taking.{outcomeAnswer, deliver, delivered, takeChanges, takeAnswer, next}
@@ -61,24 +67,29 @@ pub unmasked-has : (m : SigSet) → unmasked m ≡ true → (s : ℕ) → isUnma
 unfolding unmasked
 unmasked-has m h =
     let e : (has m SIGKILL || has m SIGSTOP) ≡ false = not-true (has m SIGKILL || has m SIGSTOP) h in
-    each-unmaskable (λ (s : ℕ). has m s ≡ false) (or-fst-false (has m SIGKILL) (has m SIGSTOP) e) (or-snd-false (has m SIGKILL) (has m SIGSTOP) e)
+    each-unmaskable (λ (s : ℕ). has m s ≡ false) (or-fst-false (has m SIGKILL) (has m SIGSTOP) e)
+    (or-snd-false (has m SIGKILL) (has m SIGSTOP) e)
 
 pub unmasked-empty : unmasked empty ≡ true
 unmasked-empty = unmasked-if empty (λ s h u. has-empty s)
 
 pub unmasked-maskable : (m : SigSet) → unmasked (maskable m) ≡ true
-unmasked-maskable m = unmasked-if (maskable m) (λ s h u. has-maskable m s h ∙ ap (λ (b : Bool). has m s && not b) u ∙ and-false (has m s))
+unmasked-maskable m =
+    unmasked-if (maskable m) (λ s h u. has-maskable m s h ∙ ap (λ (b : Bool). has m s && not b) u ∙ and-false (has m s))
 
 unmasked-without : (m x : SigSet) → unmasked m ≡ true → unmasked (without m x) ≡ true
-unmasked-without m x e = unmasked-if (without m x) (λ s h u. has-without m x s h ∙ and-left (not (has x s)) (unmasked-has m e s u))
+unmasked-without m x e =
+    unmasked-if (without m x) (λ s h u. has-without m x s h ∙ and-left (not (has x s)) (unmasked-has m e s u))
 
 unmasked-union : (m x : SigSet) → unmasked m ≡ true → unmasked x ≡ true → unmasked (union m x) ≡ true
-unmasked-union m x e f = unmasked-if (union m x) (λ s h u. has-union m x s h ∙ or-both (unmasked-has m e s u) (unmasked-has x f s u))
+unmasked-union m x e f =
+    unmasked-if (union m x) (λ s h u. has-union m x s h ∙ or-both (unmasked-has m e s u) (unmasked-has x f s u))
 
 unmasked-of : (n : ℕ) → isUnmaskable n ≡ false → unmasked (ofSignal n) ≡ true
 unmasked-of n e =
     unmasked-if (ofSignal n)
-    (λ s h u. has-of n s h ∙ split (eqb s n) (λ k. clash (subst (λ (x : ℕ). isUnmaskable x ≡ true) (eqb-true s n k) u) e) (λ k. k))
+    (λ s h u. has-of n s h ∙ split (eqb s n)
+    (λ k. clash (subst (λ (x : ℕ). isUnmaskable x ≡ true) (eqb-true s n k) u) e) (λ k. k))
 
 -- ---- one change
 
@@ -122,27 +133,40 @@ free-thread = refl
 
 module _ (st : Store) (h : Clean st) where
   -- the process table changes, or the thread table, or both
-  on-processes : (ps : List (Place Process)) → all processUnmasked ps ≡ true → (all processUnmasked ps && all threadUnmasked (st .threads)) ≡ true
+  on-processes : (ps : List (Place Process)) → all processUnmasked ps ≡ true
+      → (all processUnmasked ps && all threadUnmasked (st .threads)) ≡ true
   on-processes ps e = and-both e (clean-threads st h)
 
-  on-threads : (ts : List (Place Thread)) → all threadUnmasked ts ≡ true → (all processUnmasked (st .processes) && all threadUnmasked ts) ≡ true
+  on-threads : (ts : List (Place Thread)) → all threadUnmasked ts ≡ true
+      → (all processUnmasked (st .processes) && all threadUnmasked ts) ≡ true
   on-threads ts e = and-both (clean-processes st h) e
 
-  vacated-processes : (t : Place Process → Bool) → all processUnmasked (change t (λ _. freeProcess) (st .processes)) ≡ true
-  vacated-processes t = all-change-keeps processUnmasked t (λ _. freeProcess) (λ x _ _. free-process) (st .processes) (clean-processes st h)
+  vacated-processes : (t : Place Process → Bool)
+      → all processUnmasked (change t (λ _. freeProcess) (st .processes)) ≡ true
+  vacated-processes t =
+      all-change-keeps processUnmasked t (λ _. freeProcess) (λ x _ _. free-process) (st .processes)
+      (clean-processes st h)
 
   vacated-threads : (t : Place Thread → Bool) → all threadUnmasked (change t (λ _. freeThread) (st .threads)) ≡ true
-  vacated-threads t = all-change-keeps threadUnmasked t (λ _. freeThread) (λ x _ _. free-thread) (st .threads) (clean-threads st h)
+  vacated-threads t =
+      all-change-keeps threadUnmasked t (λ _. freeThread) (λ x _ _. free-thread) (st .threads) (clean-threads st h)
 
   -- marks that stay without 9 and 19
-  withMarking : (g : Queue → SigSet → SigSet) → ((q : Queue) (m : SigSet) → unmasked m ≡ true → unmasked (g q m) ≡ true) → Clean (onMarks g st)
+  withMarking : (g : Queue → SigSet → SigSet) → ((q : Queue) (m : SigSet) → unmasked m ≡ true → unmasked (g q m) ≡ true)
+      → Clean (onMarks g st)
   unfolding nothingUnmaskable processUnmasked threadUnmasked
   withMarking g k =
       and-both
-      (all-mapped (λ (x : Place Process). record { holds = x .holds; marks = g (processQueue (x .holds .id)) (x .marks) }) processUnmasked processUnmasked
-      (λ x e. and-both (k _ (x .marks) (and-fst (unmasked (x .marks)) _ e)) (and-snd (unmasked (x .marks)) _ e)) (st .processes) (clean-processes st h))
-      (all-mapped (λ (x : Place Thread). record { holds = x .holds; marks = g (threadQueue (x .holds)) (x .marks) }) threadUnmasked threadUnmasked
-      (λ x e. and-both (and-fst (unmasked (x .holds .mask)) _ e) (k _ (x .marks) (and-snd (unmasked (x .holds .mask)) _ e))) (st .threads) (clean-threads st h))
+      (all-mapped
+      (λ (x : Place Process). record { holds = x .holds; marks = g (processQueue (x .holds .id)) (x .marks) })
+      processUnmasked processUnmasked
+      (λ x e. and-both (k _ (x .marks) (and-fst (unmasked (x .marks)) _ e)) (and-snd (unmasked (x .marks)) _ e))
+      (st .processes) (clean-processes st h))
+      (all-mapped (λ (x : Place Thread). record { holds = x .holds; marks = g (threadQueue (x .holds)) (x .marks) })
+      threadUnmasked threadUnmasked
+      (λ x e.
+      and-both (and-fst (unmasked (x .holds .mask)) _ e) (k _ (x .marks) (and-snd (unmasked (x .holds .mask)) _ e)))
+      (st .threads) (clean-threads st h))
 
 -- where the test holds one clean set, else another
 unmasked-cond : (b : Bool) (x y : SigSet) → unmasked x ≡ true → unmasked y ≡ true → unmasked (cond b x y) ≡ true
@@ -153,9 +177,13 @@ pub change-clean : (ch : Change) (st : Store) → cleanChange ch ≡ true → Cl
 unfolding apply nothingUnmaskable processUnmasked threadUnmasked
 change-clean forget st ok h = clean-cleared
 change-clean (newProcess p) st ok h =
-    on-processes st h _ (all-replaceFirst processUnmasked _ (record { holds = p; marks = empty }) (and-both unmasked-empty ok) (st .processes) (clean-processes st h))
+    on-processes st h _
+    (all-replaceFirst processUnmasked _ (record { holds = p; marks = empty }) (and-both unmasked-empty ok)
+    (st .processes) (clean-processes st h))
 change-clean (newThread t) st ok h =
-    on-threads st h _ (all-replaceFirst threadUnmasked _ (record { holds = t; marks = empty }) (and-both ok unmasked-empty) (st .threads) (clean-threads st h))
+    on-threads st h _
+    (all-replaceFirst threadUnmasked _ (record { holds = t; marks = empty }) (and-both ok unmasked-empty) (st .threads)
+    (clean-threads st h))
 change-clean (removeProcess n) st ok h = and-both (vacated-processes st h _) (vacated-threads st h _)
 change-clean (removeThread n) st ok h = on-threads st h _ (vacated-threads st h _)
 change-clean (setStopped n b) st ok h =
@@ -164,16 +192,20 @@ change-clean (setAction n s a) st ok h =
     on-processes st h _
     (all-change-keeps processUnmasked _ _
     (λ x _ e.
-    and-both (and-fst (unmasked (x .marks)) _ e) (all-set actionUnmasked (x .holds .actions) (s - 1) a (and-snd (unmasked (x .marks)) _ e) ok))
+    and-both (and-fst (unmasked (x .marks)) _ e)
+    (all-set actionUnmasked (x .holds .actions) (s - 1) a (and-snd (unmasked (x .marks)) _ e) ok))
     (st .processes) (clean-processes st h))
 change-clean (setMask n m) st ok h =
     on-threads st h _
-    (all-change-keeps threadUnmasked _ _ (λ x _ e. and-both ok (and-snd (unmasked (x .holds .mask)) _ e)) (st .threads) (clean-threads st h))
+    (all-change-keeps threadUnmasked _ _ (λ x _ e. and-both ok (and-snd (unmasked (x .holds .mask)) _ e)) (st .threads)
+    (clean-threads st h))
 change-clean (setMark q s) st ok h =
     withMarking st h _
-    (λ q′ m e. unmasked-cond (sameQueue q′ q) (union m (ofSignal s)) m (unmasked-union m (ofSignal s) e (unmasked-of s (not-true (isUnmaskable s) ok))) e)
+    (λ q′ m e. unmasked-cond (sameQueue q′ q) (union m (ofSignal s)) m
+    (unmasked-union m (ofSignal s) e (unmasked-of s (not-true (isUnmaskable s) ok))) e)
 change-clean (clearMark q s) st ok h =
-    withMarking st h _ (λ q′ m e. unmasked-cond (sameQueue q′ q) (without m (ofSignal s)) m (unmasked-without m (ofSignal s) e) e)
+    withMarking st h _
+    (λ q′ m e. unmasked-cond (sameQueue q′ q) (without m (ofSignal s)) m (unmasked-without m (ofSignal s) e) e)
 change-clean (append r) st ok h = h
 change-clean (dropOldest q s) st ok h = h
 change-clean (discard p set) st ok h =
@@ -197,10 +229,12 @@ clean-view st h =
     record {
       processes =
           all-map actionsClean held (st .processes)
-          ∙ all-imp processUnmasked (λ (x : Place Process). actionsClean (x .holds)) (λ x e. and-snd (unmasked (x .marks)) _ e) (st .processes) (clean-processes st h);
+          ∙ all-imp processUnmasked (λ (x : Place Process). actionsClean (x .holds))
+          (λ x e. and-snd (unmasked (x .marks)) _ e) (st .processes) (clean-processes st h);
       threads =
           all-map maskClean held (st .threads)
-          ∙ all-imp threadUnmasked (λ (x : Place Thread). maskClean (x .holds)) (λ x e. and-fst (unmasked (x .holds .mask)) _ e) (st .threads) (clean-threads st h);
+          ∙ all-imp threadUnmasked (λ (x : Place Thread). maskClean (x .holds))
+          (λ x e. and-fst (unmasked (x .holds .mask)) _ e) (st .threads) (clean-threads st h);
     }
 
 default-clean : actionUnmasked defaultAction ≡ true
@@ -212,7 +246,8 @@ module _ (v : View) (h : CleanView v) where
   unfolding actionOf theProcess
   clean-action n s =
       all-getD actionUnmasked (theProcess v n .actions) (s - 1) defaultAction default-clean
-      (all-first actionsClean (isProcess n) (v .processes) noProcess (all-replicate actionUnmasked defaultAction default-clean signals) (h .processes))
+      (all-first actionsClean (isProcess n) (v .processes) noProcess
+      (all-replicate actionUnmasked defaultAction default-clean signals) (h .processes))
 
   clean-mask : (n : ℕ) → unmasked (theThread v n .mask) ≡ true
   unfolding theThread
@@ -227,7 +262,8 @@ store-clean p s a e = split (ignored a s) (λ k. rw k (and-both e refl)) (λ k. 
 job-clean : (p s : ℕ) → all cleanChange (jobControl p s) ≡ true
 unfolding jobControl all
 job-clean p s =
-    split (eqb s SIGCONT) (λ k. rw k) (λ k. rw k (split (eqb s SIGSTOP) (λ j. rw j) (λ j. rw j (split (stopSignal s) (λ i. rw i) (λ i. rw i)))))
+    split (eqb s SIGCONT) (λ k. rw k)
+    (λ k. rw k (split (eqb s SIGSTOP) (λ j. rw j) (λ j. rw j (split (stopSignal s) (λ i. rw i) (λ i. rw i)))))
 
 isMarking : Generation → Bool
 isMarking testing = false
@@ -239,11 +275,13 @@ isMarking marking = true
 isMarking keeping = false
 
 -- 9 and 19 are acted on, and never marked
-acted-on : (v : View) (queued : Bool) (q : Queue) (s : ℕ) → isUnmaskable s ≡ true → isMarking (generation v queued q s) ≡ false
+acted-on : (v : View) (queued : Bool) (q : Queue) (s : ℕ) → isUnmaskable s ≡ true
+    → isMarking (generation v queued q s) ≡ false
 unfolding generation isMarking
 acted-on v queued q = each-unmaskable (λ (s : ℕ). isMarking (generation v queued q s) ≡ false) refl refl
 
-generation-clean : (f : Generation) (r : Siginfo) → (isUnmaskable (r .signal) ≡ true → isMarking f ≡ false) → all cleanChange (sendChanges f r) ≡ true
+generation-clean : (f : Generation) (r : Siginfo) → (isUnmaskable (r .signal) ≡ true → isMarking f ≡ false)
+    → all cleanChange (sendChanges f r) ≡ true
 unfolding sendChanges all isMarking
 generation-clean testing r h = refl
 generation-clean killing r h = refl
@@ -252,8 +290,10 @@ generation-clean dropping r h = job-clean (r .process) (r .signal)
 generation-clean absorbing r h = job-clean (r .process) (r .signal)
 generation-clean marking r h =
     all-append cleanChange (jobControl (r .process) (r .signal)) _
-    ∙ and-both (job-clean (r .process) (r .signal)) (and-both (split (isUnmaskable (r .signal)) (λ k. clash refl (h k)) (λ k. ap not k)) refl)
-generation-clean keeping r h = all-append cleanChange (jobControl (r .process) (r .signal)) _ ∙ and-both (job-clean (r .process) (r .signal)) refl
+    ∙ and-both (job-clean (r .process) (r .signal))
+    (and-both (split (isUnmaskable (r .signal)) (λ k. clash refl (h k)) (λ k. ap not k)) refl)
+generation-clean keeping r h =
+    all-append cleanChange (jobControl (r .process) (r .signal)) _ ∙ and-both (job-clean (r .process) (r .signal)) refl
 
 outcome-clean : (o : Outcome) (p : ℕ) → all cleanChange (outcomeChanges o p) ≡ true
 unfolding outcomeChanges all
@@ -283,7 +323,8 @@ unfolding actionChanges all
 action-clean p s none = refl
 action-clean p s (some a) = store-clean p s (stored a) (unfold stored actionUnmasked in unmasked-maskable (a .mask))
 
-one-clean : (b : Bool) (x y : Change) → cleanChange x ≡ true → cleanChange y ≡ true → all cleanChange (cond b x y ∷ []) ≡ true
+one-clean : (b : Bool) (x y : Change) → cleanChange x ≡ true → cleanChange y ≡ true
+    → all cleanChange (cond b x y ∷ []) ≡ true
 unfolding all
 one-clean true x y e f = and-both e refl
 one-clean false x y e f = and-both f refl
@@ -303,7 +344,9 @@ module _ (v : View) (h : CleanView v) where
       (and-both (unmasked-maskable (new .mask)) refl)
   changes-clean (addThread creator id) = and-both (clean-mask v h creator) refl
   changes-clean (endProcess id) = refl
-  changes-clean (endThread id) = one-clean (any (otherThread v (theThread v id)) (v .threads)) (removeThread (theThread v id .id)) (removeProcess (theThread v id .process)) refl refl
+  changes-clean (endThread id) =
+      one-clean (any (otherThread v (theThread v id)) (v .threads)) (removeThread (theThread v id .id))
+      (removeProcess (theThread v id .process)) refl refl
   changes-clean (kill by to t s) = generation-clean (generation v false _ s) _ (acted-on v false _ s)
   changes-clean (sigqueue by to t s value) = generation-clean (generation v true _ s) _ (acted-on v true _ s)
   changes-clean (sigaction p s new) = action-clean p s new
@@ -324,8 +367,10 @@ accepted-clean : (c : Call) (st : Store) → refusalOf st c ≡ 0 → Clean (fin
 unfolding finish
 accepted-clean c st e =
     split (isClear c)
-    (λ k. subst (λ (x : Call). Clean (finish 0 x st .0)) (sym (is-clear c k)) (unfold finish stages runStages changes applyAll apply in clean-cleared))
-    (λ k. subst (λ (n : ℕ). Clean (finish n c st .0)) e (unfold step in stored-clean c st (clauses st (accepted-sound st c k e) .unmaskedSets)))
+    (λ k. subst (λ (x : Call). Clean (finish 0 x st .0)) (sym (is-clear c k))
+    (unfold finish stages runStages changes applyAll apply in clean-cleared))
+    (λ k. subst (λ (n : ℕ). Clean (finish n c st .0)) e
+    (unfold step in stored-clean c st (clauses st (accepted-sound st c k e) .unmaskedSets)))
 
 -- whatever the store was, a call that is not refused leaves none in it
 pub left-clean : (c : Call) (st : Store) → isRefused (step c st .1) ≡ false → Clean (step c st .0)
@@ -362,7 +407,8 @@ cleanAnswer (Accepted r) = cleanReply r
 pending-answer : (v : View) (t : Thread) → unmasked (t .mask) ≡ true → unmasked (blockedPending v t) ≡ true
 unfolding blockedPending
 pending-answer v t e =
-    unmasked-if _ (λ s k u. has-set (λ n. has (t .mask) n && pendingFor v t n) s k ∙ and-left (pendingFor v t s) (unmasked-has (t .mask) e s u))
+    unmasked-if _ (λ s k u. has-set (λ n. has (t .mask) n && pendingFor v t n) s k
+    ∙ and-left (pendingFor v t s) (unmasked-has (t .mask) e s u))
 
 who-clean : (v : View) (o : Option Thread) → cleanReply (whoAnswer v o) ≡ true
 unfolding whoAnswer cleanReply

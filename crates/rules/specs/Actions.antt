@@ -21,7 +21,8 @@ hasFlag a flag = not (eqb (bitAnd (a .flags) flag) 0)
 unfoldable pub stored : Action → Action
 stored a = record { handler = a .handler; flags = bitAnd (a .flags) knownFlags; mask = maskable (a .mask) }
 
--- "Storing ignore, or default for an ignoring signal, discards that signal from all queues of the process (POSIX 2.4.3)."
+-- "Storing ignore, or default for an ignoring signal, discards that signal from all queues of
+-- the process (POSIX 2.4.3)."
 unfoldable pub storeChanges : (process signal : ℕ) → Action → List Change
 storeChanges p s a = cond (ignored a s) (discard p (ofSignal s) ∷ setAction p s a ∷ []) (setAction p s a ∷ [])
 
@@ -32,7 +33,8 @@ actionChanges p s (some a) = storeChanges p s (stored a)
 
 -- "way 0 adds the set, 1 removes its members, 2 replaces"; "9 and 19 are left out silently"
 unfoldable pub newMask : (old : SigSet) (way : ℕ) (set : SigSet) → SigSet
-newMask old way set = maskable (cond (eqb way sigBlock) (union old set) (cond (eqb way sigUnblock) (without old set) set))
+newMask old way set =
+    maskable (cond (eqb way sigBlock) (union old set) (cond (eqb way sigUnblock) (without old set) set))
 
 module _ (v : View) where
   -- "Without a set the way is not looked at."

@@ -10,9 +10,11 @@ use Rattle.sigset.specs.Set.{maskable}
 use Rattle.types.specs.declared.NewProcess.{NewProcess}
 use Rattle.types.specs.Values.{defaultAction}
 use Rattle.rules.specs.Types.{Process, Thread}
-use Rattle.rules.specs.View.{View, Change, newProcess, newThread, removeProcess, removeThread, belongsTo, theThread}
+use Rattle.rules.specs.View.{View, Change, newProcess, newThread, removeProcess, removeThread, belongsTo}
+use Rattle.rules.specs.View.{theThread}
 
--- "A process is added running"; "A freshly added process has the type's named default action (all zero) for every signal."
+-- "A process is added running";
+-- "A freshly added process has the type's named default action (all zero) for every signal."
 unfoldable pub addedProcess : NewProcess → Process
 addedProcess new =
     record {
@@ -35,7 +37,8 @@ addProcessChanges new =
 module _ (v : View) where
   -- "A new thread has its creator's mask and nothing pending."
   unfoldable pub addThreadChanges : (creator id : ℕ) → List Change
-  addThreadChanges creator id = newThread (record { id = id; process = theThread v creator .process; mask = theThread v creator .mask }) ∷ []
+  addThreadChanges creator id =
+      newThread (record { id = id; process = theThread v creator .process; mask = theThread v creator .mask }) ∷ []
 
   unfoldable pub otherThread : Thread → Thread → Bool
   otherThread t u = belongsTo (t .process) u && not (eqb (u .id) (t .id))

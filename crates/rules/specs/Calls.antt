@@ -13,7 +13,8 @@ use Rattle.types.specs.declared.Answer.the-variants.{Refused, Accepted}
 use Rattle.rules.specs.Types.{Queue, Call, clear, addProcess, addThread, endProcess, endThread, kill, sigqueue}
 use Rattle.rules.specs.Types.{sigaction, sigmask, sigpending, look, who, take, sigreturn, Next, noNext, nextMark}
 use Rattle.rules.specs.Types.{nextRecord, told}
-use Rattle.rules.specs.View.{View, targetQueue, Change, Stage, forget, removeProcess, inQueue, actionOf, theProcess, theThread}
+use Rattle.rules.specs.View.{View, targetQueue, Change, Stage, forget, removeProcess, inQueue, actionOf}
+use Rattle.rules.specs.View.{theProcess, theThread}
 use Rattle.rules.specs.Store.{Store, view, recordsFor, applyAll}
 use Rattle.rules.specs.Sending.{generation, infoOf, sendChanges, sendAnswer}
 use Rattle.rules.specs.Actions.{actionChanges, maskChanges, blockedPending}
@@ -91,8 +92,8 @@ unfoldable pub isRefused : Answer → Bool
 isRefused (Refused n) = true
 isRefused (Accepted r) = false
 
--- ---- what a look hands back: "a part of the thread buffer or of the process buffer; an empty part for a mark or for nothing"; "a refused look is
--- the empty part too"
+-- ---- what a look hands back: "a part of the thread buffer or of the process buffer;
+--      an empty part for a mark or for nothing"; "a refused look is the empty part too"
 
 pub data Part : Type 0 where
   emptyPart : Part
@@ -101,7 +102,8 @@ pub data Part : Type 0 where
 -- the slot of the oldest record of the queue and the signal
 unfoldable pub slotOf : Store → Queue → ℕ → Part
 slotOf st q s =
-    cond (eqb (q .thread) 0) (processSlot (find (inQueue q s) (recordsFor q st))) (threadSlot (find (inQueue q s) (recordsFor q st)))
+    cond (eqb (q .thread) 0) (processSlot (find (inQueue q s) (recordsFor q st)))
+    (threadSlot (find (inQueue q s) (recordsFor q st)))
 
 unfoldable pub partOf : Store → Next → Part
 partOf st noNext = emptyPart

@@ -10,7 +10,10 @@ use Rattle.types.specs.declared.Action.{Action}
 use Rattle.types.specs.declared.Siginfo.{Siginfo}
 use Rattle.rules.specs.Types.{Thread, Queue}
 use Rattle.rules.specs.Signals.{standard, ignored}
-use Rattle.rules.specs.View.{View, Change, forget, newProcess, newThread, removeProcess, removeThread, setStopped, setAction, setMask, setMark, clearMark, append, dropOldest, discard, belongsTo, processQueue, threadQueue, queueOf, actionOf, liveProcess, liveThread, theProcess, theThread, pendingIn}
+use Rattle.rules.specs.View.{View, Change, forget, newProcess, newThread, removeProcess, removeThread, setStopped}
+use Rattle.rules.specs.View.{setAction, setMask, setMark, clearMark, append, dropOldest, discard, belongsTo}
+use Rattle.rules.specs.View.{processQueue, threadQueue, queueOf, actionOf, liveProcess, liveThread, theProcess}
+use Rattle.rules.specs.View.{theThread, pendingIn}
 use Rattle.rules.specs.Store.{Store, view, apply, isFreeThread}
 use Rattle.rules.specs.Sound.{implies, goodId, unmasked, flagsKnown, nameable}
 use Rattle.rules.specs.Adding.{otherThread}
@@ -29,28 +32,33 @@ module _ (v : View) where
   unfoldable pub pendsSomewhere : (process signal : ℕ) → Bool
   pendsSomewhere p s = pendingIn v (processQueue p) s || any (pendsAt p s) (v .threads)
 
-  -- the signal may become pending in the queue: it can be, is not ignored, and is not there already where it is a standard one
+  -- the signal may become pending in the queue: it can be, is not ignored,
+  -- and is not there already where it is a standard one
   unfoldable pub admits : Queue → (signal : ℕ) → Bool
   admits q s =
-      liveQueue q && (nameable s && (not (ignored (actionOf (theProcess v (q .process)) s) s) && not (standard s && pendingIn v q s)))
+      liveQueue q && (nameable s
+      && (not (ignored (actionOf (theProcess v (q .process)) s) s) && not (standard s && pendingIn v q s)))
 
   unfoldable pub fits : Change → Bool
   fits forget = true
   -- alone it leaves a process that has no thread; adding one is two changes
   fits (newProcess p) = false
   fits (newThread t) =
-      goodId (t .id) && (not (liveThread v (t .id)) && (liveProcess v (t .process) && (unmasked (t .mask) && any isFreeThread (v .threads))))
+      goodId (t .id) && (not (liveThread v (t .id))
+      && (liveProcess v (t .process) && (unmasked (t .mask) && any isFreeThread (v .threads))))
   fits (removeProcess n) = liveProcess v n
   -- not the last one of its process
   fits (removeThread n) = liveThread v n && any (otherThread v (theThread v n)) (v .threads)
   fits (setStopped n b) = liveProcess v n && leb b 1
   -- what is ignored from then on is not pending
   fits (setAction n s a) =
-      liveProcess v n && (nameable s && (flagsKnown a && (unmasked (a .mask) && implies (ignored a s) (not (pendsSomewhere n s)))))
+      liveProcess v n
+      && (nameable s && (flagsKnown a && (unmasked (a .mask) && implies (ignored a s) (not (pendsSomewhere n s)))))
   fits (setMask n m) = liveThread v n && unmasked m
   fits (setMark q s) = admits q s
   fits (clearMark q s) = liveQueue q
-  fits (append r) = eqb (r .code) siQueue && (admits (queueOf r) (r .signal) && ltb (v .queued (r .process)) recordLimit)
+  fits (append r) =
+      eqb (r .code) siQueue && (admits (queueOf r) (r .signal) && ltb (v .queued (r .process)) recordLimit)
   fits (dropOldest q s) = isSome (v .oldest q s)
   fits (discard p signals) = liveProcess v p
 

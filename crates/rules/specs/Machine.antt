@@ -1,4 +1,5 @@
--- Arguments as they can be passed: ids, user ids, signals and ways are 32-bit numbers; sets, values, handler numbers and flags 64-bit ones.
+-- Arguments as they can be passed: ids, user ids, signals and ways are 32-bit numbers;
+-- sets, values, handler numbers and flags 64-bit ones.
 use Prim.Native.Nat.{ℕ, _^_}
 use mathlib.Core.Bool.{Bool, true, _&&_}
 use mathlib.Core.Option.{Option, some, none}

@@ -65,8 +65,8 @@ abbrev pub eagain : Bool → Row
 eagain b = record { applies = b; errno = EAGAIN }
 
 module _ (v : View) where
-  -- ---- 3 ESRCH: "the acting process or thread, the target process, the target thread, or a creator is not live, or the target thread is not of
-  -- that process"
+  -- ---- 3 ESRCH: "the acting process or thread, the target process, the target thread, or a creator is not live,
+  --      or the target thread is not of that process"
 
   unfoldable pub noProcessLive : ℕ → Bool
   noProcessLive n = not (liveProcess v n)
@@ -105,7 +105,8 @@ module _ (v : View) where
       ∷ eexist (liveProcess v (new .id) || liveThread v (new .thread))
       ∷ eagain (noProcessPlace || noThreadPlace)
       ∷ []
-  rows (addThread creator id) = einval (badId id) ∷ esrch (noThreadLive creator) ∷ eexist (liveThread v id) ∷ eagain noThreadPlace ∷ []
+  rows (addThread creator id) =
+      einval (badId id) ∷ esrch (noThreadLive creator) ∷ eexist (liveThread v id) ∷ eagain noThreadPlace ∷ []
   rows (endProcess id) = esrch (noProcessLive id) ∷ []
   rows (endThread id) = esrch (noThreadLive id) ∷ []
   rows (kill by to t s) = einval (overLast s) ∷ esrch (noProcessLive by || badTarget to t) ∷ eperm (mayNot by to s) ∷ []
@@ -120,7 +121,8 @@ module _ (v : View) where
   rows (take t) = esrch (noThreadLive t) ∷ []
   rows (sigreturn t saved) = esrch (noThreadLive t) ∷ []
 
--- ---- 14 EFAULT: "a lent table has another length than above, or the store is not sound (clearing checks lengths only)"
+-- ---- 14 EFAULT: "a lent table has another length than above,
+--      or the store is not sound (clearing checks lengths only)"
 
 abbrev pub clears : {c : Call} → Kind c → Bool
 clears clearing = true

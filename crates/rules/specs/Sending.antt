@@ -10,10 +10,11 @@ use Rattle.types.specs.declared.Sent.{Sent}
 use Rattle.types.specs.declared.Sent.the-variants.{Tested, Acted, Dropped, Absorbed, Marked, Kept}
 use Rattle.rules.specs.Types.{Process, Queue}
 use Rattle.rules.specs.Signals.{standard, stopSignal, ignored}
-use Rattle.rules.specs.View.{View, Change, removeProcess, setStopped, setMark, append, discard, queueOf, actionOf, theProcess, pendingIn}
+use Rattle.rules.specs.View.{View, Change, removeProcess, setStopped, setMark, append, discard, queueOf, actionOf}
+use Rattle.rules.specs.View.{theProcess, pendingIn}
 
--- "A sender may signal if its effective id is 0, or its real or effective id equals the target's real or saved id, or the signal is CONT and
--- the sessions are equal."
+-- "A sender may signal if its effective id is 0, or its real or effective id equals the target's real or saved id,
+-- or the signal is CONT and the sessions are equal."
 unfoldable pub maySignal : (sender target : Process) → ℕ → Bool
 maySignal a b s =
     eqb (a .effective) 0
@@ -30,7 +31,8 @@ module _ (v : View) where
   unfoldable pub absorbs : (queued : Bool) → Queue → ℕ → Bool
   absorbs queued q s = (standard s && pendingIn v q s) || (not queued && v .marks q s)
 
-  -- Signal 0, then steps 1, 3, 4, 5. All are judged before anything changes: what step 2 discards is never the signal sent.
+  -- Signal 0, then steps 1, 3, 4, 5.
+  -- All are judged before anything changes: what step 2 discards is never the signal sent.
   unfoldable pub generation : (queued : Bool) → Queue → ℕ → Generation
   generation queued q s =
       cond (eqb s 0) testing
@@ -40,13 +42,23 @@ module _ (v : View) where
       (cond (absorbs queued q s) absorbing
       (cond queued keeping marking)))))
 
-  -- the record of a queued send: "code 4 (-1, queued)", sender, the sender's real user id, value. Of a plain send only its queue and signal are used.
+  -- the record of a queued send: "code 4 (-1, queued)", sender, the sender's real user id, value.
+  -- Of a plain send only its queue and signal are used.
   unfoldable pub infoOf : (by to thread signal value : ℕ) → Siginfo
   infoOf by to thread signal value =
-      record { process = to; thread = thread; signal = signal; code = siQueue; sender = by; uid = theProcess v by .real; value = value }
+      record {
+        process = to;
+        thread = thread;
+        signal = signal;
+        code = siQueue;
+        sender = by;
+        uid = theProcess v by .real;
+        value = value;
+      }
 
--- Steps 1 and 2: "STOP discards every pending CONT of the process and stops it." "TSTP, TTIN, TTOU discard every pending CONT of the process. CONT
--- discards every pending stop signal of it and lets it run, blocked or ignored or not."
+-- Steps 1 and 2: "STOP discards every pending CONT of the process and stops it."
+-- "TSTP, TTIN, TTOU discard every pending CONT of the process.
+-- CONT discards every pending stop signal of it and lets it run, blocked or ignored or not."
 unfoldable pub jobControl : (process signal : ℕ) → List Change
 jobControl p s =
     cond (eqb s SIGCONT) (discard p (setOf stopSignal) ∷ setStopped p 0 ∷ [])

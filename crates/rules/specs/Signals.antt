@@ -2,7 +2,8 @@
 use Prim.Native.Nat.{ℕ}
 use mathlib.Core.Bool.{Bool, _&&_, _||_, cond}
 use lib.Dec.{eqb, leb}
-use Rattle.limits.specs.Limits.{signals, lastStandard, SIGCHLD, SIGCONT, SIGSTOP, SIGTSTP, SIGTTIN, SIGTTOU, SIGURG, SIGWINCH, sigDfl, sigIgn}
+use Rattle.limits.specs.Limits.{signals, lastStandard, SIGCHLD, SIGCONT, SIGSTOP, SIGTSTP, SIGTTIN, SIGTTOU, SIGURG}
+use Rattle.limits.specs.Limits.{SIGWINCH, sigDfl, sigIgn}
 use Rattle.types.specs.declared.Action.{Action}
 
 -- "Numbers are 1 to 64"
@@ -24,8 +25,8 @@ stopSignal s = eqb s SIGTSTP || (eqb s SIGTTIN || eqb s SIGTTOU)
 pub data Outcome : Type 0 where
   ignores stops continues ends : Outcome
 
--- "Default outcome: nothing kept (ignore) ..; stop for STOP 19, TSTP 20, TTIN 21, TTOU 22; continue for CONT 18; end the process for every
--- other number, realtime included."
+-- "Default outcome: nothing kept (ignore) ..; stop for STOP 19, TSTP 20, TTIN 21, TTOU 22; continue for CONT 18;
+-- end the process for every other number, realtime included."
 unfoldable pub outcome : ℕ → Outcome
 outcome s =
     cond (ignoring s) ignores

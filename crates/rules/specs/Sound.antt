@@ -5,7 +5,8 @@ use mathlib.Core.List.{List}
 use lib.Bits.{bitAnd}
 use lib.Dec.{eqb, leb}
 use lib.ListN.{length, drop}
-use Rattle.limits.specs.Limits.{processPlaces, threadPlaces, bufferRecords, signals, recordLimit, largestId, largestUser, knownFlags, siQueue, SIGKILL, SIGSTOP}
+use Rattle.limits.specs.Limits.{processPlaces, threadPlaces, bufferRecords, signals, recordLimit, largestId}
+use Rattle.limits.specs.Limits.{largestUser, knownFlags, siQueue, SIGKILL, SIGSTOP}
 use Rattle.lists.specs.Lists.{all, any, pairsWhere, range}
 use Rattle.sigset.specs.declared.SigSet.{SigSet}
 use Rattle.sigset.specs.Set.{has, isUnmaskable}
@@ -13,7 +14,8 @@ use Rattle.types.specs.declared.Action.{Action}
 use Rattle.types.specs.declared.Siginfo.{Siginfo}
 use Rattle.rules.specs.Types.{Process, Thread}
 use Rattle.rules.specs.Signals.{isSignal, standard, ignored}
-use Rattle.rules.specs.View.{View, sameQueue, queueOf, actionOf, belongsTo, liveProcess, liveThread, theProcess, theThread, threadAction}
+use Rattle.rules.specs.View.{View, sameQueue, queueOf, actionOf, belongsTo, liveProcess, liveThread, theProcess}
+use Rattle.rules.specs.View.{theThread, threadAction}
 use Rattle.rules.specs.Store.{Place, Store, used, markIn, queuedIn, view}
 
 -- the second where the first holds
@@ -90,7 +92,9 @@ unfoldable pub idsInRange : Store → Bool
 idsInRange st = all (ifLive processId goodProcessId) (st .processes) && all (ifLive threadId goodThreadId) (st .threads)
 
 unfoldable pub idsDistinct : Store → Bool
-idsDistinct st = pairsWhere (isLive processId) (apart processId) (st .processes) && pairsWhere (isLive threadId) (apart threadId) (st .threads)
+idsDistinct st =
+    pairsWhere (isLive processId) (apart processId) (st .processes)
+    && pairsWhere (isLive threadId) (apart threadId) (st .threads)
 
 -- ---- a field is a value of its kind: user ids and session ids are 32-bit numbers, "stopped or not" is 1 or 0
 
@@ -100,7 +104,8 @@ goodUser n = leb n largestUser
 unfoldable pub fieldsFit : Place Process → Bool
 fieldsFit x =
     goodUser (x .holds .real)
-    && (goodUser (x .holds .effective) && (goodUser (x .holds .saved) && (goodUser (x .holds .session) && leb (x .holds .stopped) 1)))
+    && (goodUser (x .holds .effective)
+    && (goodUser (x .holds .saved) && (goodUser (x .holds .session) && leb (x .holds .stopped) 1)))
 
 unfoldable pub fieldsInRange : Store → Bool
 fieldsInRange st = all fieldsFit (st .processes)
@@ -153,12 +158,14 @@ processFlagsKnown x = all flagsKnown (x .holds .actions)
 unfoldable pub allFlagsKnown : Store → Bool
 allFlagsKnown st = all processFlagsKnown (st .processes)
 
--- ---- "records are laid out as above and name a signal other than 9 and 19, a live process, and 0 or a live thread of it as the buffer asks"
+-- ---- "records are laid out as above and name a signal other than 9 and 19, a live process,
+--      and 0 or a live thread of it as the buffer asks"
 
 unfoldable pub isZero : Siginfo → Bool
 isZero r =
     eqb (r .process) 0
-    && (eqb (r .thread) 0 && (eqb (r .signal) 0 && (eqb (r .code) 0 && (eqb (r .sender) 0 && (eqb (r .uid) 0 && eqb (r .value) 0)))))
+    && (eqb (r .thread) 0
+    && (eqb (r .signal) 0 && (eqb (r .code) 0 && (eqb (r .sender) 0 && (eqb (r .uid) 0 && eqb (r .value) 0)))))
 
 -- "Used records come first, oldest first; the rest is zero."
 unfoldable pub restZero : List Siginfo → Bool
@@ -180,7 +187,8 @@ unfoldable pub recordsLaidOut : Store → Bool
 recordsLaidOut st =
     restZero (st .threadBuffer)
     && (restZero (st .processBuffer)
-    && (all (aimedAtThread (view st)) (used (st .threadBuffer)) && all (aimedAtProcess (view st)) (used (st .processBuffer))))
+    && (all (aimedAtThread (view st)) (used (st .threadBuffer))
+    && all (aimedAtProcess (view st)) (used (st .processBuffer))))
 
 -- ---- "no process has over 32"
 
@@ -229,7 +237,8 @@ unfoldable pub nothingIgnored : Store → Bool
 nothingIgnored st =
     all (ifLive processId processNotIgnored) (st .processes)
     && (all (ifLive threadId (threadNotIgnored (view st))) (st .threads)
-    && (all (recordNotIgnored (view st)) (used (st .threadBuffer)) && all (recordNotIgnored (view st)) (used (st .processBuffer))))
+    && (all (recordNotIgnored (view st)) (used (st .threadBuffer))
+    && all (recordNotIgnored (view st)) (used (st .processBuffer))))
 
 -- ---- the test
 

@@ -13,7 +13,9 @@ use Rattle.types.specs.declared.Siginfo.{Siginfo}
 use Rattle.types.specs.Values.{noSiginfo}
 use Rattle.rules.specs.Types.{Process, Thread, Queue, noProcess, noThread}
 use Rattle.rules.specs.Signals.{isSignal}
-use Rattle.rules.specs.View.{View, Change, forget, newProcess, newThread, removeProcess, removeThread, setStopped, setAction, setMask, setMark, clearMark, append, dropOldest, discard, isProcess, isThread, belongsTo, sameQueue, processQueue, threadQueue, queueOf, inQueue}
+use Rattle.rules.specs.View.{View, Change, forget, newProcess, newThread, removeProcess, removeThread, setStopped}
+use Rattle.rules.specs.View.{setAction, setMask, setMark, clearMark, append, dropOldest, discard, isProcess}
+use Rattle.rules.specs.View.{isThread, belongsTo, sameQueue, processQueue, threadQueue, queueOf, inQueue}
 
 -- a place of a table: what it holds, and its marks
 pub record Place (A : Type 0) : Type 0 where
@@ -89,10 +91,28 @@ view st =
 -- ---- the changes
 
 abbrev pub withStopped : ℕ → Process → Process
-withStopped b p = record { id = p .id; real = p .real; effective = p .effective; saved = p .saved; session = p .session; stopped = b; actions = p .actions }
+withStopped b p =
+    record {
+      id = p .id;
+      real = p .real;
+      effective = p .effective;
+      saved = p .saved;
+      session = p .session;
+      stopped = b;
+      actions = p .actions;
+    }
 
 abbrev pub withAction : ℕ → Action → Process → Process
-withAction s a p = record { id = p .id; real = p .real; effective = p .effective; saved = p .saved; session = p .session; stopped = p .stopped; actions = set (p .actions) (s - 1) a }
+withAction s a p =
+    record {
+      id = p .id;
+      real = p .real;
+      effective = p .effective;
+      saved = p .saved;
+      session = p .session;
+      stopped = p .stopped;
+      actions = set (p .actions) (s - 1) a;
+    }
 
 abbrev pub withMask : SigSet → Thread → Thread
 withMask m t = record { id = t .id; process = t .process; mask = m }
@@ -100,7 +120,8 @@ withMask m t = record { id = t .id; process = t .process; mask = m }
 module _ {A : Type 0} where
   -- what passes the test is amended, its marks stay
   abbrev pub amend : (A → Bool) → (A → A) → List (Place A) → List (Place A)
-  amend p g = change (λ (x : Place A). p (x .holds)) (λ (x : Place A). record { holds = g (x .holds); marks = x .marks })
+  amend p g =
+      change (λ (x : Place A). p (x .holds)) (λ (x : Place A). record { holds = g (x .holds); marks = x .marks })
 
   -- the places of what passes the test become free
   abbrev pub vacate : Place A → (A → Bool) → List (Place A) → List (Place A)
@@ -121,10 +142,22 @@ abbrev pub isFreeThread : Thread → Bool
 isFreeThread t = eqb (t .id) 0
 
 abbrev pub onProcesses : (List (Place Process) → List (Place Process)) → Store → Store
-onProcesses g st = record { processes = g (st .processes); threads = st .threads; threadBuffer = st .threadBuffer; processBuffer = st .processBuffer }
+onProcesses g st =
+    record {
+      processes = g (st .processes);
+      threads = st .threads;
+      threadBuffer = st .threadBuffer;
+      processBuffer = st .processBuffer;
+    }
 
 abbrev pub onThreads : (List (Place Thread) → List (Place Thread)) → Store → Store
-onThreads g st = record { processes = st .processes; threads = g (st .threads); threadBuffer = st .threadBuffer; processBuffer = st .processBuffer }
+onThreads g st =
+    record {
+      processes = st .processes;
+      threads = g (st .threads);
+      threadBuffer = st .threadBuffer;
+      processBuffer = st .processBuffer;
+    }
 
 abbrev pub onMarks : (Queue → SigSet → SigSet) → Store → Store
 onMarks g st =
@@ -140,7 +173,13 @@ unfoldable pub onSlots : (List Siginfo → List Siginfo) → List Siginfo → Li
 onSlots g slots = padded noSiginfo bufferRecords (g (used slots))
 
 abbrev pub onBuffers : (List Siginfo → List Siginfo) → Store → Store
-onBuffers g st = record { processes = st .processes; threads = st .threads; threadBuffer = onSlots g (st .threadBuffer); processBuffer = onSlots g (st .processBuffer) }
+onBuffers g st =
+    record {
+      processes = st .processes;
+      threads = st .threads;
+      threadBuffer = onSlots g (st .threadBuffer);
+      processBuffer = onSlots g (st .processBuffer);
+    }
 
 -- the buffer that has the queue changes
 abbrev pub onBuffer : Queue → (List Siginfo → List Siginfo) → Store → Store
@@ -161,8 +200,10 @@ apply forget st = cleared
 apply (newProcess p) st = onProcesses (fill isFreeProcess p) st
 apply (newThread t) st = onThreads (fill isFreeThread t) st
 apply (removeProcess n) st =
-    onProcesses (vacate freeProcess (isProcess n)) (onThreads (vacate freeThread (belongsTo n)) (onBuffers (keep (λ (r : Siginfo). not (eqb (r .process) n))) st))
-apply (removeThread n) st = onThreads (vacate freeThread (isThread n)) (onBuffers (keep (λ (r : Siginfo). not (eqb (r .thread) n))) st)
+    onProcesses (vacate freeProcess (isProcess n))
+    (onThreads (vacate freeThread (belongsTo n)) (onBuffers (keep (λ (r : Siginfo). not (eqb (r .process) n))) st))
+apply (removeThread n) st =
+    onThreads (vacate freeThread (isThread n)) (onBuffers (keep (λ (r : Siginfo). not (eqb (r .thread) n))) st)
 apply (setStopped n b) st = onProcesses (amend (isProcess n) (withStopped b)) st
 apply (setAction n s a) st = onProcesses (amend (isProcess n) (withAction s a)) st
 apply (setMask n m) st = onThreads (amend (isThread n) (withMask m)) st
@@ -170,7 +211,8 @@ apply (setMark q s) st = onMarks (λ q′ m. cond (sameQueue q′ q) (union m (o
 apply (clearMark q s) st = onMarks (λ q′ m. cond (sameQueue q′ q) (without m (ofSignal s)) m) st
 apply (append r) st = onBuffer (queueOf r) (λ rs. rs ++ (r ∷ [])) st
 apply (dropOldest q s) st = onBuffer q (dropFirst (inQueue q s)) st
-apply (discard p signals) st = onBuffers (keep (leftBy p signals)) (onMarks (λ q m. cond (eqb (q .process) p) (without m signals) m) st)
+apply (discard p signals) st =
+    onBuffers (keep (leftBy p signals)) (onMarks (λ q m. cond (eqb (q .process) p) (without m signals) m) st)
 
 unfoldable pub applyAll : List Change → Store → Store
 applyAll [] st = st

@@ -17,7 +17,8 @@ use Rattle.types.specs.declared.Reply.{Reply}
 use Rattle.types.specs.declared.Reply.the-variants.{CanTake, NoneCan}
 use Rattle.rules.specs.Types.{Thread, Queue, Next, noNext, nextMark, nextRecord}
 use Rattle.rules.specs.Signals.{Outcome, ignores, stops, continues, ends, outcome}
-use Rattle.rules.specs.View.{View, Change, removeProcess, setStopped, setMask, clearMark, dropOldest, threadQueue, processQueue, belongsTo, theProcess, threadAction, pendingIn, pendingFor}
+use Rattle.rules.specs.View.{View, Change, removeProcess, setStopped, setMask, clearMark, dropOldest, threadQueue}
+use Rattle.rules.specs.View.{processQueue, belongsTo, theProcess, threadAction, pendingIn, pendingFor}
 use Rattle.rules.specs.Actions.{hasFlag, storeChanges}
 
 -- ---- what a thread takes next
@@ -26,7 +27,8 @@ module _ (v : View) where
   unfoldable pub isStopped : Thread → Bool
   isStopped t = not (eqb (theProcess v (t .process) .stopped) 0)
 
-  -- "A thread can take a signal pending in its own or its process's queue, not in its mask, if the process is not stopped."
+  -- "A thread can take a signal pending in its own or its process's queue, not in its mask,
+  -- if the process is not stopped."
   unfoldable pub canTakeSignal : Thread → ℕ → Bool
   canTakeSignal t s = not (isStopped t) && (pendingFor v t s && not (has (t .mask) s))
 

@@ -15,7 +15,8 @@ use Rattle.types.specs.Values.{defaultAction}
 
 -- ---- "The tables"
 
--- "16 process places: id, real, effective and saved user ids, session id, stopped or not, marks, 64 actions"; the marks stand beside it
+-- "16 process places: id, real, effective and saved user ids, session id, stopped or not, marks, 64 actions";
+-- the marks stand beside it
 pub record Process : Type 0 where
   pub id : ℕ
   pub real : ℕ
@@ -39,7 +40,16 @@ pub record Queue : Type 0 where
 
 -- what a free place holds
 abbrev pub noProcess : Process
-noProcess = record { id = 0; real = 0; effective = 0; saved = 0; session = 0; stopped = 0; actions = replicate signals defaultAction }
+noProcess =
+    record {
+      id = 0;
+      real = 0;
+      effective = 0;
+      saved = 0;
+      session = 0;
+      stopped = 0;
+      actions = replicate signals defaultAction;
+    }
 
 abbrev pub noThread : Thread
 noThread = record { id = 0; process = 0; mask = empty }

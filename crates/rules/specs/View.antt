@@ -1,4 +1,5 @@
--- What the rules read, and what they change. The tables and the ledger of demand 3 both have this view, and each makes the changes in its own way.
+-- What the rules read, and what they change.
+-- The tables and the ledger of demand 3 both have this view, and each makes the changes in its own way.
 use Prim.Native.Nat.{ℕ, _-_}
 use mathlib.Core.Bool.{Bool, _&&_, _||_, not}
 use mathlib.Core.List.{List}

@@ -57,7 +57,8 @@ module _ (p s : ℕ) where
         let g : stopSignal s ≡ true = rw (a, b) at k in
         rw (h, a, b, g)))
 
-    pub discards-then-sets : (eqb s SIGCONT || eqb s SIGSTOP) ≡ true → jobControl p s ≡ discard p x ∷ setStopped p (boolByte (eqb s SIGSTOP)) ∷ []
+    pub discards-then-sets : (eqb s SIGCONT || eqb s SIGSTOP) ≡ true
+        → jobControl p s ≡ discard p x ∷ setStopped p (boolByte (eqb s SIGSTOP)) ∷ []
     discards-then-sets t = discards-first ∙ ap (λ (cs : List Change). discard p x ∷ cs) (cond-true _ _ t)
 
     pub discards-only : (eqb s SIGCONT || eqb s SIGSTOP) ≡ false → jobControl p s ≡ discard p x ∷ []
@@ -74,16 +75,19 @@ module _ (f : declared.Generation) (r : Siginfo) where
   unfolding sendChanges generationOf
   of-killing e = ap (λ g. sendChanges (generationOf g) r) e
 
-  pub of-marking : f ≡ cases.Marking → sendChanges (generationOf f) r ≡ jobControl (r .process) (r .signal) ++ (setMark (queueOf r) (r .signal) ∷ [])
+  pub of-marking : f ≡ cases.Marking
+      → sendChanges (generationOf f) r ≡ jobControl (r .process) (r .signal) ++ (setMark (queueOf r) (r .signal) ∷ [])
   unfolding sendChanges generationOf
   of-marking e = ap (λ g. sendChanges (generationOf g) r) e
 
-  pub of-keeping : f ≡ cases.Keeping → sendChanges (generationOf f) r ≡ jobControl (r .process) (r .signal) ++ (append r ∷ [])
+  pub of-keeping : f ≡ cases.Keeping
+      → sendChanges (generationOf f) r ≡ jobControl (r .process) (r .signal) ++ (append r ∷ [])
   unfolding sendChanges generationOf
   of-keeping e = ap (λ g. sendChanges (generationOf g) r) e
 
 -- every generation but testing and killing begins with job control
-pub control-ready : (f : declared.Generation) (r : Siginfo) {l : Lent} → OneOf (2 ∷ 3 ∷ 4 ∷ 5 ∷ 6 ∷ []) (tagOf the-type f)
+pub control-ready : (f : declared.Generation) (r : Siginfo) {l : Lent}
+    → OneOf (2 ∷ 3 ∷ 4 ∷ 5 ∷ 6 ∷ []) (tagOf the-type f)
     → Ready (sendChanges (generationOf f) r) l → Ready (jobControl (r .process) (r .signal)) l
 unfolding sendChanges generationOf
 control-ready cases.Testing r k h = absurd (miss (2 ∷ 3 ∷ 4 ∷ 5 ∷ 6 ∷ []) 0 tt k)
@@ -95,7 +99,8 @@ control-ready cases.Marking r k h = ready-part (setMark (queueOf r) (r .signal) 
 control-ready cases.Keeping r k h = ready-part (append r ∷ []) h refl
 
 -- stopping, dropping and absorbing: those that neither of the two tests of code names
-pub of-control : (f : declared.Generation) (r : Siginfo) → OneOf (2 ∷ 3 ∷ 4 ∷ 5 ∷ 6 ∷ []) (tagOf the-type f) → OneOf (0 ∷ 1 ∷ 2 ∷ 3 ∷ 4 ∷ []) (tagOf the-type f)
+pub of-control : (f : declared.Generation) (r : Siginfo) → OneOf (2 ∷ 3 ∷ 4 ∷ 5 ∷ 6 ∷ []) (tagOf the-type f)
+    → OneOf (0 ∷ 1 ∷ 2 ∷ 3 ∷ 4 ∷ []) (tagOf the-type f)
     → sendChanges (generationOf f) r ≡ jobControl (r .process) (r .signal)
 unfolding sendChanges generationOf
 of-control cases.Testing r k m = absurd (miss (2 ∷ 3 ∷ 4 ∷ 5 ∷ 6 ∷ []) 0 tt k)
@@ -110,19 +115,23 @@ of-control cases.Keeping r k m = absurd (miss (0 ∷ 1 ∷ 2 ∷ 3 ∷ 4 ∷ [])
 
 module _ (v : View) (by to t s value : ℕ) where
   -- a plain send has no value
-  pub send-makes : (queued : Bool) → (queued ≡ false → value ≡ 0) → (f : Generation) (r : Siginfo) → f ≡ generation v queued (targetQueue to t) s → r ≡ infoOf v by to t s value
+  pub send-makes : (queued : Bool) → (queued ≡ false → value ≡ 0) → (f : Generation) (r : Siginfo)
+      → f ≡ generation v queued (targetQueue to t) s → r ≡ infoOf v by to t s value
       → changes v (sendCall queued by to t s value) ≡ sendChanges f r
   unfolding changes send
   send-makes true z f r e h = sym (ap₂ sendChanges e h)
   send-makes false z f r e h = sym (ap₂ sendChanges e (h ∙ ap (infoOf v by to t s) (z refl)))
 
-  pub send-answers : (queued : Bool) (f : Generation) → f ≡ generation v queued (targetQueue to t) s → Sent (sendAnswer f) ≡ reply v (sendCall queued by to t s value)
+  pub send-answers : (queued : Bool) (f : Generation) → f ≡ generation v queued (targetQueue to t) s
+      → Sent (sendAnswer f) ≡ reply v (sendCall queued by to t s value)
   unfolding reply
   send-answers true f e = ap (λ x. Sent (sendAnswer x)) e
   send-answers false f e = ap (λ x. Sent (sendAnswer x)) e
 
-module _ (l : Lent) (queued : Bool) (by to t s value : ℕ) (d : decided.Decision) (h : Decided l queued by to t s value d) where
-  pub when-refused : (n : ℕ) → d ≡ decisions.Refused n → (n ≡ refusalOn (sendCall queued by to t s value) l) × (n ≡ 0 → ⊥)
+module _ (l : Lent) (queued : Bool) (by to t s value : ℕ) (d : decided.Decision)
+    (h : Decided l queued by to t s value d) where
+  pub when-refused : (n : ℕ) → d ≡ decisions.Refused n
+      → (n ≡ refusalOn (sendCall queued by to t s value) l) × (n ≡ 0 → ⊥)
   unfolding Decided
   when-refused n e = subst (Decided l queued by to t s value) e h
 

@@ -1,4 +1,5 @@
--- What is decided of a send before anything changes: what absorbs it, its generation, its record, whether there is room. Assumes nothing.
+-- What is decided of a send before anything changes: what absorbs it, its generation, its record,
+-- whether there is room. Assumes nothing.
 use Prim.Native.Nat.{ℕ, _+_, _≤_}
 use mathlib.Core.Path.{_≡_, refl, sym, ap, ap₂, _∙_}
 use mathlib.Core.Bool.{Bool, true, false, not, _&&_, _||_, cond}
@@ -8,7 +9,8 @@ use lib.Dec.{eqb, leb}
 use borrow.Author.Tests.{eq-eqb, ne-eqb}
 use types.Run.{OneOf, miss}
 use denote.Enum.Declared.{tagOf}
-use Rattle.limits.specs.Limits.{bufferRecords, recordLimit, SIGKILL, SIGCONT, SIGSTOP, SIGTSTP, SIGTTIN, SIGTTOU, siQueue}
+use Rattle.limits.specs.Limits.{bufferRecords, recordLimit, SIGKILL, SIGCONT, SIGSTOP, SIGTSTP, SIGTTIN, SIGTTOU}
+use Rattle.limits.specs.Limits.{siQueue}
 use Rattle.lists.specs.Lists.{count}
 use Rattle.lists.proofs.Bools.{and-left}
 use Rattle.lists.proofs.Lists.{count-le-length}
@@ -21,7 +23,8 @@ use Rattle.rules.specs.Signals.{standard, stopSignal, ignored}
 use Rattle.rules.specs.View.{View, actionOf, theProcess, pendingIn}
 use Rattle.rules.specs.Store.{ofProcess, queuedIn, view}
 use Rattle.rules.specs.Sound.{goodUser}
-use Rattle.rules.specs.Sending.{Generation, testing, killing, stopping, dropping, absorbing, marking, keeping, absorbs, generation, infoOf, needsRecord}
+use Rattle.rules.specs.Sending.{Generation, testing, killing, stopping, dropping, absorbing, marking, keeping, absorbs}
+use Rattle.rules.specs.Sending.{generation, infoOf, needsRecord}
 use Rattle.rules.proofs.Facts.{users-fit}
 use Rattle.queue.specs.Queue.{recordsOf}
 use Rattle.queue.proofs.Buffer.{length-recordsOf}
@@ -35,8 +38,10 @@ use Rattle.sending.specs.declared.Generation.the-variants as cases
 use Rattle.sending.proofs.Generation.{the-type}
 
 module _ (v : View) (queued : Bool) (q : Queue) (s : ℕ) where
-  pub absorbed : Signal s → (pending marks : SigSet) (isStandard pends marked : Bool) → pending ≡ setOf (pendingIn v q) → marks ≡ setOf (v .marks q)
-      → isStandard ≡ standard s → pends ≡ has pending s → marked ≡ has marks s → ((isStandard && pends) || (not queued && marked)) ≡ absorbs v queued q s
+  pub absorbed : Signal s → (pending marks : SigSet) (isStandard pends marked : Bool) → pending ≡ setOf (pendingIn v q)
+      → marks ≡ setOf (v .marks q)
+      → isStandard ≡ standard s → pends ≡ has pending s → marked ≡ has marks s
+      → ((isStandard && pends) || (not queued && marked)) ≡ absorbs v queued q s
   unfolding absorbs
   absorbed g pending marks isStandard pends marked e f h j k =
       let a : pends ≡ pendingIn v q s = j ∙ ap (λ (x : SigSet). has x s) e ∙ has-set (pendingIn v q) s g in
@@ -82,13 +87,15 @@ module _ (v : View) (queued : Bool) (q : Queue) (s : ℕ) where
             is-marking e = rw (ne-eqb s 0 n0, ne-eqb s SIGKILL n1, ne-eqb s SIGSTOP n2, n3, n4, e)
 
 -- the action of the process that is named
-pub ignored-read : (l : Lent) (p s : ℕ) (a : Action) (r : Bool) → a ≡ actionOf (processNamed (l .processes) p) s → r ≡ ignored a s
+pub ignored-read : (l : Lent) (p s : ℕ) (a : Action) (r : Bool) → a ≡ actionOf (processNamed (l .processes) p) s
+    → r ≡ ignored a s
     → r ≡ ignored (actionOf (theProcess (viewOf l) p) s) s
 unfolding theProcess view decoded
 ignored-read l p s a r e h = h ∙ ap (λ (x : Action). ignored x s) e
 
 -- the first six generations need no record
-no-record : (f : declared.Generation) → OneOf (0 ∷ 1 ∷ 2 ∷ 3 ∷ 4 ∷ 5 ∷ []) (tagOf the-type f) → false ≡ needsRecord (generationOf f)
+no-record : (f : declared.Generation) → OneOf (0 ∷ 1 ∷ 2 ∷ 3 ∷ 4 ∷ 5 ∷ []) (tagOf the-type f)
+    → false ≡ needsRecord (generationOf f)
 unfolding needsRecord generationOf
 no-record cases.Testing k = refl
 no-record cases.Killing k = refl
@@ -105,7 +112,8 @@ unfolding theProcess view decoded
 sender-fits l e by = users-fit (decoded l) (store-sound l e) by .real
 
 pub info-read : (l : Lent) (by to t s value uid : ℕ) → uid ≡ processNamed (l .processes) by .real
-    → record { process = to; thread = t; signal = s; code = siQueue; sender = by; uid = uid; value = value } ≡ infoOf (viewOf l) by to t s value
+    → record { process = to; thread = t; signal = s; code = siQueue; sender = by; uid = uid; value = value }
+    ≡ infoOf (viewOf l) by to t s value
 unfolding infoOf theProcess view decoded
 info-read l by to t s value uid e = rw e
 
@@ -115,7 +123,8 @@ pub stops : union (ofSignal SIGTSTP) (union (ofSignal SIGTTIN) (ofSignal SIGTTOU
 unfolding union stopSignal
 stops =
     set-cong _ _
-    (λ s g. ap₂ (λ (a b : Bool). a || b) (has-of SIGTSTP s g) (has-set _ s g ∙ ap₂ (λ (a b : Bool). a || b) (has-of SIGTTIN s g) (has-of SIGTTOU s g)))
+    (λ s g. ap₂ (λ (a b : Bool). a || b) (has-of SIGTSTP s g)
+    (has-set _ s g ∙ ap₂ (λ (a b : Bool). a || b) (has-of SIGTTIN s g) (has-of SIGTTOU s g)))
 
 pub discarded-by-of-cont : (s : ℕ) → s ≡ SIGCONT → setOf stopSignal ≡ discardedBy s
 unfolding discardedBy
@@ -127,7 +136,8 @@ discarded-by-of-others s n = rw (ne-eqb s SIGCONT n)
 
 -- ---- room
 
-pub counted : (l : Lent) (p m n : ℕ) → m ≡ count (ofProcess p) (recordsOf (l .threadBuffer)) → n ≡ count (ofProcess p) (recordsOf (l .processBuffer))
+pub counted : (l : Lent) (p m n : ℕ) → m ≡ count (ofProcess p) (recordsOf (l .threadBuffer))
+    → n ≡ count (ofProcess p) (recordsOf (l .processBuffer))
     → viewOf l .queued p ≡ m + n
 unfolding view queuedIn recordsOf decoded
 counted l p m n e f = sym (ap₂ (λ (a b : ℕ). a + b) e f)
@@ -137,14 +147,17 @@ count-fits b p n e = rw e (le-trans (count-le-length (ofProcess p) (recordsOf b)
 
 -- a send that is kept, and any other
 module _ (v : View) (to : ℕ) (f : declared.Generation) where
-  pub room-read : f ≡ cases.Keeping → (m n : ℕ) → v .queued to ≡ m + n → leb recordLimit (m + n) ≡ (needsRecord (generationOf f) && leb recordLimit (v .queued to))
+  pub room-read : f ≡ cases.Keeping → (m n : ℕ) → v .queued to ≡ m + n
+      → leb recordLimit (m + n) ≡ (needsRecord (generationOf f) && leb recordLimit (v .queued to))
   unfolding needsRecord generationOf
   room-read e m n k = rw (e, k)
 
-  pub room-unasked : OneOf (0 ∷ 1 ∷ 2 ∷ 3 ∷ 4 ∷ 5 ∷ []) (tagOf the-type f) → false ≡ (needsRecord (generationOf f) && leb recordLimit (v .queued to))
+  pub room-unasked : OneOf (0 ∷ 1 ∷ 2 ∷ 3 ∷ 4 ∷ 5 ∷ []) (tagOf the-type f)
+      → false ≡ (needsRecord (generationOf f) && leb recordLimit (v .queued to))
   room-unasked k = sym (and-left (leb recordLimit (v .queued to)) (sym (no-record f k)))
 
-no-record-either : (b : Bool) (x y : Generation) → needsRecord x ≡ false → needsRecord y ≡ false → needsRecord (cond b x y) ≡ false
+no-record-either : (b : Bool) (x y : Generation) → needsRecord x ≡ false → needsRecord y ≡ false
+    → needsRecord (cond b x y) ≡ false
 no-record-either true x y e h = e
 no-record-either false x y e h = h
 

@@ -13,7 +13,8 @@ use Rattle.rules.specs.Types.{kill, sigqueue}
 use Rattle.rules.specs.View.{View, isProcess, targetQueue, liveProcess, theProcess}
 use Rattle.rules.specs.Store.{view}
 use Rattle.rules.specs.Sending.{maySignal, Generation, generation, infoOf, sendChanges, needsRecord}
-use Rattle.rules.specs.Refusals.{overLast, einval, esrch, eperm, eagain, noProcessLive, badTarget, mayNot, noRoom, rows, isClear}
+use Rattle.rules.specs.Refusals.{overLast, einval, esrch, eperm, eagain, noProcessLive, badTarget, mayNot, noRoom, rows}
+use Rattle.rules.specs.Refusals.{isClear}
 use Rattle.rules.specs.Calls.{send}
 use Rattle.rules.proofs.RefusalTable.{Off}
 use Rattle.rules.proofs.SendFits.{send-fits}
@@ -41,11 +42,13 @@ module _ (l : Lent) (by to t s : ℕ) where
   abbrev plain : ℕ
   plain = refusalOn (kill by to t s) l
 
-  pub nobody-read : (live bad : Bool) → live ≡ any (isProcess by) (heldProcesses (l .processes)) → bad ≡ badTarget seen to t → (not live || bad) ≡ nobody
+  pub nobody-read : (live bad : Bool) → live ≡ any (isProcess by) (heldProcesses (l .processes))
+      → bad ≡ badTarget seen to t → (not live || bad) ≡ nobody
   unfolding noProcessLive liveProcess view decoded
   nobody-read live bad e f = rw (e, f)
 
-  pub may-read : (may : Bool) → may ≡ maySignal (processNamed (l .processes) by) (processNamed (l .processes) to) s → not may ≡ mayNot seen by to s
+  pub may-read : (may : Bool) → may ≡ maySignal (processNamed (l .processes) by) (processNamed (l .processes) to) s
+      → not may ≡ mayNot seen by to s
   unfolding mayNot theProcess view decoded
   may-read may e = ap not e
 
@@ -71,7 +74,8 @@ module _ (l : Lent) (by to t s : ℕ) where
         pub kill-barred : mayNot seen by to s ≡ true → EPERM ≡ plain
         unfolding rows isClear
         kill-barred h =
-            refuses-at (kill by to t s) l refl e (einval (overLast s) ∷ esrch nobody ∷ []) (eperm (mayNot seen by to s)) [] refl (low, (k, tt)) h
+            refuses-at (kill by to t s) l refl e (einval (overLast s) ∷ esrch nobody ∷ [])
+            (eperm (mayNot seen by to s)) [] refl (low, (k, tt)) h
 
         pub kill-passes : mayNot seen by to s ≡ false → 0 ≡ plain
         unfolding rows isClear
@@ -86,7 +90,8 @@ pub record Allowed (l : Lent) (by to t s : ℕ) : Type 0 where
   pub target : badTarget (viewOf l) to t ≡ false
 
 module _ (l : Lent) (by to t s : ℕ) where
-  allowed-by : soundTables l ≡ true → overLast s ≡ false → (noProcessLive (viewOf l) by || badTarget (viewOf l) to t) ≡ false → Allowed l by to t s
+  allowed-by : soundTables l ≡ true → overLast s ≡ false
+      → (noProcessLive (viewOf l) by || badTarget (viewOf l) to t) ≡ false → Allowed l by to t s
   unfolding overLast noProcessLive
   allowed-by e o k =
       let v : View = viewOf l in
@@ -111,7 +116,8 @@ module _ (l : Lent) (by to t s value : ℕ) where
   queue-refused n e z =
       let v : View = viewOf l in
       let k : n ≡ rowsOn (rows v (kill by to t s)) l = e ∙ rows-given (kill by to t s) l refl in
-      k ∙ rows-before (rows v (kill by to t s)) (eagain (noRoom v to t s) ∷ []) l (λ y. z (k ∙ y)) ∙ sym (rows-given (sigqueue by to t s value) l refl)
+      k ∙ rows-before (rows v (kill by to t s)) (eagain (noRoom v to t s) ∷ []) l (λ y. z (k ∙ y))
+      ∙ sym (rows-given (sigqueue by to t s value) l refl)
 
   module _ (e : refusalOn (kill by to t s) l ≡ 0) where
     plain-off : All Off (rows (viewOf l) (kill by to t s))
@@ -124,11 +130,14 @@ module _ (l : Lent) (by to t s value : ℕ) where
     queue-full : noRoom (viewOf l) to t s ≡ true → EAGAIN ≡ refusalOn (sigqueue by to t s value) l
     unfolding rows isClear
     queue-full h =
-        refuses-at (sigqueue by to t s value) l refl plain-sound (rows (viewOf l) (kill by to t s)) (eagain (noRoom (viewOf l) to t s)) [] refl plain-off h
+        refuses-at (sigqueue by to t s value) l refl plain-sound (rows (viewOf l) (kill by to t s))
+        (eagain (noRoom (viewOf l) to t s)) [] refl plain-off h
 
     queue-passes : noRoom (viewOf l) to t s ≡ false → 0 ≡ refusalOn (sigqueue by to t s value) l
     unfolding rows isClear
-    queue-passes h = refuses-none (sigqueue by to t s value) l refl plain-sound (plain-off .0, (plain-off .1 .0, (plain-off .1 .1 .0, (h, tt))))
+    queue-passes h =
+        refuses-none (sigqueue by to t s value) l refl plain-sound
+        (plain-off .0, (plain-off .1 .0, (plain-off .1 .1 .0, (h, tt))))
 
   module _ (e : refusalOn (sigqueue by to t s value) l ≡ 0) where
     queue-allowed : Allowed l by to t s
@@ -144,7 +153,8 @@ module _ (l : Lent) (by to t s value : ℕ) where
 -- ---- either send
 
 module _ (l : Lent) (by to t s value : ℕ) where
-  pub send-refused : (queued : Bool) (n : ℕ) → n ≡ refusalOn (kill by to t s) l → (n ≡ 0 → ⊥) → n ≡ refusalOn (sendCall queued by to t s value) l
+  pub send-refused : (queued : Bool) (n : ℕ) → n ≡ refusalOn (kill by to t s) l → (n ≡ 0 → ⊥)
+      → n ≡ refusalOn (sendCall queued by to t s value) l
   send-refused true n e z = queue-refused l by to t s value n e z
   send-refused false n e z = e
 
@@ -153,12 +163,15 @@ module _ (l : Lent) (by to t s value : ℕ) where
 
   -- by the generation and the test that code has
   module _ (e : refusalOn (kill by to t s) l ≡ 0) (f : Generation) (b : Bool) (i : b ≡ isFull f) where
-    pub send-full : (queued : Bool) → f ≡ generation (viewOf l) queued (targetQueue to t) s → b ≡ true → EAGAIN ≡ refusalOn (sendCall queued by to t s value) l
+    pub send-full : (queued : Bool) → f ≡ generation (viewOf l) queued (targetQueue to t) s → b ≡ true
+        → EAGAIN ≡ refusalOn (sendCall queued by to t s value) l
     unfolding noRoom
     send-full true h k = queue-full l by to t s value e (ap isFull (sym h) ∙ sym i ∙ k)
-    send-full false h k = clash (ap isFull (sym h) ∙ sym i ∙ k) (and-left _ (plain-no-record (viewOf l) (targetQueue to t) s))
+    send-full false h k =
+        clash (ap isFull (sym h) ∙ sym i ∙ k) (and-left _ (plain-no-record (viewOf l) (targetQueue to t) s))
 
-    pub send-passes : (queued : Bool) → f ≡ generation (viewOf l) queued (targetQueue to t) s → b ≡ false → refusalOn (sendCall queued by to t s value) l ≡ 0
+    pub send-passes : (queued : Bool) → f ≡ generation (viewOf l) queued (targetQueue to t) s → b ≡ false
+        → refusalOn (sendCall queued by to t s value) l ≡ 0
     unfolding noRoom
     send-passes true h k = sym (queue-passes l by to t s value e (ap isFull (sym h) ∙ sym i ∙ k))
     send-passes false h k = e
@@ -167,13 +180,16 @@ module _ (l : Lent) (by to t s value : ℕ) where
   send-allowed true e = queue-allowed l by to t s value e
   send-allowed false e = kill-allowed l by to t s e
 
-  send-room : (queued : Bool) → refusalOn (sendCall queued by to t s value) l ≡ 0 → queued ≡ true → noRoom (viewOf l) to t s ≡ false
+  send-room : (queued : Bool) → refusalOn (sendCall queued by to t s value) l ≡ 0 → queued ≡ true
+      → noRoom (viewOf l) to t s ≡ false
   send-room true e k = queue-room l by to t s value e
   send-room false e k = clash k refl
 
   -- what `generate` asks for, of the generation and the record that code has
-  pub allowed-ready : (queued : Bool) → refusalOn (sendCall queued by to t s value) l ≡ 0 → (f : Generation) (r : Siginfo)
-      → f ≡ generation (viewOf l) queued (targetQueue to t) s → r ≡ infoOf (viewOf l) by to t s value → Ready (sendChanges f r) l
+  pub allowed-ready : (queued : Bool) → refusalOn (sendCall queued by to t s value) l ≡ 0
+      → (f : Generation) (r : Siginfo)
+      → f ≡ generation (viewOf l) queued (targetQueue to t) s → r ≡ infoOf (viewOf l) by to t s value
+      → Ready (sendChanges f r) l
   unfolding overLast send
   allowed-ready queued e f r h k =
       let a = send-allowed queued e in

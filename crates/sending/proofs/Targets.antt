@@ -22,6 +22,7 @@ module _ (v : View) (to t : ℕ) where
       unfolding badTarget noProcessLive noThreadLive
       no-thread e = rw (l, ne-eqb t 0 n, e)
 
-      pub whose-thread : (r : ℕ) → liveThread v t ≡ true → r ≡ theThread v t .process → not (eqb r to) ≡ badTarget v to t
+      pub whose-thread : (r : ℕ) → liveThread v t ≡ true → r ≡ theThread v t .process
+          → not (eqb r to) ≡ badTarget v to t
       unfolding badTarget noProcessLive noThreadLive
       whose-thread r e h = rw (l, ne-eqb t 0 n, e, h)

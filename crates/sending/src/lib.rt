@@ -91,7 +91,8 @@ fn generation_of(
     requires { ⌜ soundTables (given ps ts tb pb) ≡ true ⌝ }
     requires { ⌜ liveQueue (viewOf (given ps ts tb pb)) (targetQueue process thread) ≡ true ⌝ }
     requires { ⌜ signal ≤ signals ⌝ }
-    ensures { λ r. ⌜ generationOf r ≡ generation (viewOf (before ps ts tb pb)) queued (targetQueue process thread) signal ⌝ }
+    ensures { λ r. ⌜ generationOf r
+        ≡ generation (viewOf (before ps ts tb pb)) queued (targetQueue process thread) signal ⌝ }
 {
     if signal == 0 {
         return Generation::Testing;
@@ -271,7 +272,8 @@ fn kill_refusal(
     0
 }
 
-// Is the send kept, and has the process all the records that it may have? The buffers are counted only for a send that is kept.
+// Is the send kept, and has the process all the records that it may have? The buffers are counted
+// only for a send that is kept.
 fn has_no_room(ps: &[u64], ts: &[u64], tb: &[u8], pb: &[u8], f: Generation, to: u32) -> bool
     requires { ⌜ soundTables (given ps ts tb pb) ≡ true ⌝ }
     ensures { λ r. ⌜ r ≡ (needsRecord (generationOf f) && leb recordLimit (viewOf (before ps ts tb pb) .queued to)) ⌝ }

@@ -2,7 +2,9 @@
 use mathlib.Core.Path.{_≡_, refl, sym, ap, _∙_}
 use mathlib.Core.List.{List, [], _∷_, _++_}
 use Prim.Native.Nat.{ℕ, zero, suc, _+_, _*_, _/_, _%_, _^_, _≤_, _<_}
-use native.Mathlib.Nat.{suc-add, zero-add, one-mul, mul-assoc, mul-comm, div-one, div-div-eq-div-mul, mod-add-div, div-lt-iff-lt-mul, add-mul-mod-self-left, add-mul-div-left, pow-zero, pow-suc, pow-le-pow-right, lt-of-lt-of-le, min-le-left}
+use native.Mathlib.Nat.{suc-add, zero-add, one-mul, mul-assoc, mul-comm, div-one, div-div-eq-div-mul, mod-add-div}
+use native.Mathlib.Nat.{div-lt-iff-lt-mul, add-mul-mod-self-left, add-mul-div-left, pow-zero, pow-suc, pow-le-pow-right}
+use native.Mathlib.Nat.{lt-of-lt-of-le, min-le-left}
 use native.Mathlib.Omega.{arith}
 use lib.Arith.{lt-one}
 use lib.Dec.{lit<}
@@ -35,7 +37,8 @@ unfolding le encode
 le-encode zero x h = sym (lt-one (rw pow-zero at h))
 le-encode (suc n) x h =
     let k : x < 256 ^ n * 256 = rw pow-suc at h in
-    ap (λ m. x % 256 + 256 * m) (le-encode n (x / 256) (div-lt-iff-lt-mul {y = 256 ^ n} (lit< tt) .1 k)) ∙ mod-add-div x 256
+    ap (λ m. x % 256 + 256 * m) (le-encode n (x / 256) (div-lt-iff-lt-mul {y = 256 ^ n} (lit< tt) .1 k))
+    ∙ mod-add-div x 256
 
 pub encode-le : (bs : List ℕ) → Bytes bs → encode (length bs) (le bs) ≡ bs
 unfolding le encode
@@ -67,8 +70,10 @@ unfolding encode
 encode-high zero y z = refl
 encode-high (suc n) y z =
     let w : ℕ = 256 ^ n * z in
-    let low : (y + 256 ^ suc n * z) % 256 ≡ y % 256 = ap (λ m. (y + m) % 256) (high-part n z) ∙ add-mul-mod-self-left y 256 w in
-    let high : (y + 256 ^ suc n * z) / 256 ≡ y / 256 + w = ap (λ m. (y + m) / 256) (high-part n z) ∙ add-mul-div-left y w (lit< tt) in
+    let low : (y + 256 ^ suc n * z) % 256 ≡ y % 256 =
+    ap (λ m. (y + m) % 256) (high-part n z) ∙ add-mul-mod-self-left y 256 w in
+    let high : (y + 256 ^ suc n * z) / 256 ≡ y / 256 + w =
+    ap (λ m. (y + m) / 256) (high-part n z) ∙ add-mul-div-left y w (lit< tt) in
     rw (low, high, encode-high n (y / 256) z)
 
 pub encode-append : (m n x : ℕ) → encode (m + n) x ≡ encode m x ++ encode n (x / 256 ^ m)
@@ -82,7 +87,8 @@ encode-append (suc m) n x =
 -- the m lowest bytes of x and then the others
 pub encode-halves : (m n x : ℕ) → encode m (x % 256 ^ m) ++ encode n (x / 256 ^ m) ≡ encode (m + n) x
 encode-halves m n x =
-    let low : encode m (x % 256 ^ m) ≡ encode m x = sym (encode-high m (x % 256 ^ m) (x / 256 ^ m)) ∙ ap (encode m) (mod-add-div x (256 ^ m)) in
+    let low : encode m (x % 256 ^ m) ≡ encode m x =
+    sym (encode-high m (x % 256 ^ m) (x / 256 ^ m)) ∙ ap (encode m) (mod-add-div x (256 ^ m)) in
     rw low (sym (encode-append m n x))
 
 -- ---- numbers read
@@ -99,12 +105,14 @@ pub read-halves : (b : List ℕ) (at m n : ℕ) → at + m ≤ length b
     → le (take m (drop at b)) + 256 ^ m * le (take n (drop (at + m) b)) ≡ le (take (m + n) (drop at b))
 read-halves b at m n h =
     let k : length (take m (drop at b)) ≡ m = length-take-le m (drop at b) (rw length-drop (omega arith)) in
-    let e : le (take m (drop at b) ++ take n (drop (at + m) b)) ≡ le (take m (drop at b)) + 256 ^ m * le (take n (drop (at + m) b)) =
+    let e : le (take m (drop at b) ++ take n (drop (at + m) b))
+    ≡ le (take m (drop at b)) + 256 ^ m * le (take n (drop (at + m) b)) =
     rw k at (le-append (take m (drop at b)) (take n (drop (at + m) b))) in
     sym (rw (take-add m n (drop at b), drop-drop m at b) e)
 
 -- a number that was read, and its bytes again
-pub encode-part : (b : List ℕ) (at n : ℕ) → Bytes b → at + n ≤ length b → encode n (le (take n (drop at b))) ≡ take n (drop at b)
+pub encode-part : (b : List ℕ) (at n : ℕ) → Bytes b → at + n ≤ length b
+    → encode n (le (take n (drop at b))) ≡ take n (drop at b)
 encode-part b at n h k =
     let e : length (take n (drop at b)) ≡ n = length-take-le n (drop at b) (rw length-drop (omega arith)) in
     rw e at (encode-le (take n (drop at b)) (bytes-part b at n h))
@@ -119,7 +127,8 @@ le-part b at n h =
 
 -- as code stores one a byte at a time
 pub store-bytes : (b : List ℕ) (at x : ℕ)
-    → set (set (set (set b at (x % 256)) (at + 1) (x / 256 % 256)) (at + 2) (x / 256 / 256 % 256)) (at + 3) (x / 256 / 256 / 256 % 256)
+    → set (set (set (set b at (x % 256)) (at + 1) (x / 256 % 256)) (at + 2) (x / 256 / 256 % 256)) (at + 3)
+    (x / 256 / 256 / 256 % 256)
     ≡ sets b at (encode u32Bytes x)
 unfolding encode
 store-bytes b at x = stores4 b at (x % 256) (x / 256 % 256) (x / 256 / 256 % 256) (x / 256 / 256 / 256 % 256)

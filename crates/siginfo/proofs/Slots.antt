@@ -7,7 +7,8 @@ use native.Mathlib.Omega.{arith}
 use lib.Dec.{lit<}
 use lib.ListN.{length, getD, take, drop, set, length-drop, take-append-drop}
 use lib.Seq.{sets, drop-drop, take-all, length-take-le}
-use Rattle.limits.specs.Limits.{recordProcess, recordThread, recordSignal, recordCode, recordSender, recordUid, recordValue, recordBytes}
+use Rattle.limits.specs.Limits.{recordProcess, recordThread, recordSignal, recordCode, recordSender, recordUid}
+use Rattle.limits.specs.Limits.{recordValue, recordBytes}
 use Rattle.lists.specs.Lists.{All}
 use Rattle.lists.specs.Rows.{row, rows, flat}
 use Rattle.lists.proofs.Lists.{All-every, All-imp, All-take, All-drop}
@@ -75,21 +76,35 @@ fits-siginfoOf l h =
     }
 
 pub fits-noSiginfo : Fits noSiginfo
-fits-noSiginfo = record { process = lit< tt; thread = lit< tt; signal = lit< tt; code = lit< tt; sender = lit< tt; uid = lit< tt; value = lit< tt }
+fits-noSiginfo =
+    record {
+      process = lit< tt;
+      thread = lit< tt;
+      signal = lit< tt;
+      code = lit< tt;
+      sender = lit< tt;
+      uid = lit< tt;
+      value = lit< tt;
+    }
 
 -- ---- what code reads and stores in a slot
 
 -- a field of a slot is a part of the whole
-in-row : (b : List ℕ) (slot at n : ℕ) → at + n ≤ recordBytes → take n (drop at (row recordBytes b slot)) ≡ take n (drop (slot * recordBytes + at) b)
-in-row b slot at n h = take-drop-take n at recordBytes (drop (slot * recordBytes) b) h ∙ ap (take n) (drop-drop at (slot * recordBytes) b)
+in-row : (b : List ℕ) (slot at n : ℕ) → at + n ≤ recordBytes
+    → take n (drop at (row recordBytes b slot)) ≡ take n (drop (slot * recordBytes + at) b)
+in-row b slot at n h =
+    take-drop-take n at recordBytes (drop (slot * recordBytes) b) h ∙ ap (take n) (drop-drop at (slot * recordBytes) b)
 
 module _ (b : List ℕ) (slot : ℕ) where
   abbrev field : ℕ → ℕ → ℕ
   field at n = le (take n (drop (slot * recordBytes + at) b))
 
-  pub read-slot : (p t s c d u v : ℕ) → p ≡ field recordProcess u32Bytes → t ≡ field recordThread u32Bytes → s ≡ field recordSignal u32Bytes
-      → c ≡ field recordCode u32Bytes → d ≡ field recordSender u32Bytes → u ≡ field recordUid u32Bytes → v ≡ field recordValue u64Bytes
-      → _≡_ {A = Siginfo} (record { process = p; thread = t; signal = s; code = c; sender = d; uid = u; value = v }) (siginfoOf (row recordBytes b slot))
+  pub read-slot : (p t s c d u v : ℕ) → p ≡ field recordProcess u32Bytes → t ≡ field recordThread u32Bytes
+      → s ≡ field recordSignal u32Bytes
+      → c ≡ field recordCode u32Bytes → d ≡ field recordSender u32Bytes → u ≡ field recordUid u32Bytes
+      → v ≡ field recordValue u64Bytes
+      → _≡_ {A = Siginfo} (record { process = p; thread = t; signal = s; code = c; sender = d; uid = u; value = v })
+      (siginfoOf (row recordBytes b slot))
   unfolding siginfoOf
   read-slot p t s c d u v e₀ e₁ e₂ e₃ e₄ e₅ e₆ =
       rw (
@@ -104,9 +119,12 @@ module _ (b : List ℕ) (slot : ℕ) where
       (cc)
 
 pub write-slot : {b₁ b₂ b₃ b₄ b₅ b₆ b₇ : List ℕ} (b : List ℕ) (at : ℕ) (r : Siginfo)
-    → b₁ ≡ sets b (at + recordProcess) (encode u32Bytes (r .process)) → b₂ ≡ sets b₁ (at + recordThread) (encode u32Bytes (r .thread))
-    → b₃ ≡ sets b₂ (at + recordSignal) (encode u32Bytes (r .signal)) → b₄ ≡ sets b₃ (at + recordCode) (encode u32Bytes (r .code))
-    → b₅ ≡ sets b₄ (at + recordSender) (encode u32Bytes (r .sender)) → b₆ ≡ sets b₅ (at + recordUid) (encode u32Bytes (r .uid))
+    → b₁ ≡ sets b (at + recordProcess) (encode u32Bytes (r .process))
+    → b₂ ≡ sets b₁ (at + recordThread) (encode u32Bytes (r .thread))
+    → b₃ ≡ sets b₂ (at + recordSignal) (encode u32Bytes (r .signal))
+    → b₄ ≡ sets b₃ (at + recordCode) (encode u32Bytes (r .code))
+    → b₅ ≡ sets b₄ (at + recordSender) (encode u32Bytes (r .sender))
+    → b₆ ≡ sets b₅ (at + recordUid) (encode u32Bytes (r .uid))
     → b₇ ≡ sets b₆ (at + recordValue) (encode u64Bytes (r .value)) → b₇ ≡ sets b at (bytesOf r)
 unfolding bytesOf encode
 write-slot b at r e₁ e₂ e₃ e₄ e₅ e₆ e₇ =
@@ -130,7 +148,8 @@ pub length-slots : (n : ℕ) (b : List ℕ) → length (slots n b) ≡ n
 unfolding slots
 length-slots n b = length-rows siginfoOf recordBytes n b
 
-pub slot-at : (n : ℕ) (b : List ℕ) (i : ℕ) (d : Siginfo) → i < n → getD (slots n b) i d ≡ siginfoOf (row recordBytes b i)
+pub slot-at : (n : ℕ) (b : List ℕ) (i : ℕ) (d : Siginfo) → i < n
+    → getD (slots n b) i d ≡ siginfoOf (row recordBytes b i)
 unfolding slots
 slot-at n b i d h = getD-rows siginfoOf recordBytes n b i d h
 
@@ -139,17 +158,21 @@ pub slot-put : (n : ℕ) (b : List ℕ) (i : ℕ) (r : Siginfo) → i < n → i 
     → slots n (sets b (i * recordBytes) (bytesOf r)) ≡ set (slots n b) i r
 unfolding slots
 slot-put n b i r h k f =
-    rows-put siginfoOf recordBytes n b i (bytesOf r) h k (length-bytesOf r) ∙ ap (set (rows siginfoOf recordBytes n b) i) (siginfoOf-bytesOf r f)
+    rows-put siginfoOf recordBytes n b i (bytesOf r) h k (length-bytesOf r)
+    ∙ ap (set (rows siginfoOf recordBytes n b) i) (siginfoOf-bytesOf r f)
 
 pub fits-slots : (n : ℕ) (b : List ℕ) → Bytes b → All Fits (slots n b)
 unfolding slots rows
 fits-slots zero b h = tt
-fits-slots (suc n) b h =
-    (fits-siginfoOf (take recordBytes b) (All-take (λ x. x < 256) recordBytes b h), fits-slots n (drop recordBytes b) (All-drop (λ x. x < 256) recordBytes b h))
+fits-slots (suc n) b h = (
+  fits-siginfoOf (take recordBytes b) (All-take (λ x. x < 256) recordBytes b h),
+  fits-slots n (drop recordBytes b) (All-drop (λ x. x < 256) recordBytes b h),
+)
 
 pub length-slotBytes : (rs : List Siginfo) → length (slotBytes rs) ≡ length rs * recordBytes
 unfolding slotBytes
-length-slotBytes rs = length-flat bytesOf recordBytes rs (All-every (λ r. length (bytesOf r) ≡ recordBytes) length-bytesOf rs)
+length-slotBytes rs =
+    length-flat bytesOf recordBytes rs (All-every (λ r. length (bytesOf r) ≡ recordBytes) length-bytesOf rs)
 
 -- bytes to records and back
 pub slotBytes-slots : (n : ℕ) (b : List ℕ) → length b ≡ n * recordBytes → Bytes b → slotBytes (slots n b) ≡ b
@@ -158,7 +181,8 @@ slotBytes-slots zero b e h = sym (nil-of b (e ∙ zero-mul recordBytes))
 slotBytes-slots (suc n) b e h =
     let k : length b ≡ n * recordBytes + recordBytes = e ∙ suc-mul n recordBytes in
     let here : bytesOf (siginfoOf (take recordBytes b)) ≡ take recordBytes b =
-    bytesOf-siginfoOf (take recordBytes b) (length-take-le recordBytes b (omega arith)) (All-take (λ x. x < 256) recordBytes b h) in
+    bytesOf-siginfoOf (take recordBytes b) (length-take-le recordBytes b (omega arith))
+    (All-take (λ x. x < 256) recordBytes b h) in
     let rest : slotBytes (slots n (drop recordBytes b)) ≡ drop recordBytes b =
     slotBytes-slots n (drop recordBytes b) (rw length-drop (omega arith)) (All-drop (λ x. x < 256) recordBytes b h) in
     ap₂ (λ x y. x ++ y) here rest ∙ take-append-drop recordBytes b
@@ -168,4 +192,5 @@ pub slots-slotBytes : (rs : List Siginfo) → All Fits rs → slots (length rs) 
 unfolding slotBytes slots
 slots-slotBytes rs f =
     rows-flat siginfoOf bytesOf recordBytes rs
-    (All-imp Fits (λ r. (length (bytesOf r) ≡ recordBytes) × (siginfoOf (bytesOf r) ≡ r)) (λ r k. (length-bytesOf r, siginfoOf-bytesOf r k)) rs f)
+    (All-imp Fits (λ r. (length (bytesOf r) ≡ recordBytes) × (siginfoOf (bytesOf r) ≡ r))
+    (λ r k. (length-bytesOf r, siginfoOf-bytesOf r k)) rs f)

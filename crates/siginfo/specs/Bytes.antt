@@ -1,8 +1,10 @@
--- "A record is 32 bytes, little-endian": numbers of any width as bytes, the bytes of one record, and those of a row of slots.
+-- "A record is 32 bytes, little-endian": numbers of any width as bytes, the bytes of one record,
+-- and those of a row of slots.
 use Prim.Native.Nat.{ℕ, zero, suc, _+_, _*_, _/_, _%_, _^_, _<_}
 use mathlib.Core.List.{List, [], _∷_, _++_}
 use lib.ListN.{length, take, drop}
-use Rattle.limits.specs.Limits.{recordProcess, recordThread, recordSignal, recordCode, recordSender, recordUid, recordValue, recordBytes}
+use Rattle.limits.specs.Limits.{recordProcess, recordThread, recordSignal, recordCode, recordSender, recordUid}
+use Rattle.limits.specs.Limits.{recordValue, recordBytes}
 use Rattle.lists.specs.Lists.{All}
 use Rattle.lists.specs.Rows.{rows, flat}
 use Rattle.types.specs.declared.Siginfo.{Siginfo}
@@ -32,7 +34,8 @@ Bytes b = All (λ x. x < 256) b
 
 -- ---- one record
 
--- "process id 4, thread id 4 (0 in the process buffer), signal 4, code 4 (-1, queued), sender id 4, sender real user id 4, value 8"
+-- "process id 4, thread id 4 (0 in the process buffer), signal 4, code 4 (-1, queued), sender id 4,
+-- sender real user id 4, value 8"
 unfoldable pub siginfoOf : List ℕ → Siginfo
 siginfoOf b =
     record {

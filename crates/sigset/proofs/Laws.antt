@@ -3,7 +3,9 @@ use mathlib.Core.Path.{_≡_, refl, sym, ap, ap₂, _∙_, subst}
 use mathlib.Core.Logic.{_⊎_, inl, inr, ⊎-elim}
 use mathlib.Core.Bool.{Bool, true, false, not, _&&_, _||_, cond, true≢false, or-self, or-comm, and-false}
 use Prim.Native.Nat.{ℕ, zero, suc, _+_, _-_, _*_, _/_, _%_, _^_, _≤_, _<_}
-use native.Mathlib.Nat.{pow-suc, mul-assoc, add-mul-div-right, add-mul-mod-self-right, mod-eq-of-lt, mod-lt, add-comm, mod-one, not-suc-le-zero, eq-or-lt-of-le, le-of-suc-le-suc, zero-div, zero-mod, div-eq-of-lt, lt-of-lt-of-le}
+use native.Mathlib.Nat.{pow-suc, mul-assoc, add-mul-div-right, add-mul-mod-self-right, mod-eq-of-lt, mod-lt, add-comm}
+use native.Mathlib.Nat.{mod-one, not-suc-le-zero, eq-or-lt-of-le, le-of-suc-le-suc, zero-div, zero-mod, div-eq-of-lt}
+use native.Mathlib.Nat.{lt-of-lt-of-le}
 use native.Mathlib.Numerals.{one-add}
 use native.Mathlib.Decide.{decLe}
 use native.Mathlib.Omega.{arith}
@@ -13,7 +15,8 @@ use lib.Bits.{bitAnd, bitOr, or-shr, or-mod, or-lt, and-shr, and-mod, and-lt}
 use borrow.Author.Tests.{eq-eqb, ne-eqb, eqb-true}
 use Rattle.limits.specs.Limits.{signals, SIGKILL, SIGSTOP}
 use Rattle.sigset.specs.declared.SigSet.{SigSet}
-use Rattle.sigset.specs.Set.{Signal, bits, has, sumOf, setOf, empty, ofSignal, union, without, intersect, isUnmaskable, unmaskable, maskable, orElse, lowestIn, lowestOf, lowest}
+use Rattle.sigset.specs.Set.{Signal, bits, has, sumOf, setOf, empty, ofSignal, union, without, intersect}
+use Rattle.sigset.specs.Set.{isUnmaskable, unmaskable, maskable, orElse, lowestIn, lowestOf, lowest}
 
 -- ---- the sum of the members
 
@@ -41,13 +44,16 @@ sum-lt p (suc k) = rw (pow-suc 2 k) (go (p (suc k)) (sum-lt p k))
 
 -- the digit at i, for i = k and i < k
 top : (x k b : ℕ) → x < 2 ^ k → b < 2 → (x + b * 2 ^ k) / 2 ^ k % 2 ≡ b
-top x k b hx hb = ap (λ (y : ℕ). y / 2 ^ k % 2) (add-comm x (b * 2 ^ k)) ∙ ap (λ (y : ℕ). y % 2) (high b k hx) ∙ mod-eq-of-lt hb
+top x k b hx hb =
+    ap (λ (y : ℕ). y / 2 ^ k % 2) (add-comm x (b * 2 ^ k)) ∙ ap (λ (y : ℕ). y % 2) (high b k hx) ∙ mod-eq-of-lt hb
 
 under-top : (x b i d : ℕ) → (x + b * 2 ^ (suc d + i)) / 2 ^ i % 2 ≡ x / 2 ^ i % 2
 under-top x b i d =
-    ap (λ (y : ℕ). (x + b * y) / 2 ^ i % 2) (pow-add 2 (suc d) i) ∙ ap (λ (y : ℕ). (x + y) / 2 ^ i % 2) (sym (mul-assoc b (2 ^ suc d) (2 ^ i)))
+    ap (λ (y : ℕ). (x + b * y) / 2 ^ i % 2) (pow-add 2 (suc d) i)
+    ∙ ap (λ (y : ℕ). (x + y) / 2 ^ i % 2) (sym (mul-assoc b (2 ^ suc d) (2 ^ i)))
     ∙ ap (λ (y : ℕ). y % 2) (add-mul-div-right x (b * 2 ^ suc d) (pow-pos i))
-    ∙ ap (λ (y : ℕ). (x / 2 ^ i + b * y) % 2) (pow-suc 2 d) ∙ ap (λ (y : ℕ). (x / 2 ^ i + y) % 2) (sym (mul-assoc b (2 ^ d) 2))
+    ∙ ap (λ (y : ℕ). (x / 2 ^ i + b * y) % 2) (pow-suc 2 d)
+    ∙ ap (λ (y : ℕ). (x / 2 ^ i + y) % 2) (sym (mul-assoc b (2 ^ d) 2))
     ∙ add-mul-mod-self-right (x / 2 ^ i) (b * 2 ^ d) 2
 
 sum-digit : (p : ℕ → Bool) (n i : ℕ) → i < n → sumOf p n / 2 ^ i % 2 ≡ cond (p (suc i)) 1 0
@@ -68,14 +74,17 @@ sum-cong : (p q : ℕ → Bool) (n : ℕ) → ((s : ℕ) → 1 ≤ s → s ≤ n
 unfolding sumOf
 sum-cong p q zero h = refl
 sum-cong p q (suc k) h =
-    ap₂ (λ (x : ℕ) (b : Bool). x + cond b 1 0 * 2 ^ k) (sum-cong p q k (λ s l g. h s l (omega arith))) (h (suc k) (omega arith) (omega arith))
+    ap₂ (λ (x : ℕ) (b : Bool). x + cond b 1 0 * 2 ^ k) (sum-cong p q k (λ s l g. h s l (omega arith)))
+    (h (suc k) (omega arith) (omega arith))
 
 sum-has : (a : SigSet) (n : ℕ) → sumOf (has a) n ≡ a .0 % 2 ^ n
 unfolding sumOf has
 sum-has a zero = sym (mod-one (a .0))
 sum-has a (suc k) =
-    ap₂ (λ (x d : ℕ). x + d * 2 ^ k) (sum-has a k) (sym (digit-bit (a .0 / 2 ^ k % 2) (mod-lt (a .0 / 2 ^ k) (omega arith))))
-    ∙ add-comm (a .0 % 2 ^ k) (a .0 / 2 ^ k % 2 * 2 ^ k) ∙ sym (mod-pow-add (a .0) 1 k) ∙ ap (λ (j : ℕ). a .0 % 2 ^ j) (one-add k)
+    ap₂ (λ (x d : ℕ). x + d * 2 ^ k) (sum-has a k)
+    (sym (digit-bit (a .0 / 2 ^ k % 2) (mod-lt (a .0 / 2 ^ k) (omega arith))))
+    ∙ add-comm (a .0 % 2 ^ k) (a .0 / 2 ^ k % 2 * 2 ^ k) ∙ sym (mod-pow-add (a .0) 1 k)
+    ∙ ap (λ (j : ℕ). a .0 % 2 ^ j) (one-add k)
 
 -- ---- membership decides a set
 
@@ -112,7 +121,8 @@ has-beyond a zero l h = refl
 has-beyond a (suc k) l h = rw (div-eq-of-lt (lt-of-lt-of-le l (pow-mono {i = signals} {j = k} far))) refl
   where
     far : signals ≤ k
-    far = elim (decLe signals k) [ yes g ↦ g | no n ↦ absurd (h (record { low = omega arith; high = omega (arith, n) })) ]
+    far =
+        elim (decLe signals k) [ yes g ↦ g | no n ↦ absurd (h (record { low = omega arith; high = omega (arith, n) })) ]
 
 -- ---- the members of each set
 
@@ -195,7 +205,8 @@ unfolding union
 union-comm a b = set-cong _ _ (λ s h. or-comm (has a s) (has b s))
 
 -- two sets that agree outside u are one without it
-without-same : (a b u : SigSet) → ((s : ℕ) → Signal s → (has a s && not (has u s)) ≡ (has b s && not (has u s))) → without a u ≡ without b u
+without-same : (a b u : SigSet) → ((s : ℕ) → Signal s → (has a s && not (has u s)) ≡ (has b s && not (has u s)))
+    → without a u ≡ without b u
 unfolding without
 without-same a b u = set-cong _ _
 
@@ -231,11 +242,14 @@ module _ (op : ℕ → ℕ → ℕ) (f : Bool → Bool → Bool)
   unfolding has
   op-has a b zero h = absurd (not-suc-le-zero (h .low))
   op-has a b (suc k) h =
-      ap (λ (x : ℕ). eqb (x % 2) 1) (shr (a .0) (b .0) k) ∙ ap (λ (x : ℕ). eqb x 1) (low (a .0 / 2 ^ k) (b .0 / 2 ^ k) 1)
-      ∙ ap₂ (λ (x y : ℕ). eqb (op x y) 1) (digit-bit (a .0 / 2 ^ k % 2) (mod-lt _ (omega arith))) (digit-bit (b .0 / 2 ^ k % 2) (mod-lt _ (omega arith)))
+      ap (λ (x : ℕ). eqb (x % 2) 1) (shr (a .0) (b .0) k)
+      ∙ ap (λ (x : ℕ). eqb x 1) (low (a .0 / 2 ^ k) (b .0 / 2 ^ k) 1)
+      ∙ ap₂ (λ (x y : ℕ). eqb (op x y) 1) (digit-bit (a .0 / 2 ^ k % 2) (mod-lt _ (omega arith)))
+      (digit-bit (b .0 / 2 ^ k % 2) (mod-lt _ (omega arith)))
       ∙ one (eqb (a .0 / 2 ^ k % 2) 1) (eqb (b .0 / 2 ^ k % 2) 1)
 
-  op-is : (a b : SigSet) → a .0 < 2 ^ signals → b .0 < 2 ^ signals → bits (op (a .0) (b .0)) ≡ setOf (λ s. f (has a s) (has b s))
+  op-is : (a b : SigSet) → a .0 < 2 ^ signals → b .0 < 2 ^ signals
+      → bits (op (a .0) (b .0)) ≡ setOf (λ s. f (has a s) (has b s))
   op-is a b la lb = is-set (bits (op (a .0) (b .0))) _ (fits signals (a .0) (b .0) la lb) (op-has a b)
 
 -- `a | b`
@@ -267,8 +281,10 @@ flip (suc n) zero b h l = let e = pow-suc 2 n in omega arith
 flip (suc n) (suc k) b h l =
     let e = pow-suc 2 n in
     let half : ((2 ^ suc n - 1) - b) / 2 ≡ (2 ^ n - 1) - b / 2 = omega (arith, pow-pos n) in
-    let over : (x : ℕ) → x / 2 ^ suc k ≡ x / 2 / 2 ^ k = λ x. ap (λ (j : ℕ). x / 2 ^ j) (sym (one-add k)) ∙ sym (shr-shr x 1 k) in
-    ap (λ (x : ℕ). x % 2) (over ((2 ^ suc n - 1) - b)) ∙ ap (λ (x : ℕ). x / 2 ^ k % 2) half ∙ flip n k (b / 2) (omega arith) (omega arith)
+    let over : (x : ℕ) → x / 2 ^ suc k ≡ x / 2 / 2 ^ k =
+    λ x. ap (λ (j : ℕ). x / 2 ^ j) (sym (one-add k)) ∙ sym (shr-shr x 1 k) in
+    ap (λ (x : ℕ). x % 2) (over ((2 ^ suc n - 1) - b)) ∙ ap (λ (x : ℕ). x / 2 ^ k % 2) half
+    ∙ flip n k (b / 2) (omega arith) (omega arith)
     ∙ ap (λ (x : ℕ). 1 - x % 2) (sym (over b))
 
 flip-bit : (b : Bool) → eqb (1 - cond b 1 0) 1 ≡ not b
@@ -284,10 +300,12 @@ unfolding has
 not-has b zero l h = absurd (not-suc-le-zero (h .low))
 not-has b (suc k) l h =
     ap (λ (x : ℕ). eqb x 1) (flip signals k (b .0) (h .high) l)
-    ∙ ap (λ (x : ℕ). eqb (1 - x) 1) (digit-bit (b .0 / 2 ^ k % 2) (mod-lt _ (omega arith))) ∙ flip-bit (eqb (b .0 / 2 ^ k % 2) 1)
+    ∙ ap (λ (x : ℕ). eqb (1 - x) 1) (digit-bit (b .0 / 2 ^ k % 2) (mod-lt _ (omega arith)))
+    ∙ flip-bit (eqb (b .0 / 2 ^ k % 2) 1)
 
 -- `a & !b`
-pub and-not-is : (a b : SigSet) → a .0 < 2 ^ signals → b .0 < 2 ^ signals → bits (bitAnd (a .0) ((2 ^ signals - 1) - b .0)) ≡ without a b
+pub and-not-is : (a b : SigSet) → a .0 < 2 ^ signals → b .0 < 2 ^ signals
+    → bits (bitAnd (a .0) ((2 ^ signals - 1) - b .0)) ≡ without a b
 unfolding intersect without
 and-not-is a b la lb =
     and-is a (complement b) la (omega arith) ∙ set-cong _ _ (λ s h. ap (λ (y : Bool). has a s && y) (not-has b s lb h))
@@ -303,7 +321,8 @@ has-at a (suc k) h = let e : k ≡ suc k - 1 = omega arith in ap (λ (j : ℕ). 
 sum-none : (p : ℕ → Bool) (n : ℕ) → ((s : ℕ) → 1 ≤ s → s ≤ n → p s ≡ false) → sumOf p n ≡ 0
 sum-none p n h = sum-cong p (has empty) n (λ s l g. h s l g ∙ sym (has-empty s)) ∙ sum-has empty n ∙ zero-mod (2 ^ n)
 
-sum-one : (p : ℕ → Bool) (k n : ℕ) → k < n → p (suc k) ≡ true → ((s : ℕ) → (s ≡ suc k → ⊥) → p s ≡ false) → sumOf p n ≡ 2 ^ k
+sum-one : (p : ℕ → Bool) (k n : ℕ) → k < n → p (suc k) ≡ true → ((s : ℕ) → (s ≡ suc k → ⊥) → p s ≡ false)
+    → sumOf p n ≡ 2 ^ k
 unfolding sumOf
 sum-one p k zero h y o = absurd (not-suc-le-zero h)
 sum-one p k (suc m) h y o = ⊎-elim last (λ g. before g (sum-one p k m g y o)) (eq-or-lt-of-le (le-of-suc-le-suc h))
@@ -326,7 +345,8 @@ pub of-is : (x : ℕ) → Signal x → ofSignal x ≡ bits (2 ^ (x - 1))
 unfolding ofSignal setOf
 of-is x h =
     let e : suc (x - 1) ≡ x = omega arith in
-    ap bits (sum-one (λ t. eqb t x) (x - 1) signals (omega arith) (eq-eqb (suc (x - 1)) x e) (λ s n. ne-eqb s x (λ g. n (g ∙ sym e))))
+    ap bits (sum-one (λ t. eqb t x) (x - 1) signals (omega arith) (eq-eqb (suc (x - 1)) x e)
+    (λ s n. ne-eqb s x (λ g. n (g ∙ sym e))))
 
 pub unmaskable-is : unmaskable ≡ bits 262400
 unfolding unmaskable setOf sumOf
@@ -369,7 +389,11 @@ answer p (suc k) = ⊎-elim (λ z. here z (p (suc k)) refl) (λ f. inr (before f
         (subst (First p (suc k)) (sym (value (z .0) true y))
         (record { from = omega arith; to = omega arith; passes = y; below = λ s l g. z .1 s l (omega arith) }))
     here z false y =
-        inl (value (z .0) false y, λ s l g. ⊎-elim (λ (q : s ≡ suc k). ap p q ∙ y) (λ (q : s < suc k). z .1 s l (omega arith)) (eq-or-lt-of-le g))
+        inl (
+          value (z .0) false y,
+          λ s l g. ⊎-elim (λ (q : s ≡ suc k). ap p q ∙ y) (λ (q : s < suc k). z .1 s l (omega arith))
+              (eq-or-lt-of-le g),
+        )
 
 -- two firsts are one
 first-one : (p : ℕ → Bool) (n r q : ℕ) → First p n r → First p n q → r ≡ q
@@ -397,7 +421,8 @@ unfolding lowestOf
 lowestOf-none p h =
     ⊎-elim (λ z. z .0) (λ f. absurd (true≢false (sym (f .passes) ∙ h _ (signal p _ f)))) (answer p signals)
 
-pub lowestOf-is : (p : ℕ → Bool) (r : ℕ) → Signal r → p r ≡ true → ((s : ℕ) → 1 ≤ s → s < r → p s ≡ false) → lowestOf p ≡ r
+pub lowestOf-is : (p : ℕ → Bool) (r : ℕ) → Signal r → p r ≡ true → ((s : ℕ) → 1 ≤ s → s < r → p s ≡ false)
+    → lowestOf p ≡ r
 unfolding lowestOf
 lowestOf-is p r h y o =
     ⊎-elim
@@ -411,7 +436,8 @@ unfolding lowestOf
 lowestOf-cong p q h =
     ⊎-elim
     (λ z. lowestOf-none p (λ s g. h s g ∙ z .1 s (g .low) (g .high)) ∙ sym (z .0))
-    (λ f. lowestOf-is p _ (signal q _ f) (h _ (signal q _ f) ∙ f .passes) (λ s l g. h s (record { low = l; high = omega (arith, f .to) }) ∙ f .below s l g))
+    (λ f. lowestOf-is p _ (signal q _ f) (h _ (signal q _ f) ∙ f .passes)
+    (λ s l g. h s (record { low = l; high = omega (arith, f .to) }) ∙ f .below s l g))
     (answer q signals)
 
 pub lowest-zero : (a : SigSet) → lowest a ≡ 0 → (s : ℕ) → Signal s → has a s ≡ false
@@ -427,6 +453,7 @@ pub lowest-none : (a : SigSet) → ((s : ℕ) → Signal s → has a s ≡ false
 unfolding lowest
 lowest-none a = lowestOf-none (has a)
 
-pub lowest-is : (a : SigSet) (r : ℕ) → Signal r → has a r ≡ true → ((s : ℕ) → 1 ≤ s → s < r → has a s ≡ false) → lowest a ≡ r
+pub lowest-is : (a : SigSet) (r : ℕ) → Signal r → has a r ≡ true → ((s : ℕ) → 1 ≤ s → s < r → has a s ≡ false)
+    → lowest a ≡ r
 unfolding lowest
 lowest-is a = lowestOf-is (has a)

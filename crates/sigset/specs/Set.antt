@@ -1,4 +1,5 @@
--- Signal sets, by membership. Document 01, "Signals and sets": a set is 64 bits; signal s is bit s-1. Every definition computes on numerals.
+-- Signal sets, by membership. Document 01, "Signals and sets": a set is 64 bits; signal s is bit s-1.
+-- Every definition computes on numerals.
 use mathlib.Core.Bool.{Bool, true, false, not, _&&_, _||_, cond}
 use Prim.Native.Nat.{ℕ, zero, suc, _+_, _*_, _/_, _%_, _^_, _≤_}
 use lib.Dec.{eqb}

@@ -25,7 +25,8 @@ module _ {A : Type 0} (queue : A → Queue) where
 
   module _ (xs : List (Place A)) (ys : List ℕ) (d : Place A) (long : length ys ≡ length xs) where
     -- one turn: the marks at i are stored
-    pub marks-more : (zs : List ℕ) (i w : ℕ) → i < length xs → zs ≡ filled (seenBy queue []) i xs ys → w ≡ getD xs i d .marks .0 → w < 2 ^ signals
+    pub marks-more : (zs : List ℕ) (i w : ℕ) → i < length xs → zs ≡ filled (seenBy queue []) i xs ys
+        → w ≡ getD xs i d .marks .0 → w < 2 ^ signals
         → set zs i w ≡ filled (seenBy queue []) (i + 1) xs ys
     marks-more zs i w h e k l =
         let m : getD xs i d .marks .0 < 2 ^ signals = rw k at l in

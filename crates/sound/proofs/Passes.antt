@@ -38,10 +38,13 @@ tally-start (p ∷ ps) = ap (λ (l : List ℕ). 0 ∷ l) (tally-start ps)
 pub tally-bound : (ps : List Process) (rs : List Siginfo) (p : ℕ) → getD (tallies ps rs) p 0 ≤ length rs
 unfolding tallies
 tally-bound ps rs p =
-    getD-map-has (λ (n : ℕ). n ≤ length rs) (λ (x : Process). count (ofProcess (x .id)) rs) 0 (omega arith) (λ x. count-le-length (ofProcess (x .id)) rs) ps p
+    getD-map-has (λ (n : ℕ). n ≤ length rs) (λ (x : Process). count (ofProcess (x .id)) rs) 0 (omega arith)
+    (λ x. count-le-length (ofProcess (x .id)) rs) ps p
 
-module _ (ps : List Process) (rs : List Siginfo) (i : ℕ) (r : Siginfo) (h : i < length rs) (e : r ≡ getD rs i noSiginfo) where
-  count-next : (n : ℕ) → count (ofProcess n) (take (i + 1) rs) ≡ count (ofProcess n) (take i rs) + cond (eqb (r .process) n) 1 0
+module _ (ps : List Process) (rs : List Siginfo) (i : ℕ) (r : Siginfo) (h : i < length rs)
+    (e : r ≡ getD rs i noSiginfo) where
+  count-next : (n : ℕ)
+      → count (ofProcess n) (take (i + 1) rs) ≡ count (ofProcess n) (take i rs) + cond (eqb (r .process) n) 1 0
   unfolding count
   count-next n =
       ap (count (ofProcess n)) (upto rs i noSiginfo h)
@@ -59,7 +62,8 @@ module _ (ps : List Process) (rs : List Siginfo) (i : ℕ) (r : Siginfo) (h : i 
       let p : Process = getD ps q noProcess in
       let t : isProcess (r .process) p ≡ true = find-at (isProcess (r .process)) noProcess ps l in
       let z : not (eqb (r .process) 0) ≡ true = and-fst (not (eqb (r .process) 0)) (eqb (p .id) (r .process)) t in
-      let s : r .process ≡ p .id = sym (eqb-true (p .id) (r .process) (and-snd (not (eqb (r .process) 0)) (eqb (p .id) (r .process)) t)) in
+      let s : r .process ≡ p .id =
+      sym (eqb-true (p .id) (r .process) (and-snd (not (eqb (r .process) 0)) (eqb (p .id) (r .process)) t)) in
       let b : getD (map f ps) q 0 + 1 ≡ g p =
       ap (λ (n : ℕ). n + 1) (getD-mapped f ps q noProcess 0 l)
       ∙ sym (count-next (p .id) ∙ ap (λ (b : Bool). f p + cond b 1 0) (eq-eqb (r .process) (p .id) s)) in
@@ -83,7 +87,8 @@ parts false b c = refl
 module _ {A : Type 0} (queue : A → Queue) (d : Place A) (xs : List (Place A)) (q : ℕ) (h : q < length xs) where
   -- what is seen at a place: its marks, and the records of its queue
   seen-has : (rs : List Siginfo) (s : ℕ) → Signal s
-      → has (bits (getD (seenSets queue xs rs) q 0)) s ≡ (has (getD xs q d .marks) s || any (inQueue (queue (getD xs q d .holds)) s) rs)
+      → has (bits (getD (seenSets queue xs rs) q 0)) s
+      ≡ (has (getD xs q d .marks) s || any (inQueue (queue (getD xs q d .holds)) s) rs)
   unfolding seenSets seenBy
   seen-has rs s g =
       let m : SigSet = getD xs q d .marks in
@@ -95,7 +100,8 @@ module _ {A : Type 0} (queue : A → Queue) (d : Place A) (xs : List (Place A)) 
   -- with no record, the marks
   pub fresh-marks : (s : ℕ) → isFresh (seenSets queue xs []) q s ≡ not (standard s && has (getD xs q d .marks) s)
   unfolding isFresh any
-  fresh-marks s = ap not (and-imp (standard s) (λ t. seen-has [] s (standard-signal s t) ∙ or-false (has (getD xs q d .marks) s)))
+  fresh-marks s =
+      ap not (and-imp (standard s) (λ t. seen-has [] s (standard-signal s t) ∙ or-false (has (getD xs q d .marks) s)))
 
   -- a record r of the queue at q
   module _ (r : Siginfo) (k : sameQueue (queue (getD xs q d .holds)) (queueOf r) ≡ true) where
@@ -106,19 +112,23 @@ module _ {A : Type 0} (queue : A → Queue) (d : Place A) (xs : List (Place A)) 
     unfolding once inQueue
     once-in y =
         let c : sameQueue (queueOf y) (queueOf r) ≡ sameQueue at (queueOf y) =
-        same-comm (queueOf y) (queueOf r) ∙ ap (λ (a : Queue). sameQueue a (queueOf y)) (sym (queue-same at (queueOf r) k)) in
+        same-comm (queueOf y) (queueOf r)
+        ∙ ap (λ (a : Queue). sameQueue a (queueOf y)) (sym (queue-same at (queueOf r) k)) in
         ap not
         (and-comm (standard (r .signal)) _
-        ∙ ap (λ (b : Bool). b && standard (r .signal)) (and-comm (eqb (y .signal) (r .signal)) _ ∙ ap (λ (b : Bool). b && eqb (y .signal) (r .signal)) c))
+        ∙ ap (λ (b : Bool). b && standard (r .signal))
+        (and-comm (eqb (y .signal) (r .signal)) _ ∙ ap (λ (b : Bool). b && eqb (y .signal) (r .signal)) c))
 
-    all-once : (rs : List Siginfo) → all (against once r) rs ≡ not (standard (r .signal) && any (inQueue at (r .signal)) rs)
+    all-once : (rs : List Siginfo)
+        → all (against once r) rs ≡ not (standard (r .signal) && any (inQueue at (r .signal)) rs)
     all-once rs =
         all-same (against once r) (λ y. not (inQueue at (r .signal) y && standard (r .signal))) rs once-in
         ∙ sym (not-any (λ y. inQueue at (r .signal) y && standard (r .signal)) rs)
         ∙ ap not (any-and (inQueue at (r .signal)) (standard (r .signal)) rs ∙ and-comm _ (standard (r .signal)))
 
     -- fresh is what is not marked and not twice
-    pub fresh-is : (rs : List Siginfo) → isFresh (seenSets queue xs rs) q (r .signal) ≡ (isFresh (seenSets queue xs []) q (r .signal) && all (against once r) rs)
+    pub fresh-is : (rs : List Siginfo) → isFresh (seenSets queue xs rs) q (r .signal)
+        ≡ (isFresh (seenSets queue xs []) q (r .signal) && all (against once r) rs)
     unfolding isFresh
     fresh-is rs =
         ap not (and-imp (standard (r .signal)) (λ t. seen-has rs (r .signal) (standard-signal (r .signal) t)))
@@ -127,12 +137,14 @@ module _ {A : Type 0} (queue : A → Queue) (d : Place A) (xs : List (Place A)) 
 
     module _ (rs : List Siginfo) (i : ℕ) (l : i < length rs) (e : r ≡ getD rs i noSiginfo) where
       -- another queue has none more
-      seen-other : (x : Place A) → sameQueue (queue (x .holds)) (queueOf r) ≡ false → seenBy queue (take (i + 1) rs) x ≡ seenBy queue (take i rs) x
+      seen-other : (x : Place A) → sameQueue (queue (x .holds)) (queueOf r) ≡ false
+          → seenBy queue (take (i + 1) rs) x ≡ seenBy queue (take i rs) x
       unfolding seenBy signalsIn
       seen-other x n = ap (λ (a : SigSet). union (x .marks) a .0) (signals-other rs i l r e (queue (x .holds)) n)
 
       -- its own has the signal
-      seen-here : union (bits (seenBy queue (take i rs) (getD xs q d))) (ofSignal (r .signal)) .0 ≡ seenBy queue (take (i + 1) rs) (getD xs q d)
+      seen-here : union (bits (seenBy queue (take i rs) (getD xs q d))) (ofSignal (r .signal)) .0
+          ≡ seenBy queue (take (i + 1) rs) (getD xs q d)
       unfolding seenBy inQueue union
       seen-here =
           let m : SigSet = getD xs q d .marks in
@@ -141,7 +153,8 @@ module _ {A : Type 0} (queue : A → Queue) (d : Place A) (xs : List (Place A)) 
           ap (λ (a : SigSet). a .0)
           (set-cong (λ s. has (union m (setOf p)) s || has (ofSignal (r .signal)) s) (λ s. has m s || has (setOf p′) s)
           (λ s g.
-          ap₂ (λ (a b : Bool). a || b) (has-union m (setOf p) s g ∙ ap (λ (b : Bool). has m s || b) (has-set p s g)) (has-of (r .signal) s g ∙ eqb-comm s (r .signal))
+          ap₂ (λ (a b : Bool). a || b) (has-union m (setOf p) s g ∙ ap (λ (b : Bool). has m s || b) (has-set p s g))
+          (has-of (r .signal) s g ∙ eqb-comm s (r .signal))
           ∙ or-assoc (has m s) (p s) (eqb (r .signal) s)
           ∙ sym
           (ap (λ (b : Bool). has m s || b)

@@ -1,4 +1,5 @@
--- One place: the test as it is made passes exactly if the rules' clauses of the place hold and, live, it is the first with its id. Assumes nothing.
+-- One place: the test as it is made passes exactly if the rules' clauses of the place hold and, live,
+-- it is the first with its id. Assumes nothing.
 use Prim.Native.Nat.{ℕ, _-_}
 use mathlib.Core.Path.{_≡_, refl, sym, ap, ap₂, _∙_}
 use mathlib.Core.Bool.{Bool, true, false, not, _&&_, and-true, and-assoc}
@@ -19,7 +20,10 @@ use Rattle.types.specs.Values.{defaultAction}
 use Rattle.rules.specs.Types.{Process, Thread, noProcess}
 use Rattle.rules.specs.View.{View, isProcess, isThread, belongsTo, actionOf, liveProcess, theProcess, threadAction}
 use Rattle.rules.specs.Store.{Place, Store}
-use Rattle.rules.specs.Sound.{ifLive, ifFree, isLive, processId, threadId, zeroProcess, zeroThread, goodId, goodProcessId, goodThreadId, goodUser, fieldsFit, belongs, hasThread, unmasked, actionUnmasked, processUnmasked, threadUnmasked, isDefault, killStopDefault, flagsKnown, processFlagsKnown, marksNotIgnored, processNotIgnored, threadNotIgnored}
+use Rattle.rules.specs.Sound.{ifLive, ifFree, isLive, processId, threadId, zeroProcess, zeroThread, goodId}
+use Rattle.rules.specs.Sound.{goodProcessId, goodThreadId, goodUser, fieldsFit, belongs, hasThread, unmasked}
+use Rattle.rules.specs.Sound.{actionUnmasked, processUnmasked, threadUnmasked, isDefault, killStopDefault, flagsKnown}
+use Rattle.rules.specs.Sound.{processFlagsKnown, marksNotIgnored, processNotIgnored, threadNotIgnored}
 use Rattle.rules.proofs.Found.{default-is}
 use Rattle.rules.proofs.Unmaskable.{unmasked-empty}
 use Rattle.tables.specs.Tables.{actionTo, headTo, processTo, threadTo}
@@ -100,14 +104,18 @@ module _ (v : View) (x : Place Process) where
             (zero-fits (x .holds .stopped) 1 (and-fst (eqb (x .holds .stopped) 0) _ z4)))));
         have-threads = rw e;
         sets =
-            and-both (zero-unmasked (x .marks) (and-fst (eqb (x .marks .0) 0) _ z5)) (all-imp isDefault actionUnmasked default-unmasked l a);
-        defaults = and-both (all-getD isDefault l (SIGKILL - 1) defaultAction refl a) (all-getD isDefault l (SIGSTOP - 1) defaultAction refl a);
+            and-both (zero-unmasked (x .marks) (and-fst (eqb (x .marks .0) 0) _ z5))
+            (all-imp isDefault actionUnmasked default-unmasked l a);
+        defaults =
+            and-both (all-getD isDefault l (SIGKILL - 1) defaultAction refl a)
+            (all-getD isDefault l (SIGSTOP - 1) defaultAction refl a);
         flags = all-imp isDefault flagsKnown default-known l a;
         not-ignored = rw e;
       }
 
   module _ (i : ℕ) where
-    live-process-right : eqb (x .holds .id) 0 ≡ false → liveProcessOk (v .processes) (v .threads) i x ≡ true → ProcessRight v x
+    live-process-right : eqb (x .holds .id) 0 ≡ false → liveProcessOk (v .processes) (v .threads) i x ≡ true
+        → ProcessRight v x
     unfolding liveProcessOk headOk actionOk processUnmasked processFlagsKnown hasThread
     live-process-right e l =
         let h = and-fst (headOk x) _ l in
@@ -116,7 +124,8 @@ module _ (v : View) (x : Place Process) where
         let l2 = and-snd (eqb (find (isProcess (x .holds .id)) (v .processes)) i) _ l1 in
         let l3 = and-snd (any (belongsTo (x .holds .id)) (v .threads)) _ l2 in
         let l4 = and-snd (killStopDefault x) _ l3 in
-        let a = sym (all-and actionUnmasked flagsKnown (x .holds .actions)) ∙ and-fst (all actionOk (x .holds .actions)) _ l4 in
+        let a =
+        sym (all-and actionUnmasked flagsKnown (x .holds .actions)) ∙ and-fst (all actionOk (x .holds .actions)) _ l4 in
         record {
           free = rw e;
           ids = imp-by (isLive processId x) (λ _. and-fst (goodId (x .holds .id)) _ h);
@@ -132,14 +141,17 @@ module _ (v : View) (x : Place Process) where
     unfolding processOk
     process-right k =
         split (eqb (x .holds .id) 0)
-        (λ e. free-process-right e (and-snd (eqb (x .holds .id) 0) (zeroProcess x) (sym (zero-process x) ∙ (rw e at k))))
+        (λ e.
+        free-process-right e (and-snd (eqb (x .holds .id) 0) (zeroProcess x) (sym (zero-process x) ∙ (rw e at k))))
         (λ e. live-process-right e (rw e at k))
 
-    pub process-first : processOk (v .processes) (v .threads) i x ≡ true → isLive processId x ≡ true → find (isProcess (x .holds .id)) (v .processes) ≡ i
+    pub process-first : processOk (v .processes) (v .threads) i x ≡ true → isLive processId x ≡ true
+        → find (isProcess (x .holds .id)) (v .processes) ≡ i
     unfolding processOk liveProcessOk
     process-first k l =
         eqb-true (find (isProcess (x .holds .id)) (v .processes)) i
-        (and-fst (eqb (find (isProcess (x .holds .id)) (v .processes)) i) _ (and-snd (headOk x) _ (rw (not-true (eqb (x .holds .id) 0) l) at k)))
+        (and-fst (eqb (find (isProcess (x .holds .id)) (v .processes)) i) _
+        (and-snd (headOk x) _ (rw (not-true (eqb (x .holds .id) 0) l) at k)))
 
     pub process-ok : ProcessRight v x → (isLive processId x ≡ true → find (isProcess (x .holds .id)) (v .processes) ≡ i)
         → processOk (v .processes) (v .threads) i x ≡ true
@@ -151,12 +163,14 @@ module _ (v : View) (x : Place Process) where
         let l : isLive processId x ≡ true = ap not e in
         rw e
         (and-both
-        (and-both (imp-use (isLive processId x) _ (c .ids) l) (and-both (c .fields) (and-fst (unmasked (x .marks)) _ (c .sets))))
+        (and-both (imp-use (isLive processId x) _ (c .ids) l)
+        (and-both (c .fields) (and-fst (unmasked (x .marks)) _ (c .sets))))
         (and-both (eq-eqb _ i (f l))
         (and-both (imp-use (isLive processId x) _ (c .have-threads) l)
         (and-both (c .defaults)
         (and-both
-        (all-and actionUnmasked flagsKnown (x .holds .actions) ∙ and-both (and-snd (unmasked (x .marks)) _ (c .sets)) (c .flags))
+        (all-and actionUnmasked flagsKnown (x .holds .actions)
+        ∙ and-both (and-snd (unmasked (x .marks)) _ (c .sets)) (c .flags))
         (imp-use (isLive processId x) _ (c .not-ignored) l)))))))
 
 -- ---- a thread place
@@ -177,17 +191,23 @@ module _ (v : View) (x : Place Thread) where
         free = imp-by (not (isLive threadId x)) (λ _. z);
         ids = rw e;
         owned = rw e;
-        sets = and-both (zero-unmasked (x .holds .mask) (and-fst (eqb (x .holds .mask .0) 0) _ z1)) (zero-unmasked (x .marks) (and-snd (eqb (x .holds .mask .0) 0) _ z1));
+        sets =
+            and-both (zero-unmasked (x .holds .mask) (and-fst (eqb (x .holds .mask .0) 0) _ z1))
+            (zero-unmasked (x .marks) (and-snd (eqb (x .holds .mask .0) 0) _ z1));
         not-ignored = rw e;
       }
 
   -- the process of a thread is found by its place
-  owner-not-ignored : threadNotIgnored v x ≡ marksNotIgnored (x .marks) (actionOf (ownerOf (v .processes) (v .threads) x))
+  owner-not-ignored : threadNotIgnored v x
+      ≡ marksNotIgnored (x .marks) (actionOf (ownerOf (v .processes) (v .threads) x))
   unfolding threadAction theProcess ownerOf
-  owner-not-ignored = ap (λ (p : Process). marksNotIgnored (x .marks) (actionOf p)) (getD-find (isProcess (x .holds .process)) noProcess (v .processes))
+  owner-not-ignored =
+      ap (λ (p : Process). marksNotIgnored (x .marks) (actionOf p))
+      (getD-find (isProcess (x .holds .process)) noProcess (v .processes))
 
   module _ (i : ℕ) where
-    live-thread-right : eqb (x .holds .id) 0 ≡ false → liveThreadOk (v .processes) (v .threads) i x ≡ true → ThreadRight v x
+    live-thread-right : eqb (x .holds .id) 0 ≡ false → liveThreadOk (v .processes) (v .threads) i x ≡ true
+        → ThreadRight v x
     unfolding liveThreadOk threadUnmasked belongs liveProcess
     live-thread-right e l =
         let l1 = and-snd (any (isProcess (x .holds .process)) (v .processes)) _ l in
@@ -199,7 +219,9 @@ module _ (v : View) (x : Place Thread) where
           ids = imp-by (isLive threadId x) (λ _. and-fst (goodId (x .holds .id)) _ l1);
           owned = imp-by (isLive threadId x) (λ _. and-fst (any (isProcess (x .holds .process)) (v .processes)) _ l);
           sets = and-both (and-fst (unmasked (x .holds .mask)) _ l2) (and-fst (unmasked (x .marks)) _ l3);
-          not-ignored = imp-by (isLive threadId x) (λ _. owner-not-ignored ∙ and-snd (eqb (find (isThread (x .holds .id)) (v .threads)) i) _ l4);
+          not-ignored =
+              imp-by (isLive threadId x)
+              (λ _. owner-not-ignored ∙ and-snd (eqb (find (isThread (x .holds .id)) (v .threads)) i) _ l4);
         }
 
     pub thread-right : threadOk (v .processes) (v .threads) i x ≡ true → ThreadRight v x
@@ -209,7 +231,8 @@ module _ (v : View) (x : Place Thread) where
         (λ e. free-thread-right e (and-snd (eqb (x .holds .id) 0) (zeroThread x) (sym (zero-thread x) ∙ (rw e at k))))
         (λ e. live-thread-right e (rw e at k))
 
-    pub thread-first : threadOk (v .processes) (v .threads) i x ≡ true → isLive threadId x ≡ true → find (isThread (x .holds .id)) (v .threads) ≡ i
+    pub thread-first : threadOk (v .processes) (v .threads) i x ≡ true → isLive threadId x ≡ true
+        → find (isThread (x .holds .id)) (v .threads) ≡ i
     unfolding threadOk liveThreadOk
     thread-first k l =
         let l0 = rw (not-true (eqb (x .holds .id) 0) l) at k in

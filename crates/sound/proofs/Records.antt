@@ -1,4 +1,5 @@
--- The records: the tests as they are made are the rules' clauses of records, where the ids are distinct and free places zero. Assumes nothing.
+-- The records: the tests as they are made are the rules' clauses of records,
+-- where the ids are distinct and free places zero. Assumes nothing.
 use Prim.Native.Nat.{ℕ, _+_, _≤_, _<_}
 use mathlib.Core.Path.{_≡_, sym, ap, ap₂, _∙_, fun-ext}
 use mathlib.Core.Bool.{Bool, true, not, _&&_, _||_, and-false}
@@ -10,20 +11,26 @@ use native.Mathlib.Omega.{arith}
 use Rattle.limits.specs.Limits.{processPlaces, recordLimit}
 use Rattle.lists.specs.Lists.{all, count, pairs, pairsWhere}
 use Rattle.lists.proofs.Bools.{split, same-test, and-fst, and-imp, not-and}
-use Rattle.lists.proofs.Lists.{Pass, Fail, All-imp, All-any, all-same, all-and, none-count, leading-passes, pairsWhere-pairs}
+use Rattle.lists.proofs.Lists.{Pass, Fail, All-imp, All-any, all-same, all-and, none-count, leading-passes}
+use Rattle.lists.proofs.Lists.{pairsWhere-pairs}
 use Rattle.lists.proofs.Loops.{all-at}
 use Rattle.lists.proofs.Index.{all-each, all-below, below-all, getD-mapped}
 use Rattle.sigset.specs.Set.{has}
 use Rattle.types.specs.declared.Siginfo.{Siginfo}
 use Rattle.rules.specs.Types.{Process, Queue}
 use Rattle.rules.specs.Signals.{isSignal, standard}
-use Rattle.rules.specs.View.{isProcess, isThread, sameQueue, queueOf, threadQueue, liveProcess, liveThread, theProcess, theThread}
-use Rattle.rules.specs.Store.{Place, Store, held, freeProcess, freeThread, inUse, used, markIn, ofProcess, queuedIn, view}
-use Rattle.rules.specs.Sound.{ifLive, ifFree, processId, threadId, zeroThread, namesLive, aimedAtThread, aimedAtProcess, recordNotIgnored, isStandard, notTwice, notMarkedToo, withinLimit, limitKept}
+use Rattle.rules.specs.View.{isProcess, isThread, sameQueue, queueOf, threadQueue, liveProcess, liveThread, theProcess}
+use Rattle.rules.specs.View.{theThread}
+use Rattle.rules.specs.Store.{Place, Store, held, freeProcess, freeThread, inUse, used, markIn, ofProcess, queuedIn}
+use Rattle.rules.specs.Store.{view}
+use Rattle.rules.specs.Sound.{ifLive, ifFree, processId, threadId, zeroThread, namesLive, aimedAtThread, aimedAtProcess}
+use Rattle.rules.specs.Sound.{recordNotIgnored, isStandard, notTwice, notMarkedToo, withinLimit, limitKept}
 use Rattle.rules.proofs.Aimed.{thread-live, thread-owner, process-live, process-own}
 use Rattle.rules.proofs.Signals.{standard-is}
 use Rattle.rules.proofs.Marks.{processWith, threadWith, process-below, thread-below, process-marks, thread-marks}
-use Rattle.places.specs.Check.{tallies, seenSets, ownQueue, isFresh, once, processPlace, threadPlace, threadRecordOk, processRecordOk, threadRecordGood, processRecordGood, threadRecordsOk, processRecordsOk, withinAt, allWithin}
+use Rattle.places.specs.Check.{tallies, seenSets, ownQueue, isFresh, once, processPlace, threadPlace, threadRecordOk}
+use Rattle.places.specs.Check.{processRecordOk, threadRecordGood, processRecordGood, threadRecordsOk, processRecordsOk}
+use Rattle.places.specs.Check.{withinAt, allWithin}
 use Rattle.sound.proofs.Passes.{fresh-marks}
 
 -- ---- a standard signal is pending once
@@ -34,7 +41,8 @@ once-where x y =
     let same : Bool = sameQueue (queueOf x) (queueOf y) in
     ap not
     (split (eqb (x .signal) (y .signal))
-    (λ e. ap (λ (s : ℕ). standard s && (eqb (x .signal) (y .signal) && same)) (sym (eqb-true (x .signal) (y .signal) e)))
+    (λ e. ap (λ (s : ℕ). standard s && (eqb (x .signal) (y .signal) && same))
+    (sym (eqb-true (x .signal) (y .signal) e)))
     (λ e. rw e (and-false (standard (y .signal)) ∙ sym (and-false (standard (x .signal))))))
     ∙ not-and (standard (x .signal)) (eqb (x .signal) (y .signal) && same)
 
@@ -47,7 +55,8 @@ pairs-once rs =
 
 module _ (st : Store) (r : Siginfo) where
   -- by the marks of its place
-  marked-too : (b : Bool) → markIn st (queueOf r) (r .signal) ≡ (isSignal (r .signal) && b) → not (standard (r .signal) && b) ≡ notMarkedToo st r
+  marked-too : (b : Bool) → markIn st (queueOf r) (r .signal) ≡ (isSignal (r .signal) && b)
+      → not (standard (r .signal) && b) ≡ notMarkedToo st r
   unfolding notMarkedToo isStandard
   marked-too b m =
       ap not (and-imp (standard (r .signal)) (λ t. sym (m ∙ ap (λ (a : Bool). a && b) (standard-is (r .signal) t))))
@@ -57,27 +66,34 @@ module _ (st : Store) (r : Siginfo) where
       → isFresh (seenSets threadQueue (st .threads) []) (threadPlace (st .threads) r) (r .signal) ≡ notMarkedToo st r
   unfolding threadPlace
   thread-unmarked e c =
-      fresh-marks threadQueue freeThread (st .threads) (threadPlace (st .threads) r) (thread-below st (r .thread) (thread-live st r e)) (r .signal)
+      fresh-marks threadQueue freeThread (st .threads) (threadPlace (st .threads) r)
+      (thread-below st (r .thread) (thread-live st r e)) (r .signal)
       ∙ marked-too (has (threadWith st (r .thread) .marks) (r .signal))
       (thread-marks st (queueOf r) (thread-live st r e) (r .signal) (thread-owner st r e) c)
 
-  pub process-unmarked : aimedAtProcess (view st) r ≡ true → count (isProcess (r .process)) (map held (st .processes)) ≤ 1
+  pub process-unmarked : aimedAtProcess (view st) r ≡ true
+      → count (isProcess (r .process)) (map held (st .processes)) ≤ 1
       → all (ifFree threadId zeroThread) (st .threads) ≡ true
       → isFresh (seenSets ownQueue (st .processes) []) (processPlace (st .processes) r) (r .signal) ≡ notMarkedToo st r
   unfolding processPlace
   process-unmarked e c z =
-      fresh-marks ownQueue freeProcess (st .processes) (processPlace (st .processes) r) (process-below st (r .process) (process-live st r e)) (r .signal)
+      fresh-marks ownQueue freeProcess (st .processes) (processPlace (st .processes) r)
+      (process-below st (r .process) (process-live st r e)) (r .signal)
       ∙ marked-too (has (processWith st (r .process) .marks) (r .signal))
-      (ap (λ (q : Queue). markIn st q (r .signal)) (process-own st r e) ∙ process-marks st (r .process) (process-live st r e) (r .signal) c z)
+      (ap (λ (q : Queue). markIn st q (r .signal)) (process-own st r e)
+      ∙ process-marks st (r .process) (process-live st r e) (r .signal) c z)
 
 -- ---- the records of a buffer
 
 -- what the clauses say of the records of a buffer, by the test of where they are aimed
 abbrev pub clausesOf : Store → (Siginfo → Bool) → List Siginfo → Bool
-clausesOf st aimed rs = ((all aimed rs && all (recordNotIgnored (view st)) rs) && all (notMarkedToo st) rs) && pairsWhere isStandard notTwice rs
+clausesOf st aimed rs =
+    ((all aimed rs && all (recordNotIgnored (view st)) rs) && all (notMarkedToo st) rs)
+    && pairsWhere isStandard notTwice rs
 
 module _ (st : Store) where
-  regroup : (aimed good : Siginfo → Bool) (rs : List Siginfo) → ((r : Siginfo) → good r ≡ ((aimed r && recordNotIgnored (view st) r) && notMarkedToo st r))
+  regroup : (aimed good : Siginfo → Bool) (rs : List Siginfo)
+      → ((r : Siginfo) → good r ≡ ((aimed r && recordNotIgnored (view st) r) && notMarkedToo st r))
       → (all good rs && pairs once rs) ≡ clausesOf st aimed rs
   regroup aimed good rs h =
       ap₂ (λ (a b : Bool). a && b)
@@ -88,22 +104,26 @@ module _ (st : Store) where
 
   pub thread-records : (rs : List Siginfo) → ((n : ℕ) → count (isThread n) (map held (st .threads)) ≤ 1)
       → threadRecordsOk (st .processes) (st .threads) rs ≡ clausesOf st (aimedAtThread (view st)) rs
-  unfolding threadRecordsOk threadRecordGood threadRecordOk aimedAtThread namesLive recordNotIgnored liveProcess liveThread theProcess theThread view
+  unfolding threadRecordsOk threadRecordGood threadRecordOk aimedAtThread namesLive recordNotIgnored liveProcess
+      liveThread theProcess theThread view
   thread-records rs one =
       regroup (aimedAtThread (view st)) (threadRecordGood (st .processes) (st .threads)) rs
       (λ r.
       and-imp (aimedAtThread (view st) r && recordNotIgnored (view st) r)
-      (λ e. thread-unmarked st r (and-fst (aimedAtThread (view st) r) (recordNotIgnored (view st) r) e) (one (r .thread))))
+      (λ e. thread-unmarked st r (and-fst (aimedAtThread (view st) r) (recordNotIgnored (view st) r) e)
+      (one (r .thread))))
 
   pub process-records : (rs : List Siginfo) → ((n : ℕ) → count (isProcess n) (map held (st .processes)) ≤ 1)
       → all (ifFree threadId zeroThread) (st .threads) ≡ true
       → processRecordsOk (st .processes) rs ≡ clausesOf st (aimedAtProcess (view st)) rs
-  unfolding processRecordsOk processRecordGood processRecordOk aimedAtProcess namesLive recordNotIgnored liveProcess theProcess view
+  unfolding processRecordsOk processRecordGood processRecordOk aimedAtProcess namesLive recordNotIgnored liveProcess
+      theProcess view
   process-records rs one z =
       regroup (aimedAtProcess (view st)) (processRecordGood (st .processes)) rs
       (λ r.
       and-imp (aimedAtProcess (view st) r && recordNotIgnored (view st) r)
-      (λ e. process-unmarked st r (and-fst (aimedAtProcess (view st) r) (recordNotIgnored (view st) r) e) (one (r .process)) z))
+      (λ e. process-unmarked st r (and-fst (aimedAtProcess (view st) r) (recordNotIgnored (view st) r) e)
+      (one (r .process)) z))
 
 -- ---- the counts
 
@@ -112,7 +132,9 @@ unnamed : (l : List Siginfo) → count (ofProcess 0) (used l) ≡ 0
 unfolding used inUse
 unnamed l =
     none-count (ofProcess 0) (used l)
-    (All-any (ofProcess 0) (used l) (All-imp (Pass inUse) (Fail (ofProcess 0)) (λ r e. not-true (eqb (r .process) 0) e) (used l) (leading-passes inUse l)))
+    (All-any (ofProcess 0) (used l)
+    (All-imp (Pass inUse) (Fail (ofProcess 0)) (λ r e. not-true (eqb (r .process) 0) e) (used l)
+    (leading-passes inUse l)))
 
 tally-at : (xs : List (Place Process)) (rs : List Siginfo) (i : ℕ) → i < length xs
     → getD (tallies (map held xs) rs) i 0 ≡ count (ofProcess (getD xs i freeProcess .holds .id)) rs
@@ -141,10 +163,12 @@ module _ (st : Store) where
   abbrev processTally : List ℕ
   processTally = tallies (map held (st .processes)) (used (st .processBuffer))
 
-  within-at : (i : ℕ) → i < length (st .processes) → withinAt threadTally processTally i ≡ ifLive processId (withinLimit st) (getD (st .processes) i freeProcess)
+  within-at : (i : ℕ) → i < length (st .processes)
+      → withinAt threadTally processTally i ≡ ifLive processId (withinLimit st) (getD (st .processes) i freeProcess)
   unfolding withinAt queuedIn
   within-at i h =
-      ap₂ (λ (m n : ℕ). leb (m + n) recordLimit) (tally-at (st .processes) (used (st .threadBuffer)) i h) (tally-at (st .processes) (used (st .processBuffer)) i h)
+      ap₂ (λ (m n : ℕ). leb (m + n) recordLimit) (tally-at (st .processes) (used (st .threadBuffer)) i h)
+      (tally-at (st .processes) (used (st .processBuffer)) i h)
       ∙ within-live (getD (st .processes) i freeProcess)
 
   pub within-limit : length (st .processes) ≡ processPlaces → allWithin threadTally processTally ≡ limitKept st

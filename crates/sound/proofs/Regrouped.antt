@@ -14,24 +14,31 @@ use Rattle.types.specs.declared.Siginfo.{Siginfo}
 use Rattle.rules.specs.Types.{Process, Thread}
 use Rattle.rules.specs.View.{isProcess, isThread}
 use Rattle.rules.specs.Store.{Place, Store, held, freeProcess, freeThread, used, view}
-use Rattle.rules.specs.Sound.{isLive, apart, ifLive, ifFree, processId, threadId, lengthsRight, zeroProcess, zeroThread, goodProcessId, goodThreadId, fieldsFit, belongs, hasThread, processUnmasked, threadUnmasked, killStopDefault, processFlagsKnown, restZero, aimedAtThread, aimedAtProcess, limitKept, isStandard, notTwice, notMarkedToo, recordNotIgnored, processNotIgnored, threadNotIgnored, sound}
+use Rattle.rules.specs.Sound.{isLive, apart, ifLive, ifFree, processId, threadId, lengthsRight, zeroProcess, zeroThread}
+use Rattle.rules.specs.Sound.{goodProcessId, goodThreadId, fieldsFit, belongs, hasThread, processUnmasked}
+use Rattle.rules.specs.Sound.{threadUnmasked, killStopDefault, processFlagsKnown, restZero, aimedAtThread}
+use Rattle.rules.specs.Sound.{aimedAtProcess, limitKept, isStandard, notTwice, notMarkedToo, recordNotIgnored}
+use Rattle.rules.specs.Sound.{processNotIgnored, threadNotIgnored, sound}
 use Rattle.rules.proofs.Ids.{one-held, distinct-held, held-distinct}
 use Rattle.rules.proofs.ClausesByTable.{Lengths, lengths-of, Parts, parts, sound-of}
 use Rattle.places.specs.Check.{processOk, threadOk, processOkAt, threadOkAt, placesOk, recordsOk, checked}
-use Rattle.sound.proofs.Places.{placesStore, ProcessRight, ThreadRight, process-right, process-first, process-ok, thread-right, thread-first, thread-ok}
+use Rattle.sound.proofs.Places.{placesStore, ProcessRight, ThreadRight, process-right, process-first, process-ok}
+use Rattle.sound.proofs.Places.{thread-right, thread-first, thread-ok}
 use Rattle.sound.proofs.Records.{clausesOf, thread-records, process-records, within-limit}
 
 -- ---- all places
 
 module _ (st : Store) (lx : length (st .processes) ≡ processPlaces) (ly : length (st .threads) ≡ threadPlaces) where
   module _ (k : placesOk (st .processes) (st .threads) ≡ true) where
-    process-at : (i : ℕ) → i < length (st .processes) → processOk (view st .processes) (view st .threads) i (getD (st .processes) i freeProcess) ≡ true
+    process-at : (i : ℕ) → i < length (st .processes)
+        → processOk (view st .processes) (view st .threads) i (getD (st .processes) i freeProcess) ≡ true
     unfolding placesOk processOkAt view
     process-at i h =
         below-all (processOkAt (st .processes) (st .threads)) processPlaces
         (and-fst (all (processOkAt (st .processes) (st .threads)) (range 0 processPlaces)) _ k) i (omega arith)
 
-    thread-at : (i : ℕ) → i < length (st .threads) → threadOk (view st .processes) (view st .threads) i (getD (st .threads) i freeThread) ≡ true
+    thread-at : (i : ℕ) → i < length (st .threads)
+        → threadOk (view st .processes) (view st .threads) i (getD (st .threads) i freeThread) ≡ true
     unfolding placesOk threadOkAt view
     thread-at i h =
         below-all (threadOkAt (st .processes) (st .threads)) threadPlaces
@@ -46,16 +53,19 @@ module _ (st : Store) (lx : length (st .processes) ≡ processPlaces) (ly : leng
     processes-apart : pairsWhere (isLive processId) (apart processId) (st .processes) ≡ true
     unfolding isProcess view
     processes-apart =
-        held-distinct processId (st .processes) freeProcess (λ i h l. process-first (view st) (getD (st .processes) i freeProcess) i (process-at i h) l)
+        held-distinct processId (st .processes) freeProcess
+        (λ i h l. process-first (view st) (getD (st .processes) i freeProcess) i (process-at i h) l)
 
     threads-apart : pairsWhere (isLive threadId) (apart threadId) (st .threads) ≡ true
     unfolding isThread view
     threads-apart =
-        held-distinct threadId (st .threads) freeThread (λ i h l. thread-first (view st) (getD (st .threads) i freeThread) i (thread-at i h) l)
+        held-distinct threadId (st .threads) freeThread
+        (λ i h l. thread-first (view st) (getD (st .threads) i freeThread) i (thread-at i h) l)
 
   places-ok : ((i : ℕ) → i < length (st .processes) → ProcessRight (view st) (getD (st .processes) i freeProcess))
       → ((i : ℕ) → i < length (st .threads) → ThreadRight (view st) (getD (st .threads) i freeThread))
-      → pairsWhere (isLive processId) (apart processId) (st .processes) ≡ true → pairsWhere (isLive threadId) (apart threadId) (st .threads) ≡ true
+      → pairsWhere (isLive processId) (apart processId) (st .processes) ≡ true
+      → pairsWhere (isLive threadId) (apart threadId) (st .threads) ≡ true
       → placesOk (st .processes) (st .threads) ≡ true
   unfolding placesOk processOkAt threadOkAt isProcess isThread view
   places-ok p t pa ta =
@@ -72,7 +82,8 @@ module _ (st : Store) (lx : length (st .processes) ≡ processPlaces) (ly : leng
       (distinct-held threadId (st .threads) freeThread ta i l)))
 
 -- an id is met once in each table
-module _ (xs : List (Place Process)) (ys : List (Place Thread)) (k : placesOk xs ys ≡ true) (lx : length xs ≡ processPlaces) (ly : length ys ≡ threadPlaces) where
+module _ (xs : List (Place Process)) (ys : List (Place Thread)) (k : placesOk xs ys ≡ true)
+    (lx : length xs ≡ processPlaces) (ly : length ys ≡ threadPlaces) where
   pub places-one-process : (n : ℕ) → count (isProcess n) (map held xs) ≤ 1
   unfolding isProcess
   places-one-process = one-held processId xs (processes-apart (placesStore xs ys) lx ly k)
@@ -104,10 +115,12 @@ module _ (st : Store) (aimed : Siginfo → Bool) (rs : List Siginfo) where
 -- ---- the whole test
 
 module _ (st : Store) (l : Lengths st) where
-  records-clauses : pairsWhere (isLive processId) (apart processId) (st .processes) ≡ true → pairsWhere (isLive threadId) (apart threadId) (st .threads) ≡ true
+  records-clauses : pairsWhere (isLive processId) (apart processId) (st .processes) ≡ true
+      → pairsWhere (isLive threadId) (apart threadId) (st .threads) ≡ true
       → all (ifFree threadId zeroThread) (st .threads) ≡ true
       → recordsOk (st .processes) (st .threads) (used (st .threadBuffer)) (used (st .processBuffer))
-      ≡ (clausesOf st (aimedAtThread (view st)) (used (st .threadBuffer)) && (clausesOf st (aimedAtProcess (view st)) (used (st .processBuffer)) && limitKept st))
+      ≡ (clausesOf st (aimedAtThread (view st)) (used (st .threadBuffer))
+      && (clausesOf st (aimedAtProcess (view st)) (used (st .processBuffer)) && limitKept st))
   unfolding recordsOk isProcess isThread
   records-clauses p t z =
       ap₂ (λ (a b : Bool). a && b)
@@ -129,26 +142,34 @@ module _ (st : Store) (l : Lengths st) where
       let z = all-each (ifFree threadId zeroThread) freeThread (st .threads) (λ i h. t i h .free) in
       let r = sym (records-clauses pa ta z) ∙ and-snd (restZero (st .processBuffer)) _ e2 in
       let r1 = and-snd (clausesOf st (aimedAtThread (view st)) (used (st .threadBuffer))) _ r in
-      let a = buffer-right st (aimedAtThread (view st)) (used (st .threadBuffer)) (and-fst (clausesOf st (aimedAtThread (view st)) (used (st .threadBuffer))) _ r) in
-      let b = buffer-right st (aimedAtProcess (view st)) (used (st .processBuffer)) (and-fst (clausesOf st (aimedAtProcess (view st)) (used (st .processBuffer))) _ r1) in
+      let a =
+      buffer-right st (aimedAtThread (view st)) (used (st .threadBuffer))
+      (and-fst (clausesOf st (aimedAtThread (view st)) (used (st .threadBuffer))) _ r) in
+      let b =
+      buffer-right st (aimedAtProcess (view st)) (used (st .processBuffer))
+      (and-fst (clausesOf st (aimedAtProcess (view st)) (used (st .processBuffer))) _ r1) in
       record {
         lengths = l;
         processFree = all-each (ifFree processId zeroProcess) freeProcess (st .processes) (λ i h. p i h .free);
         processIds = all-each (ifLive processId goodProcessId) freeProcess (st .processes) (λ i h. p i h .ids);
         processApart = pa;
         fields = all-each fieldsFit freeProcess (st .processes) (λ i h. p i h .fields);
-        have-threads = all-each (ifLive processId (hasThread (view st))) freeProcess (st .processes) (λ i h. p i h .have-threads);
+        have-threads =
+            all-each (ifLive processId (hasThread (view st))) freeProcess (st .processes) (λ i h. p i h .have-threads);
         processSets = all-each processUnmasked freeProcess (st .processes) (λ i h. p i h .sets);
         defaults = all-each killStopDefault freeProcess (st .processes) (λ i h. p i h .defaults);
         flags = all-each processFlagsKnown freeProcess (st .processes) (λ i h. p i h .flags);
         limit = and-snd (clausesOf st (aimedAtProcess (view st)) (used (st .processBuffer))) _ r1;
-        processMarksNotIgnored = all-each (ifLive processId processNotIgnored) freeProcess (st .processes) (λ i h. p i h .not-ignored);
+        processMarksNotIgnored =
+            all-each (ifLive processId processNotIgnored) freeProcess (st .processes) (λ i h. p i h .not-ignored);
         threadFree = z;
         threadIds = all-each (ifLive threadId goodThreadId) freeThread (st .threads) (λ i h. t i h .ids);
         threadApart = ta;
         owned = all-each (ifLive threadId (belongs (view st))) freeThread (st .threads) (λ i h. t i h .owned);
         threadSets = all-each threadUnmasked freeThread (st .threads) (λ i h. t i h .sets);
-        threadMarksNotIgnored = all-each (ifLive threadId (threadNotIgnored (view st))) freeThread (st .threads) (λ i h. t i h .not-ignored);
+        threadMarksNotIgnored =
+            all-each (ifLive threadId (threadNotIgnored (view st))) freeThread (st .threads)
+            (λ i h. t i h .not-ignored);
         threadRest = and-fst (restZero (st .threadBuffer)) _ e1;
         threadAimed = a .aim;
         threadOnce = a .once;
@@ -171,11 +192,13 @@ module _ (st : Store) (l : Lengths st) where
         free = all-at (ifFree processId zeroProcess) freeProcess (st .processes) i h (c .processFree);
         ids = all-at (ifLive processId goodProcessId) freeProcess (st .processes) i h (c .processIds);
         fields = all-at fieldsFit freeProcess (st .processes) i h (c .fields);
-        have-threads = all-at (ifLive processId (hasThread (view st))) freeProcess (st .processes) i h (c .have-threads);
+        have-threads =
+            all-at (ifLive processId (hasThread (view st))) freeProcess (st .processes) i h (c .have-threads);
         sets = all-at processUnmasked freeProcess (st .processes) i h (c .processSets);
         defaults = all-at killStopDefault freeProcess (st .processes) i h (c .defaults);
         flags = all-at processFlagsKnown freeProcess (st .processes) i h (c .flags);
-        not-ignored = all-at (ifLive processId processNotIgnored) freeProcess (st .processes) i h (c .processMarksNotIgnored);
+        not-ignored =
+            all-at (ifLive processId processNotIgnored) freeProcess (st .processes) i h (c .processMarksNotIgnored);
       })
       (λ i h.
       record {
@@ -183,15 +206,21 @@ module _ (st : Store) (l : Lengths st) where
         ids = all-at (ifLive threadId goodThreadId) freeThread (st .threads) i h (c .threadIds);
         owned = all-at (ifLive threadId (belongs (view st))) freeThread (st .threads) i h (c .owned);
         sets = all-at threadUnmasked freeThread (st .threads) i h (c .threadSets);
-        not-ignored = all-at (ifLive threadId (threadNotIgnored (view st))) freeThread (st .threads) i h (c .threadMarksNotIgnored);
+        not-ignored =
+            all-at (ifLive threadId (threadNotIgnored (view st))) freeThread (st .threads) i h
+            (c .threadMarksNotIgnored);
       })
       (c .processApart) (c .threadApart))
       (and-both (c .threadRest)
       (and-both (c .processRest)
       (records-clauses (c .processApart) (c .threadApart) (c .threadFree)
-      ∙ and-both (and-both (and-both (and-both (c .threadAimed) (c .threadRecordsNotIgnored)) (c .threadUnmarked)) (c .threadOnce))
-      (and-both (and-both (and-both (and-both (c .processAimed) (c .processRecordsNotIgnored)) (c .processUnmarked)) (c .processOnce)) (c .limit)))))
+      ∙ and-both (and-both (and-both (and-both (c .threadAimed) (c .threadRecordsNotIgnored)) (c .threadUnmarked))
+      (c .threadOnce))
+      (and-both (and-both (and-both (and-both (c .processAimed) (c .processRecordsNotIgnored)) (c .processUnmarked))
+      (c .processOnce))
+      (c .limit)))))
 
 pub regrouped : (st : Store) → lengthsRight st ≡ true → checked st ≡ sound st
 regrouped st n =
-    same-test (checked st) (sound st) (λ e. sound-of st (checked-parts st (lengths-of st n) e)) (λ e. parts-checked st (lengths-of st n) (parts st e))
+    same-test (checked st) (sound st) (λ e. sound-of st (checked-parts st (lengths-of st n) e))
+    (λ e. parts-checked st (lengths-of st n) (parts st e))

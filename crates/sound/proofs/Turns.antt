@@ -6,16 +6,20 @@ use mathlib.Core.List.{List, [], map}
 use lib.ListN.{length, getD, take}
 use Rattle.lists.specs.Lists.{all, count, pairs}
 use Rattle.lists.proofs.Bools.{split, and-fst, and-snd, and-both, and-left, and-right, and-cases}
-use Rattle.lists.proofs.Loops.{find-any, against, all-none, all-more, all-fails, all-done, pairs-none, pairs-more, pairs-fails, pairs-done}
+use Rattle.lists.proofs.Loops.{find-any, against, all-none, all-more, all-fails, all-done, pairs-none, pairs-more}
+use Rattle.lists.proofs.Loops.{pairs-fails, pairs-done}
 use Rattle.types.specs.declared.Siginfo.{Siginfo}
 use Rattle.types.specs.Values.{noSiginfo}
 use Rattle.rules.specs.Types.{Process, Thread}
 use Rattle.rules.specs.View.{isProcess, isThread, threadQueue, liveProcess}
 use Rattle.rules.specs.Store.{Place, held, freeProcess, freeThread, view}
 use Rattle.rules.specs.Sound.{aimedAtThread, aimedAtProcess}
-use Rattle.rules.proofs.Aimed.{thread-live, thread-process-live, thread-queue, thread-queue-one, process-live, process-queue, process-queue-one}
+use Rattle.rules.proofs.Aimed.{thread-live, thread-process-live, thread-queue, thread-queue-one, process-live}
+use Rattle.rules.proofs.Aimed.{process-queue, process-queue-one}
 use Rattle.rules.proofs.Marks.{process-below, thread-below}
-use Rattle.places.specs.Check.{placesView, tallies, bumped, seenSets, ownQueue, isFresh, noted, once, processPlace, threadPlace, threadRecordOk, processRecordOk, threadRecordGood, processRecordGood, threadRecordsOk, processRecordsOk}
+use Rattle.places.specs.Check.{placesView, tallies, bumped, seenSets, ownQueue, isFresh, noted, once, processPlace}
+use Rattle.places.specs.Check.{threadPlace, threadRecordOk, processRecordOk, threadRecordGood, processRecordGood}
+use Rattle.places.specs.Check.{threadRecordsOk, processRecordsOk}
 use Rattle.sound.proofs.Places.{placesStore}
 use Rattle.sound.proofs.Passes.{fresh-is, seen-step, tally-step}
 
@@ -67,7 +71,8 @@ module _ (xs : List (Place Process)) (ys : List (Place Thread)) where
   unfolding threadRecordsOk threadRecordGood
   thread-none rs = passed-none (threadRecordOk xs ys) thread-unmarked rs
 
-  pub thread-done : (rs : List Siginfo) (i : ℕ) → length rs ≤ i → threadRecordsOk xs ys (take i rs) ≡ true → threadRecordsOk xs ys rs ≡ true
+  pub thread-done : (rs : List Siginfo) (i : ℕ) → length rs ≤ i → threadRecordsOk xs ys (take i rs) ≡ true
+      → threadRecordsOk xs ys rs ≡ true
   unfolding threadRecordsOk threadRecordGood
   thread-done rs i h k = passed-done (threadRecordOk xs ys) thread-unmarked rs i h k
 
@@ -81,24 +86,32 @@ module _ (xs : List (Place Process)) (ys : List (Place Thread)) where
       unfolding threadRecordOk
       aimed-thread = and-fst (aimedAtThread (placesView xs ys) r) _ k
 
-      pub thread-fresh : isFresh (seenSets threadQueue ys (take i rs)) (threadPlace ys r) (r .signal) ≡ (thread-unmarked r && all (against once r) (take i rs))
+      pub thread-fresh : isFresh (seenSets threadQueue ys (take i rs)) (threadPlace ys r) (r .signal)
+          ≡ (thread-unmarked r && all (against once r) (take i rs))
       unfolding threadPlace
       thread-fresh =
-          fresh-is threadQueue freeThread ys (threadPlace ys r) (thread-below (placesStore xs ys) (r .thread) (thread-live (placesStore xs ys) r aimed-thread)) r (thread-queue (placesStore xs ys) r aimed-thread) (take i rs)
+          fresh-is threadQueue freeThread ys (threadPlace ys r)
+          (thread-below (placesStore xs ys) (r .thread) (thread-live (placesStore xs ys) r aimed-thread)) r
+          (thread-queue (placesStore xs ys) r aimed-thread) (take i rs)
 
       pub thread-step : count (isThread (r .thread)) (map held ys) ≤ 1
-          → noted (seenSets threadQueue ys (take i rs)) (threadPlace ys r) (r .signal) ≡ seenSets threadQueue ys (take (i + 1) rs)
+          → noted (seenSets threadQueue ys (take i rs)) (threadPlace ys r) (r .signal)
+          ≡ seenSets threadQueue ys (take (i + 1) rs)
       unfolding threadPlace
       thread-step c =
-          seen-step threadQueue freeThread ys (threadPlace ys r) (thread-below (placesStore xs ys) (r .thread) (thread-live (placesStore xs ys) r aimed-thread)) r (thread-queue (placesStore xs ys) r aimed-thread) rs i l e
+          seen-step threadQueue freeThread ys (threadPlace ys r)
+          (thread-below (placesStore xs ys) (r .thread) (thread-live (placesStore xs ys) r aimed-thread)) r
+          (thread-queue (placesStore xs ys) r aimed-thread) rs i l e
           (thread-queue-one (placesStore xs ys) r aimed-thread c)
 
-      pub thread-more : threadRecordsOk xs ys (take i rs) ≡ true → isFresh (seenSets threadQueue ys (take i rs)) (threadPlace ys r) (r .signal) ≡ true
+      pub thread-more : threadRecordsOk xs ys (take i rs) ≡ true
+          → isFresh (seenSets threadQueue ys (take i rs)) (threadPlace ys r) (r .signal) ≡ true
           → threadRecordsOk xs ys (take (i + 1) rs) ≡ true
       unfolding threadRecordsOk threadRecordGood
       thread-more = passed-more (threadRecordOk xs ys) thread-unmarked rs i r l e _ thread-fresh k
 
-      pub thread-stale : isFresh (seenSets threadQueue ys (take i rs)) (threadPlace ys r) (r .signal) ≡ false → threadRecordsOk xs ys rs ≡ false
+      pub thread-stale : isFresh (seenSets threadQueue ys (take i rs)) (threadPlace ys r) (r .signal) ≡ false
+          → threadRecordsOk xs ys rs ≡ false
       unfolding threadRecordsOk threadRecordGood
       thread-stale = stale-fails (threadRecordOk xs ys) thread-unmarked rs i r l e _ thread-fresh
 
@@ -106,10 +119,14 @@ module _ (xs : List (Place Process)) (ys : List (Place Thread)) where
       pub thread-tally : count (isProcess (r .process)) (map held xs) ≤ 1
           → bumped (tallies (map held xs) (take i rs)) (processPlace xs r) ≡ tallies (map held xs) (take (i + 1) rs)
       unfolding processPlace liveProcess view
-      thread-tally c = tally-step (map held xs) rs i r l e c (find-any (isProcess (r .process)) (map held xs) (thread-process-live (placesStore xs ys) r aimed-thread))
+      thread-tally c =
+          tally-step (map held xs) rs i r l e c
+          (find-any (isProcess (r .process)) (map held xs) (thread-process-live (placesStore xs ys) r aimed-thread))
 
     -- not ok, or not fresh
-    pub thread-fails : (threadRecordOk xs ys r && isFresh (seenSets threadQueue ys (take i rs)) (threadPlace ys r) (r .signal)) ≡ false → threadRecordsOk xs ys rs ≡ false
+    pub thread-fails :
+        (threadRecordOk xs ys r && isFresh (seenSets threadQueue ys (take i rs)) (threadPlace ys r) (r .signal)) ≡ false
+        → threadRecordsOk xs ys rs ≡ false
     thread-fails b = split (threadRecordOk xs ys r) (λ k. thread-stale k (rw k at b)) (λ k. thread-bad k)
 
 -- ---- the records aimed at processes
@@ -122,7 +139,8 @@ module _ (xs : List (Place Process)) where
   unfolding processRecordsOk processRecordGood
   process-none rs = passed-none (processRecordOk xs) process-unmarked rs
 
-  pub process-done : (rs : List Siginfo) (i : ℕ) → length rs ≤ i → processRecordsOk xs (take i rs) ≡ true → processRecordsOk xs rs ≡ true
+  pub process-done : (rs : List Siginfo) (i : ℕ) → length rs ≤ i → processRecordsOk xs (take i rs) ≡ true
+      → processRecordsOk xs rs ≡ true
   unfolding processRecordsOk processRecordGood
   process-done rs i h k = passed-done (processRecordOk xs) process-unmarked rs i h k
 
@@ -136,24 +154,32 @@ module _ (xs : List (Place Process)) where
       unfolding processRecordOk
       aimed-process = and-fst (aimedAtProcess (placesView xs []) r) _ k
 
-      pub process-fresh : isFresh (seenSets ownQueue xs (take i rs)) (processPlace xs r) (r .signal) ≡ (process-unmarked r && all (against once r) (take i rs))
+      pub process-fresh : isFresh (seenSets ownQueue xs (take i rs)) (processPlace xs r) (r .signal)
+          ≡ (process-unmarked r && all (against once r) (take i rs))
       unfolding processPlace
       process-fresh =
-          fresh-is ownQueue freeProcess xs (processPlace xs r) (process-below (placesStore xs []) (r .process) (process-live (placesStore xs []) r aimed-process)) r (process-queue (placesStore xs []) r aimed-process) (take i rs)
+          fresh-is ownQueue freeProcess xs (processPlace xs r)
+          (process-below (placesStore xs []) (r .process) (process-live (placesStore xs []) r aimed-process)) r
+          (process-queue (placesStore xs []) r aimed-process) (take i rs)
 
       pub process-step : count (isProcess (r .process)) (map held xs) ≤ 1
-          → noted (seenSets ownQueue xs (take i rs)) (processPlace xs r) (r .signal) ≡ seenSets ownQueue xs (take (i + 1) rs)
+          → noted (seenSets ownQueue xs (take i rs)) (processPlace xs r) (r .signal)
+          ≡ seenSets ownQueue xs (take (i + 1) rs)
       unfolding processPlace
       process-step c =
-          seen-step ownQueue freeProcess xs (processPlace xs r) (process-below (placesStore xs []) (r .process) (process-live (placesStore xs []) r aimed-process)) r (process-queue (placesStore xs []) r aimed-process) rs i l e
+          seen-step ownQueue freeProcess xs (processPlace xs r)
+          (process-below (placesStore xs []) (r .process) (process-live (placesStore xs []) r aimed-process)) r
+          (process-queue (placesStore xs []) r aimed-process) rs i l e
           (process-queue-one (placesStore xs []) r aimed-process c)
 
-      pub process-more : processRecordsOk xs (take i rs) ≡ true → isFresh (seenSets ownQueue xs (take i rs)) (processPlace xs r) (r .signal) ≡ true
+      pub process-more : processRecordsOk xs (take i rs) ≡ true
+          → isFresh (seenSets ownQueue xs (take i rs)) (processPlace xs r) (r .signal) ≡ true
           → processRecordsOk xs (take (i + 1) rs) ≡ true
       unfolding processRecordsOk processRecordGood
       process-more = passed-more (processRecordOk xs) process-unmarked rs i r l e _ process-fresh k
 
-      pub process-stale : isFresh (seenSets ownQueue xs (take i rs)) (processPlace xs r) (r .signal) ≡ false → processRecordsOk xs rs ≡ false
+      pub process-stale : isFresh (seenSets ownQueue xs (take i rs)) (processPlace xs r) (r .signal) ≡ false
+          → processRecordsOk xs rs ≡ false
       unfolding processRecordsOk processRecordGood
       process-stale = stale-fails (processRecordOk xs) process-unmarked rs i r l e _ process-fresh
 
@@ -161,8 +187,12 @@ module _ (xs : List (Place Process)) where
       pub process-tally : count (isProcess (r .process)) (map held xs) ≤ 1
           → bumped (tallies (map held xs) (take i rs)) (processPlace xs r) ≡ tallies (map held xs) (take (i + 1) rs)
       unfolding processPlace liveProcess view
-      process-tally c = tally-step (map held xs) rs i r l e c (find-any (isProcess (r .process)) (map held xs) (process-live (placesStore xs []) r aimed-process))
+      process-tally c =
+          tally-step (map held xs) rs i r l e c
+          (find-any (isProcess (r .process)) (map held xs) (process-live (placesStore xs []) r aimed-process))
 
     -- not ok, or not fresh
-    pub process-fails : (processRecordOk xs r && isFresh (seenSets ownQueue xs (take i rs)) (processPlace xs r) (r .signal)) ≡ false → processRecordsOk xs rs ≡ false
+    pub process-fails :
+        (processRecordOk xs r && isFresh (seenSets ownQueue xs (take i rs)) (processPlace xs r) (r .signal)) ≡ false
+        → processRecordsOk xs rs ≡ false
     process-fails b = split (processRecordOk xs r) (λ k. process-stale k (rw k at b)) (λ k. process-bad k)

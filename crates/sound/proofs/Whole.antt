@@ -27,22 +27,29 @@ zero-counts ws = sym (tally-start (heldProcesses ws) ∙ ap (λ n. replicate n 0
 -- ---- the records of both buffers
 
 module _ (ws vs : List ℕ) (rs qs : List Siginfo) where
-  pub threads-fail : threadRecordsOk (processesOf ws) (threadsOf vs) rs ≡ false → false ≡ recordsOk (processesOf ws) (threadsOf vs) rs qs
+  pub threads-fail : threadRecordsOk (processesOf ws) (threadsOf vs) rs ≡ false
+      → false ≡ recordsOk (processesOf ws) (threadsOf vs) rs qs
   unfolding recordsOk
   threads-fail e = sym (and-left _ e)
 
-  pub processes-fail : processRecordsOk (processesOf ws) qs ≡ false → false ≡ recordsOk (processesOf ws) (threadsOf vs) rs qs
+  pub processes-fail : processRecordsOk (processesOf ws) qs ≡ false
+      → false ≡ recordsOk (processesOf ws) (threadsOf vs) rs qs
   unfolding recordsOk
-  processes-fail e = sym (and-right (threadRecordsOk (processesOf ws) (threadsOf vs) rs) (and-left (allWithin (tallies (heldProcesses ws) rs) (tallies (heldProcesses ws) qs)) e))
+  processes-fail e =
+      sym (and-right (threadRecordsOk (processesOf ws) (threadsOf vs) rs)
+      (and-left (allWithin (tallies (heldProcesses ws) rs) (tallies (heldProcesses ws) qs)) e))
 
-  pub both-counted : (cs ds : List ℕ) → threadRecordsOk (processesOf ws) (threadsOf vs) rs ≡ true → processRecordsOk (processesOf ws) qs ≡ true
-      → cs ≡ tallies (heldProcesses ws) rs → ds ≡ tallies (heldProcesses ws) qs → allWithin cs ds ≡ recordsOk (processesOf ws) (threadsOf vs) rs qs
+  pub both-counted : (cs ds : List ℕ) → threadRecordsOk (processesOf ws) (threadsOf vs) rs ≡ true
+      → processRecordsOk (processesOf ws) qs ≡ true
+      → cs ≡ tallies (heldProcesses ws) rs → ds ≡ tallies (heldProcesses ws) qs
+      → allWithin cs ds ≡ recordsOk (processesOf ws) (threadsOf vs) rs qs
   unfolding recordsOk
   both-counted cs ds t p ec ed = ap₂ allWithin ec ed ∙ rw (t, p)
 
 -- ---- the whole
 
-shape : (a b c d p t q r : Bool) → ((a && (b && (c && d))) && (p && (t && (q && r)))) ≡ (a && (b && ((c && t) && ((d && q) && (p && r)))))
+shape : (a b c d p t q r : Bool)
+    → ((a && (b && (c && d))) && (p && (t && (q && r)))) ≡ (a && (b && ((c && t) && ((d && q) && (p && r)))))
 shape false b c d p t q r = refl
 shape true false c d p t q r = refl
 shape true true false d p t q r = refl
@@ -58,19 +65,23 @@ module _ (ps ts tb pb : List ℕ) where
       and-both (eq-eqb (length (processesOf ps)) processPlaces (length-processesOf ps))
       (and-both (all-actionsLong ps)
       (and-both (eq-eqb (length (threadsOf ts)) threadPlaces (length-threadsOf ts))
-      (and-both (eq-eqb (length (slotsOf tb)) bufferRecords (length-slotsOf tb)) (eq-eqb (length (slotsOf pb)) bufferRecords (length-slotsOf pb)))))
+      (and-both (eq-eqb (length (slotsOf tb)) bufferRecords (length-slotsOf tb))
+      (eq-eqb (length (slotsOf pb)) bufferRecords (length-slotsOf pb)))))
 
   told : soundTables (lent ps ts tb pb)
       ≡ (eqb (length ps) processTable && (eqb (length ts) threadTable
-      && (isLaid tb && (isLaid pb && (placesOk (processesOf ps) (threadsOf ts) && recordsOk (processesOf ps) (threadsOf ts) (recordsOf tb) (recordsOf pb))))))
+      && (isLaid tb && (isLaid pb && (placesOk (processesOf ps) (threadsOf ts)
+      && recordsOk (processesOf ps) (threadsOf ts) (recordsOf tb) (recordsOf pb))))))
   unfolding soundTables lengthsAre isLaid recordsOf checked decoded
   told =
       ap (λ b. lengthsAre (lent ps ts tb pb) && b) (sym (regrouped (decoded (lent ps ts tb pb)) decoded-long))
-      ∙ shape (eqb (length ps) processTable) (eqb (length ts) threadTable) (eqb (length tb) bufferBytes) (eqb (length pb) bufferBytes)
+      ∙ shape (eqb (length ps) processTable) (eqb (length ts) threadTable) (eqb (length tb) bufferBytes)
+      (eqb (length pb) bufferBytes)
       (placesOk (processesOf ps) (threadsOf ts)) (restZero (slotsOf tb)) (restZero (slotsOf pb))
       (recordsOk (processesOf ps) (threadsOf ts) (used (slotsOf tb)) (used (slotsOf pb)))
 
-  pub wrong-length : (not (eqb (length ps) processTable) || not (eqb (length ts) threadTable)) ≡ true → false ≡ soundTables (lent ps ts tb pb)
+  pub wrong-length : (not (eqb (length ps) processTable) || not (eqb (length ts) threadTable)) ≡ true
+      → false ≡ soundTables (lent ps ts tb pb)
   wrong-length e =
       sym (told ∙ or-cases (not (eqb (length ps) processTable)) (not (eqb (length ts) threadTable)) e
       (λ n. and-left _ (not-true (eqb (length ps) processTable) n))
@@ -78,10 +89,14 @@ module _ (ps ts tb pb : List ℕ) where
 
   module _ (l : (not (eqb (length ps) processTable) || not (eqb (length ts) threadTable)) ≡ false) where
     right-words : eqb (length ps) processTable ≡ true
-    right-words = not-false (eqb (length ps) processTable) (or-fst-false (not (eqb (length ps) processTable)) (not (eqb (length ts) threadTable)) l)
+    right-words =
+        not-false (eqb (length ps) processTable)
+        (or-fst-false (not (eqb (length ps) processTable)) (not (eqb (length ts) threadTable)) l)
 
     right-threads : eqb (length ts) threadTable ≡ true
-    right-threads = not-false (eqb (length ts) threadTable) (or-snd-false (not (eqb (length ps) processTable)) (not (eqb (length ts) threadTable)) l)
+    right-threads =
+        not-false (eqb (length ts) threadTable)
+        (or-snd-false (not (eqb (length ps) processTable)) (not (eqb (length ts) threadTable)) l)
 
     pub processes-long : length ps ≡ processTable
     processes-long = eqb-true (length ps) processTable right-words

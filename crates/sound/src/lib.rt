@@ -4,12 +4,15 @@ ghost use mathlib.Core.Bool.{true, _&&_, cond};
 ghost use mathlib.Core.List.{[]};
 ghost use Prim.Native.Nat.{_≤_, _<_};
 ghost use lib.ListN.{length, getD};
-ghost use Rattle.limits.specs.Limits.{processPlaces, processTable, threadPlaces, threadTable, bufferRecords, bufferBytes};
+ghost use Rattle.limits.specs.Limits.{processPlaces, processTable, threadPlaces, threadTable, bufferRecords};
+ghost use Rattle.limits.specs.Limits.{bufferBytes};
 ghost use Rattle.rules.specs.View.{threadQueue};
 ghost use Rattle.queue.specs.Queue.{recordsOf};
 ghost use Rattle.tables.specs.Tables.{processesOf, threadsOf, heldProcesses, processAt};
 ghost use Rattle.sound.specs.Lent.{soundTables, before};
-ghost use Rattle.places.specs.Check.{placesOk, tallies, seenSets, ownQueue, isFresh, isDelivered, bumped, noted, onePlace, smallCounts, processPlace, threadPlace, threadRecordOk, processRecordOk, threadRecordsOk, processRecordsOk, withinAt, allWithin, recordsOk};
+ghost use Rattle.places.specs.Check.{placesOk, tallies, seenSets, ownQueue, isFresh, isDelivered, bumped, noted};
+ghost use Rattle.places.specs.Check.{onePlace, smallCounts, processPlace, threadPlace, threadRecordOk, processRecordOk};
+ghost use Rattle.places.specs.Check.{threadRecordsOk, processRecordsOk, withinAt, allWithin, recordsOk};
 use limits::PROCESS_MARKS;
 use limits::PROCESS_PLACES;
 use limits::PROCESS_TABLE;
@@ -22,7 +25,8 @@ use limits::THREAD_TABLE;
 use sigset::SigSet;
 use types::Siginfo;
 
-// ---- one record, after those before it: `counts` has how many each process has, `seen` which signals are pending in each queue
+// ---- one record, after those before it: `counts` has how many each process has,
+//      `seen` which signals are pending in each queue
 
 fn record_not_ignored(ps: &[u64], place: usize, r: Siginfo) -> bool
     requires { ⌜ (length (now ps) ≡ processTable) × (place < processPlaces) ⌝ }
@@ -73,9 +77,14 @@ fn thread_record(ps: &[u64], ts: &[u64], r: Siginfo, counts: &mut [usize], seen:
     requires { ⌜ (length (now ps) ≡ processTable) × (length (now ts) ≡ threadTable) ⌝ }
     requires { ⌜ (length (now counts) ≡ processPlaces) × (length (now seen) ≡ threadPlaces) ⌝ }
     requires { ⌜ smallCounts (now counts) ⌝ }
-    ensures { λ h. ⌜ h ≡ (threadRecordOk (processesOf (now (ps .entry))) (threadsOf (now (ts .entry))) r && isFresh (now (seen .entry)) (threadPlace (threadsOf (now (ts .entry))) r) (r .signal)) ⌝ }
-    ensures { λ h. ⌜ now (counts .exit) ≡ cond h (bumped (now (counts .entry)) (processPlace (processesOf (now (ps .entry))) r)) (now (counts .entry)) ⌝ }
-    ensures { λ h. ⌜ now (seen .exit) ≡ cond h (noted (now (seen .entry)) (threadPlace (threadsOf (now (ts .entry))) r) (r .signal)) (now (seen .entry)) ⌝ }
+    ensures { λ h. ⌜ h ≡ (threadRecordOk (processesOf (now (ps .entry))) (threadsOf (now (ts .entry))) r
+        && isFresh (now (seen .entry)) (threadPlace (threadsOf (now (ts .entry))) r) (r .signal)) ⌝ }
+    ensures { λ h. ⌜ now (counts .exit)
+        ≡ cond h (bumped (now (counts .entry)) (processPlace (processesOf (now (ps .entry))) r))
+        (now (counts .entry)) ⌝ }
+    ensures { λ h. ⌜ now (seen .exit)
+        ≡ cond h (noted (now (seen .entry)) (threadPlace (threadsOf (now (ts .entry))) r) (r .signal))
+        (now (seen .entry)) ⌝ }
 {
     let place = tables::find_process(ps, r.process as u64);
     let queue = tables::find_thread(ts, r.thread as u64);
@@ -99,9 +108,14 @@ fn process_record(ps: &[u64], r: Siginfo, counts: &mut [usize], seen: &mut [u64]
     requires { ⌜ length (now ps) ≡ processTable ⌝ }
     requires { ⌜ (length (now counts) ≡ processPlaces) × (length (now seen) ≡ processPlaces) ⌝ }
     requires { ⌜ smallCounts (now counts) ⌝ }
-    ensures { λ h. ⌜ h ≡ (processRecordOk (processesOf (now (ps .entry))) r && isFresh (now (seen .entry)) (processPlace (processesOf (now (ps .entry))) r) (r .signal)) ⌝ }
-    ensures { λ h. ⌜ now (counts .exit) ≡ cond h (bumped (now (counts .entry)) (processPlace (processesOf (now (ps .entry))) r)) (now (counts .entry)) ⌝ }
-    ensures { λ h. ⌜ now (seen .exit) ≡ cond h (noted (now (seen .entry)) (processPlace (processesOf (now (ps .entry))) r) (r .signal)) (now (seen .entry)) ⌝ }
+    ensures { λ h. ⌜ h ≡ (processRecordOk (processesOf (now (ps .entry))) r
+        && isFresh (now (seen .entry)) (processPlace (processesOf (now (ps .entry))) r) (r .signal)) ⌝ }
+    ensures { λ h. ⌜ now (counts .exit)
+        ≡ cond h (bumped (now (counts .entry)) (processPlace (processesOf (now (ps .entry))) r))
+        (now (counts .entry)) ⌝ }
+    ensures { λ h. ⌜ now (seen .exit)
+        ≡ cond h (noted (now (seen .entry)) (processPlace (processesOf (now (ps .entry))) r) (r .signal))
+        (now (seen .entry)) ⌝ }
 {
     let place = tables::find_process(ps, r.process as u64);
     if !process_record_ok(ps, r, place) {
@@ -137,12 +151,15 @@ fn process_marks(ps: &[u64], seen: &mut [u64])
 
 // Are the records of the thread buffer as they must be? If so, they are counted.
 fn thread_records(ps: &[u64], ts: &[u64], b: &[u8], counts: &mut [usize], seen: &mut [u64]) -> bool
-    requires { ⌜ (length (now ps) ≡ processTable) × ((length (now ts) ≡ threadTable) × (length (now b) ≡ bufferBytes)) ⌝ }
+    requires { ⌜ (length (now ps) ≡ processTable)
+        × ((length (now ts) ≡ threadTable) × (length (now b) ≡ bufferBytes)) ⌝ }
     requires { ⌜ placesOk (processesOf (now ps)) (threadsOf (now ts)) ≡ true ⌝ }
     requires { ⌜ now counts ≡ tallies (heldProcesses (now ps)) [] ⌝ }
     requires { ⌜ now seen ≡ seenSets threadQueue (threadsOf (now ts)) [] ⌝ }
-    ensures { λ h. ⌜ h ≡ threadRecordsOk (processesOf (now (ps .entry))) (threadsOf (now (ts .entry))) (recordsOf (now (b .entry))) ⌝ }
-    ensures { λ h. ⌜ (h ≡ true → now (counts .exit) ≡ tallies (heldProcesses (now (ps .entry))) (recordsOf (now (b .entry)))) ⌝ }
+    ensures { λ h. ⌜ h ≡ threadRecordsOk (processesOf (now (ps .entry))) (threadsOf (now (ts .entry)))
+        (recordsOf (now (b .entry))) ⌝ }
+    ensures { λ h.
+        ⌜ (h ≡ true → now (counts .exit) ≡ tallies (heldProcesses (now (ps .entry))) (recordsOf (now (b .entry)))) ⌝ }
 {
     let n = queue::used(b);
     let mut i = 0;
@@ -161,7 +178,8 @@ fn process_records(ps: &[u64], b: &[u8], counts: &mut [usize], seen: &mut [u64])
     requires { ⌜ now counts ≡ tallies (heldProcesses (now ps)) [] ⌝ }
     requires { ⌜ now seen ≡ seenSets ownQueue (processesOf (now ps)) [] ⌝ }
     ensures { λ h. ⌜ h ≡ processRecordsOk (processesOf (now (ps .entry))) (recordsOf (now (b .entry))) ⌝ }
-    ensures { λ h. ⌜ (h ≡ true → now (counts .exit) ≡ tallies (heldProcesses (now (ps .entry))) (recordsOf (now (b .entry)))) ⌝ }
+    ensures { λ h.
+        ⌜ (h ≡ true → now (counts .exit) ≡ tallies (heldProcesses (now (ps .entry))) (recordsOf (now (b .entry)))) ⌝ }
 {
     let n = queue::used(b);
     let mut i = 0;
@@ -175,11 +193,14 @@ fn process_records(ps: &[u64], b: &[u8], counts: &mut [usize], seen: &mut [u64])
 }
 
 fn thread_buffer_ok(ps: &[u64], ts: &[u64], b: &[u8], counts: &mut [usize]) -> bool
-    requires { ⌜ (length (now ps) ≡ processTable) × ((length (now ts) ≡ threadTable) × (length (now b) ≡ bufferBytes)) ⌝ }
+    requires { ⌜ (length (now ps) ≡ processTable)
+        × ((length (now ts) ≡ threadTable) × (length (now b) ≡ bufferBytes)) ⌝ }
     requires { ⌜ placesOk (processesOf (now ps)) (threadsOf (now ts)) ≡ true ⌝ }
     requires { ⌜ now counts ≡ tallies (heldProcesses (now ps)) [] ⌝ }
-    ensures { λ h. ⌜ h ≡ threadRecordsOk (processesOf (now (ps .entry))) (threadsOf (now (ts .entry))) (recordsOf (now (b .entry))) ⌝ }
-    ensures { λ h. ⌜ (h ≡ true → now (counts .exit) ≡ tallies (heldProcesses (now (ps .entry))) (recordsOf (now (b .entry)))) ⌝ }
+    ensures { λ h. ⌜ h ≡ threadRecordsOk (processesOf (now (ps .entry))) (threadsOf (now (ts .entry)))
+        (recordsOf (now (b .entry))) ⌝ }
+    ensures { λ h.
+        ⌜ (h ≡ true → now (counts .exit) ≡ tallies (heldProcesses (now (ps .entry))) (recordsOf (now (b .entry)))) ⌝ }
 {
     let mut seen = [0u64; THREAD_PLACES];
     thread_marks(ts, &mut seen);
@@ -191,7 +212,8 @@ fn process_buffer_ok(ps: &[u64], b: &[u8], counts: &mut [usize]) -> bool
     requires { ⌜ onePlace (heldProcesses (now ps)) ⌝ }
     requires { ⌜ now counts ≡ tallies (heldProcesses (now ps)) [] ⌝ }
     ensures { λ h. ⌜ h ≡ processRecordsOk (processesOf (now (ps .entry))) (recordsOf (now (b .entry))) ⌝ }
-    ensures { λ h. ⌜ (h ≡ true → now (counts .exit) ≡ tallies (heldProcesses (now (ps .entry))) (recordsOf (now (b .entry)))) ⌝ }
+    ensures { λ h.
+        ⌜ (h ≡ true → now (counts .exit) ≡ tallies (heldProcesses (now (ps .entry))) (recordsOf (now (b .entry)))) ⌝ }
 {
     let mut seen = [0u64; PROCESS_PLACES];
     process_marks(ps, &mut seen);
@@ -227,7 +249,8 @@ fn records_ok(ps: &[u64], ts: &[u64], tb: &[u8], pb: &[u8]) -> bool
     requires { ⌜ (length (now ps) ≡ processTable) × (length (now ts) ≡ threadTable) ⌝ }
     requires { ⌜ (length (now tb) ≡ bufferBytes) × (length (now pb) ≡ bufferBytes) ⌝ }
     requires { ⌜ placesOk (processesOf (now ps)) (threadsOf (now ts)) ≡ true ⌝ }
-    ensures { λ h. ⌜ h ≡ recordsOk (processesOf (now (ps .entry))) (threadsOf (now (ts .entry))) (recordsOf (now (tb .entry))) (recordsOf (now (pb .entry))) ⌝ }
+    ensures { λ h. ⌜ h ≡ recordsOk (processesOf (now (ps .entry))) (threadsOf (now (ts .entry)))
+        (recordsOf (now (tb .entry))) (recordsOf (now (pb .entry))) ⌝ }
 {
     let mut to_threads = [0usize; PROCESS_PLACES];
     let mut to_processes = [0usize; PROCESS_PLACES];

@@ -8,11 +8,14 @@ use native.Mathlib.Omega.{arith}
 use lib.Dec.{eqb}
 use lib.ListN.{length, getD, take, drop, set, replicate, length-drop, length-replicate, List·getD-map}
 use lib.Seq.{sets, getD-take, take-set-lt, drop-set-lt, drop-drop}
-use Rattle.limits.specs.Limits.{processId, processReal, processEffective, processSaved, processSession, threadId, threadProcess, threadMask, processPlaces, processWords, processTable, headWords, signals, actionWords, threadPlaces, threadWords, threadTable}
+use Rattle.limits.specs.Limits.{processId, processReal, processEffective, processSaved, processSession, threadId}
+use Rattle.limits.specs.Limits.{threadProcess, threadMask, processPlaces, processWords, processTable, headWords}
+use Rattle.limits.specs.Limits.{signals, actionWords, threadPlaces, threadWords, threadTable}
 use Rattle.lists.specs.Lists.{find}
 use Rattle.lists.specs.Rows.{row, rows, flat}
 use Rattle.lists.proofs.Lists.{Fail, All-any, All-every, All-replicate}
-use Rattle.lists.proofs.Rows.{getD-row, getD-rows, rows-sets, rows-put, take-sets-le, drop-sets-add, take-drop-take, spellFrom, take-spellFrom, setsFrom, sets-at, set-again, sets-whole, flat-replicate}
+use Rattle.lists.proofs.Rows.{getD-row, getD-rows, rows-sets, rows-put, take-sets-le, drop-sets-add, take-drop-take}
+use Rattle.lists.proofs.Rows.{spellFrom, take-spellFrom, setsFrom, sets-at, set-again, sets-whole, flat-replicate}
 use Rattle.lists.proofs.Finds.{find-absent, find-alike}
 use Rattle.sigset.specs.declared.SigSet.{SigSet}
 use Rattle.types.specs.declared.Action.{Action}
@@ -22,8 +25,14 @@ use Rattle.rules.specs.Types.{Process, Thread, noProcess, noThread}
 use Rattle.rules.specs.View.{isProcess, isThread, actionOf}
 use Rattle.rules.specs.Adding.{addedProcess}
 use Rattle.rules.specs.Store.{Place, held, freeProcess, freeThread}
-use Rattle.tables.specs.Tables.{actionFrom, actionTo, headTo, headed, processFrom, processTo, threadFrom, threadTo, processesOf, processWordsOf, threadsOf, threadWordsOf, processAt, threadAt, heldProcesses, heldThreads, withField, withThreadField, hasProcessId, hasThreadId, acted, placed, threadPlaced}
-use Rattle.tables.proofs.Words.{ActionsLong, free-process-words, free-thread-words, words-forth, thread-words-forth, process-from, thread-from, head-from, length-process-row, length-thread-row, thread-row, zero-process, zero-thread, thread-back, action-forth, length-actionTo}
+use Rattle.tables.specs.Tables.{actionFrom, actionTo, headTo, headed, processFrom, processTo, threadFrom}
+use Rattle.tables.specs.Tables.{threadTo, processesOf, processWordsOf, threadsOf, threadWordsOf, processAt}
+use Rattle.tables.specs.Tables.{threadAt, heldProcesses, heldThreads, withField, withThreadField, hasProcessId}
+use Rattle.tables.specs.Tables.{hasThreadId, acted, placed, threadPlaced}
+use Rattle.tables.proofs.Words.{ActionsLong, free-process-words, free-thread-words, words-forth}
+use Rattle.tables.proofs.Words.{thread-words-forth, process-from, thread-from, head-from, length-process-row}
+use Rattle.tables.proofs.Words.{length-thread-row, thread-row, zero-process, zero-thread, thread-back}
+use Rattle.tables.proofs.Words.{action-forth, length-actionTo}
 
 -- where the action of a signal begins
 abbrev pub actionBase : ℕ → ℕ → ℕ
@@ -33,16 +42,19 @@ actionBase place signal = place * processWords + headWords + (signal - 1) * acti
 
 module _ (ws : List ℕ) (long : length ws ≡ processTable) (place : ℕ) (h : place < processPlaces) where
   head-words : headTo (processAt ws place) ≡ take headWords (row processWords ws place)
-  head-words = ap headTo (process-from ws place h) ∙ head-from (row processWords ws place) (length-process-row ws long place h)
+  head-words =
+      ap headTo (process-from ws place h) ∙ head-from (row processWords ws place) (length-process-row ws long place h)
 
-  pub field-word : (field : ℕ) → field < headWords → getD (headTo (processAt ws place)) field 0 ≡ getD ws (place * processWords + field) 0
+  pub field-word : (field : ℕ) → field < headWords
+      → getD (headTo (processAt ws place)) field 0 ≡ getD ws (place * processWords + field) 0
   field-word field hf =
       ap (λ l. getD l field 0) head-words
       ∙ getD-take headWords (row processWords ws place) field 0 hf
       ∙ getD-row processWords ws place field (omega arith)
 
   action-row : (signal : ℕ) → 1 ≤ signal → signal ≤ signals
-      → row actionWords (drop headWords (row processWords ws place)) (signal - 1) ≡ take actionWords (drop (actionBase place signal) ws)
+      → row actionWords (drop headWords (row processWords ws place)) (signal - 1)
+      ≡ take actionWords (drop (actionBase place signal) ws)
   action-row signal low high =
       let o : ℕ = (signal - 1) * actionWords in
       ap (take actionWords) (drop-drop o headWords (row processWords ws place))
@@ -55,17 +67,21 @@ module _ (ws : List ℕ) (long : length ws ≡ processTable) (place : ℕ) (h : 
   unfolding actionOf processFrom headed
   action-words signal b low high e =
       ap (λ (x : Place Process). getD (x .holds .actions) (signal - 1) defaultAction) (process-from ws place h)
-      ∙ getD-rows actionFrom actionWords signals (drop headWords (row processWords ws place)) (signal - 1) defaultAction (omega arith)
+      ∙ getD-rows actionFrom actionWords signals (drop headWords (row processWords ws place)) (signal - 1) defaultAction
+      (omega arith)
       ∙ ap actionFrom
-      (action-row signal low high ∙ ap (λ k. take actionWords (drop k ws)) (sym e) ∙ take-spellFrom actionWords b ws (omega arith))
+      (action-row signal low high ∙ ap (λ k. take actionWords (drop k ws)) (sym e)
+      ∙ take-spellFrom actionWords b ws (omega arith))
 
-pub thread-field-word : (ws : List ℕ) → length ws ≡ threadTable → (place : ℕ) → place < threadPlaces → (field : ℕ) → field < threadWords
+pub thread-field-word : (ws : List ℕ) → length ws ≡ threadTable → (place : ℕ) → place < threadPlaces → (field : ℕ)
+    → field < threadWords
     → getD (threadTo (threadAt ws place)) field 0 ≡ getD ws (place * threadWords + field) 0
 thread-field-word ws long place h field hf =
     ap (λ l. getD l field 0) (thread-row ws long place h) ∙ getD-row threadWords ws place field hf
 
 -- what a place holds, with the marks forgotten
-pub held-at : {A : Type 0} (xs : List (Place A)) (i : ℕ) (d : Place A) → getD (map held xs) i (held d) ≡ getD xs i d .holds
+pub held-at : {A : Type 0} (xs : List (Place A)) (i : ℕ) (d : Place A)
+    → getD (map held xs) i (held d) ≡ getD xs i d .holds
 held-at xs i d = List·getD-map held xs i d
 
 -- ---- stores into the words of one place
@@ -74,7 +90,8 @@ module _ (l : List ℕ) (long : length l ≡ processWords) where
   field-set : (k v : ℕ) → k < headWords → processFrom (set l k v) ≡ withField k v (processFrom l)
   unfolding withField processFrom headed
   field-set k v hk =
-      ap₂ (λ x y. headed x (rows actionFrom actionWords signals y)) (take-set-lt headWords l k v hk) (drop-set-lt headWords l k v hk)
+      ap₂ (λ x y. headed x (rows actionFrom actionWords signals y)) (take-set-lt headWords l k v hk)
+      (drop-set-lt headWords l k v hk)
       ∙ ap (λ x. headed (set x k v) (rows actionFrom actionWords signals (drop headWords l))) (sym (head-from l long))
 
   action-set : (signal : ℕ) (a : Action) → 1 ≤ signal → signal ≤ signals
@@ -84,13 +101,16 @@ module _ (l : List ℕ) (long : length l ≡ processWords) where
       let i : ℕ = signal - 1 in
       let o : ℕ = headWords + i * actionWords in
       let acts : List ℕ = drop headWords l in
-      let e : rows actionFrom actionWords signals (drop headWords (sets l o (actionTo a))) ≡ set (rows actionFrom actionWords signals acts) i a =
+      let e : rows actionFrom actionWords signals (drop headWords (sets l o (actionTo a)))
+      ≡ set (rows actionFrom actionWords signals acts) i a =
       ap (rows actionFrom actionWords signals) (drop-sets-add headWords l (i * actionWords) (actionTo a))
-      ∙ rows-put actionFrom actionWords signals acts i (actionTo a) (omega arith) (rw length-drop (omega arith)) (length-actionTo a)
+      ∙ rows-put actionFrom actionWords signals acts i (actionTo a) (omega arith) (rw length-drop (omega arith))
+      (length-actionTo a)
       ∙ ap (set (rows actionFrom actionWords signals acts) i) (action-forth a) in
       ap₂ headed (take-sets-le headWords l o (actionTo a) (omega arith)) e
 
-thread-field-set : (l : List ℕ) → length l ≡ threadWords → (k v : ℕ) → threadFrom (set l k v) ≡ withThreadField k v (threadFrom l)
+thread-field-set : (l : List ℕ) → length l ≡ threadWords → (k v : ℕ)
+    → threadFrom (set l k v) ≡ withThreadField k v (threadFrom l)
 unfolding withThreadField
 thread-field-set l long k v = ap (λ x. threadFrom (set x k v)) (sym (thread-back l long))
 
@@ -99,16 +119,19 @@ thread-field-set l long k v = ap (λ x. threadFrom (set x k v)) (sym (thread-bac
 module _ (ws : List ℕ) (long : length ws ≡ processTable) (place : ℕ) (h : place < processPlaces) where
   -- a run of stores inside a place
   process-sets : (o : ℕ) (vs : List ℕ) → o + length vs ≤ processWords
-      → processesOf (sets ws (place * processWords + o) vs) ≡ set (processesOf ws) place (processFrom (sets (row processWords ws place) o vs))
+      → processesOf (sets ws (place * processWords + o) vs)
+      ≡ set (processesOf ws) place (processFrom (sets (row processWords ws place) o vs))
   unfolding processesOf
   process-sets o vs fits = rows-sets processFrom processWords processPlaces ws place o vs h fits
 
   pub field-put : (field v : ℕ) → field < headWords
-      → processesOf (set ws (place * processWords + field) v) ≡ set (processesOf ws) place (withField field v (processAt ws place))
+      → processesOf (set ws (place * processWords + field) v)
+      ≡ set (processesOf ws) place (withField field v (processAt ws place))
   field-put field v hf =
       process-sets field (v ∷ []) (omega arith)
       ∙ ap (set (processesOf ws) place)
-      (field-set (row processWords ws place) (length-process-row ws long place h) field v hf ∙ ap (withField field v) (sym (process-from ws place h)))
+      (field-set (row processWords ws place) (length-process-row ws long place h) field v hf
+      ∙ ap (withField field v) (sym (process-from ws place h)))
 
   pub action-put : (signal b : ℕ) (a : Action) → 1 ≤ signal → signal ≤ signals → b ≡ actionBase place signal
       → processesOf (setsFrom ws b 0 (actionTo a)) ≡ set (processesOf ws) place (acted signal a (processAt ws place))
@@ -118,31 +141,36 @@ module _ (ws : List ℕ) (long : length ws ≡ processTable) (place : ℕ) (h : 
       ∙ ap (λ k. processesOf (sets ws k (actionTo a))) (e ∙ add-assoc (place * processWords) headWords o)
       ∙ process-sets (headWords + o) (actionTo a) (rw length-actionTo (omega arith))
       ∙ ap (set (processesOf ws) place)
-      (action-set (row processWords ws place) (length-process-row ws long place h) signal a low high ∙ ap (acted signal a) (sym (process-from ws place h)))
+      (action-set (row processWords ws place) (length-process-row ws long place h) signal a low high
+      ∙ ap (acted signal a) (sym (process-from ws place h)))
 
   pub process-cleared : (after : List ℕ) → after ≡ sets ws (place * processWords) (replicate processWords 0)
       → processesOf after ≡ set (processesOf ws) place freeProcess
   unfolding processesOf
   process-cleared after e =
       ap processesOf e
-      ∙ rows-put processFrom processWords processPlaces ws place (replicate processWords 0) h (omega arith) (length-replicate {A = ℕ} processWords 0)
+      ∙ rows-put processFrom processWords processPlaces ws place (replicate processWords 0) h (omega arith)
+      (length-replicate {A = ℕ} processWords 0)
       ∙ ap (set (processesOf ws) place) zero-process
 
 module _ (ws : List ℕ) (long : length ws ≡ threadTable) (place : ℕ) (h : place < threadPlaces) where
   pub thread-field-put : (field v : ℕ) → field < threadWords
-      → threadsOf (set ws (place * threadWords + field) v) ≡ set (threadsOf ws) place (withThreadField field v (threadAt ws place))
+      → threadsOf (set ws (place * threadWords + field) v)
+      ≡ set (threadsOf ws) place (withThreadField field v (threadAt ws place))
   unfolding threadsOf
   thread-field-put field v hf =
       rows-sets threadFrom threadWords threadPlaces ws place field (v ∷ []) h (omega arith)
       ∙ ap (set (threadsOf ws) place)
-      (thread-field-set (row threadWords ws place) (length-thread-row ws long place h) field v ∙ ap (withThreadField field v) (sym (thread-from ws place h)))
+      (thread-field-set (row threadWords ws place) (length-thread-row ws long place h) field v
+      ∙ ap (withThreadField field v) (sym (thread-from ws place h)))
 
   pub thread-cleared : (after : List ℕ) → after ≡ sets ws (place * threadWords) (replicate threadWords 0)
       → threadsOf after ≡ set (threadsOf ws) place freeThread
   unfolding threadsOf
   thread-cleared after e =
       ap threadsOf e
-      ∙ rows-put threadFrom threadWords threadPlaces ws place (replicate threadWords 0) h (omega arith) (length-replicate {A = ℕ} threadWords 0)
+      ∙ rows-put threadFrom threadWords threadPlaces ws place (replicate threadWords 0) h (omega arith)
+      (length-replicate {A = ℕ} threadWords 0)
       ∙ ap (set (threadsOf ws) place) zero-thread
 
 -- ---- every place cleared
@@ -152,17 +180,22 @@ pub processes-cleared : (ws after : List ℕ) → length ws ≡ processTable →
 unfolding processWordsOf
 processes-cleared ws after long e =
     let xs : List (Place Process) = replicate processPlaces freeProcess in
-    let z : flat processTo xs ≡ replicate processTable 0 = flat-replicate processTo freeProcess processWords 0 free-process-words processPlaces in
-    ap processesOf (e ∙ sets-whole (replicate processTable 0) ws (long ∙ sym (length-replicate {A = ℕ} processTable 0)) ∙ sym z)
-    ∙ words-forth xs (length-replicate processPlaces freeProcess) (All-replicate ActionsLong freeProcess (length-replicate signals defaultAction) processPlaces)
+    let z : flat processTo xs ≡ replicate processTable 0 =
+    flat-replicate processTo freeProcess processWords 0 free-process-words processPlaces in
+    ap processesOf
+    (e ∙ sets-whole (replicate processTable 0) ws (long ∙ sym (length-replicate {A = ℕ} processTable 0)) ∙ sym z)
+    ∙ words-forth xs (length-replicate processPlaces freeProcess)
+    (All-replicate ActionsLong freeProcess (length-replicate signals defaultAction) processPlaces)
 
 pub threads-cleared : (ws after : List ℕ) → length ws ≡ threadTable → after ≡ sets ws 0 (replicate threadTable 0)
     → threadsOf after ≡ replicate threadPlaces freeThread
 unfolding threadWordsOf
 threads-cleared ws after long e =
     let xs : List (Place Thread) = replicate threadPlaces freeThread in
-    let z : flat threadTo xs ≡ replicate threadTable 0 = flat-replicate threadTo freeThread threadWords 0 free-thread-words threadPlaces in
-    ap threadsOf (e ∙ sets-whole (replicate threadTable 0) ws (long ∙ sym (length-replicate {A = ℕ} threadTable 0)) ∙ sym z)
+    let z : flat threadTo xs ≡ replicate threadTable 0 =
+    flat-replicate threadTo freeThread threadWords 0 free-thread-words threadPlaces in
+    ap threadsOf
+    (e ∙ sets-whole (replicate threadTable 0) ws (long ∙ sym (length-replicate {A = ℕ} threadTable 0)) ∙ sym z)
     ∙ thread-words-forth xs (length-replicate threadPlaces freeThread)
 
 -- ---- a free place filled, one field after the other
@@ -179,7 +212,8 @@ unfolding withField headed headTo addedProcess
 added-fields new = refl
 
 abbrev withThreadFields : (id process mask : ℕ) → Place Thread
-withThreadFields id process mask = withThreadField threadMask mask (withThreadField threadProcess process (withThreadField threadId id freeThread))
+withThreadFields id process mask =
+    withThreadField threadMask mask (withThreadField threadProcess process (withThreadField threadId id freeThread))
 
 thread-fields : (id process : ℕ) (mask : SigSet) → withThreadFields id process (mask .0) ≡ threadPlaced id process mask
 unfolding withThreadField threadFrom threadTo
@@ -205,8 +239,10 @@ process-filled xs x₀ x₁ x₂ x₃ x₄ x₅ place new h e₀ e₁ e₂ e₃ 
     (set-again freeProcess (withField processId (new .id)) xs x₀ x₁ place _ h e₀ e₁) e₂) e₃) e₄) e₅
     ∙ ap (set xs place) (added-fields new)
 
-pub thread-filled : (xs x₀ x₁ x₂ x₃ : List (Place Thread)) (place : ℕ) (id process : ℕ) (mask : SigSet) → place < length xs
-    → x₀ ≡ set xs place freeThread → x₁ ≡ putThreadField x₀ place threadId id → x₂ ≡ putThreadField x₁ place threadProcess process
+pub thread-filled : (xs x₀ x₁ x₂ x₃ : List (Place Thread)) (place : ℕ) (id process : ℕ) (mask : SigSet)
+    → place < length xs
+    → x₀ ≡ set xs place freeThread → x₁ ≡ putThreadField x₀ place threadId id
+    → x₂ ≡ putThreadField x₁ place threadProcess process
     → x₃ ≡ putThreadField x₂ place threadMask (mask .0)
     → x₃ ≡ set xs place (threadPlaced id process mask)
 thread-filled xs x₀ x₁ x₂ x₃ place id process mask h e₀ e₁ e₂ e₃ =
@@ -221,12 +257,14 @@ thread-filled xs x₀ x₁ x₂ x₃ place id process mask h e₀ e₁ e₂ e₃
 pub process-test : (ws : List ℕ) (i id w : ℕ) → w ≡ getD (headTo (processAt ws i)) processId 0
     → hasProcessId id (getD (heldProcesses ws) i noProcess) ≡ eqb w id
 unfolding hasProcessId headTo
-process-test ws i id w e = ap (λ (p : Process). eqb (p .id) id) (held-at (processesOf ws) i freeProcess) ∙ ap (λ k. eqb k id) (sym e)
+process-test ws i id w e =
+    ap (λ (p : Process). eqb (p .id) id) (held-at (processesOf ws) i freeProcess) ∙ ap (λ k. eqb k id) (sym e)
 
 pub thread-test : (ws : List ℕ) (i id w : ℕ) → w ≡ getD (threadTo (threadAt ws i)) threadId 0
     → hasThreadId id (getD (heldThreads ws) i noThread) ≡ eqb w id
 unfolding hasThreadId threadTo
-thread-test ws i id w e = ap (λ (t : Thread). eqb (t .id) id) (held-at (threadsOf ws) i freeThread) ∙ ap (λ k. eqb k id) (sym e)
+thread-test ws i id w e =
+    ap (λ (t : Thread). eqb (t .id) id) (held-at (threadsOf ws) i freeThread) ∙ ap (λ k. eqb k id) (sym e)
 
 -- 0 is no id
 
@@ -246,4 +284,5 @@ module _ (xs : List Thread) where
 
   pub find-zero-thread : find (isThread 0) xs ≡ length xs
   unfolding isThread
-  find-zero-thread = find-absent (isThread 0) xs (All-any (isThread 0) xs (All-every (Fail (isThread 0)) (λ _. refl) xs))
+  find-zero-thread =
+      find-absent (isThread 0) xs (All-any (isThread 0) xs (All-every (Fail (isThread 0)) (λ _. refl) xs))

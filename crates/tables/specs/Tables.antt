@@ -4,7 +4,10 @@ use mathlib.Core.List.{List, [], _∷_, _++_, map}
 use mathlib.Core.Bool.{Bool}
 use lib.Dec.{eqb}
 use lib.ListN.{getD, take, drop, set}
-use Rattle.limits.specs.Limits.{processPlaces, threadPlaces, signals, processId, processReal, processEffective, processSaved, processSession, processStopped, processMarks, headWords, actionHandler, actionFlags, actionMask, actionWords, threadId, threadProcess, threadMask, threadMarks, threadWords, processWords}
+use Rattle.limits.specs.Limits.{processPlaces, threadPlaces, signals, processId, processReal, processEffective}
+use Rattle.limits.specs.Limits.{processSaved, processSession, processStopped, processMarks, headWords, actionHandler}
+use Rattle.limits.specs.Limits.{actionFlags, actionMask, actionWords, threadId, threadProcess, threadMask, threadMarks}
+use Rattle.limits.specs.Limits.{threadWords, processWords}
 use Rattle.lists.specs.Rows.{rows, flat}
 use Rattle.sigset.specs.declared.SigSet.{SigSet}
 use Rattle.sigset.specs.Set.{bits, empty}
@@ -16,15 +19,18 @@ use Rattle.rules.specs.Store.{Place, held, freeProcess, freeThread, withAction}
 
 -- an action is "a 64-bit handler number .., flags, and a mask"
 unfoldable pub actionFrom : List ℕ → Action
-actionFrom l = record { handler = getD l actionHandler 0; flags = getD l actionFlags 0; mask = bits (getD l actionMask 0) }
+actionFrom l =
+    record { handler = getD l actionHandler 0; flags = getD l actionFlags 0; mask = bits (getD l actionMask 0) }
 
 unfoldable pub actionTo : Action → List ℕ
 actionTo a = a .handler ∷ a .flags ∷ a .mask .0 ∷ []
 
--- a process place is "id, real, effective and saved user ids, session id, stopped or not, marks", its head, and then "64 actions"
+-- a process place is "id, real, effective and saved user ids, session id, stopped or not, marks",
+-- its head, and then "64 actions"
 unfoldable pub headTo : Place Process → List ℕ
 headTo x =
-    x .holds .id ∷ x .holds .real ∷ x .holds .effective ∷ x .holds .saved ∷ x .holds .session ∷ x .holds .stopped ∷ x .marks .0 ∷ []
+    x .holds .id ∷ x .holds .real ∷ x .holds .effective ∷ x .holds .saved ∷ x .holds .session ∷ x .holds .stopped
+    ∷ x .marks .0 ∷ []
 
 unfoldable pub headed : List ℕ → List Action → Place Process
 headed l actions =

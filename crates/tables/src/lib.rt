@@ -3,12 +3,15 @@ ghost use mathlib.Core.Path.{_≡_};
 ghost use Prim.Native.Nat.{_+_, _-_, _*_, _≤_, _<_};
 ghost use lib.ListN.{length, getD, set, replicate};
 ghost use lib.Seq.{sets};
-ghost use Rattle.limits.specs.Limits.{processPlaces, processTable, threadPlaces, threadTable, signals, processWords, headWords, actionWords, threadWords};
+ghost use Rattle.limits.specs.Limits.{processPlaces, processTable, threadPlaces, threadTable, signals, processWords};
+ghost use Rattle.limits.specs.Limits.{headWords, actionWords, threadWords};
 ghost use Rattle.lists.specs.Lists.{find};
 ghost use Rattle.rules.specs.View.{isProcess, isThread, actionOf};
 ghost use Rattle.rules.specs.Store.{freeProcess, freeThread, isFreeProcess, isFreeThread};
 ghost use Rattle.rules.specs.Adding.{addedProcess};
-ghost use Rattle.tables.specs.Tables.{processesOf, threadsOf, heldProcesses, heldThreads, processAt, threadAt, headTo, threadTo, withField, withThreadField, hasProcessId, hasThreadId, placed, acted, threadPlaced};
+ghost use Rattle.tables.specs.Tables.{processesOf, threadsOf, heldProcesses, heldThreads, processAt, threadAt};
+ghost use Rattle.tables.specs.Tables.{headTo, threadTo, withField, withThreadField, hasProcessId, hasThreadId};
+ghost use Rattle.tables.specs.Tables.{placed, acted, threadPlaced};
 use limits::ACTION_FLAGS;
 use limits::ACTION_HANDLER;
 use limits::ACTION_MASK;
@@ -32,7 +35,8 @@ use sigset::SigSet;
 use types::Action;
 use types::NewProcess;
 
-// ---- one word of a place: every field of a head and of a thread is read and written by these four, at its named offset
+// ---- one word of a place: every field of a head and of a thread is read and written by these
+//      four, at its named offset
 
 pub fn field_at(ps: &[u64], place: usize, field: usize) -> u64
     requires { ⌜ (length (now ps) ≡ processTable) × ((place < processPlaces) × (field < headWords)) ⌝ }
@@ -43,7 +47,8 @@ pub fn field_at(ps: &[u64], place: usize, field: usize) -> u64
 
 pub fn put_field(ps: &mut [u64], place: usize, field: usize, value: u64)
     requires { ⌜ (length (now ps) ≡ processTable) × ((place < processPlaces) × (field < headWords)) ⌝ }
-    ensures { λ _. ⌜ processesOf (now (ps .exit)) ≡ set (processesOf (now (ps .entry))) place (withField field value (processAt (now (ps .entry)) place)) ⌝ }
+    ensures { λ _. ⌜ processesOf (now (ps .exit))
+        ≡ set (processesOf (now (ps .entry))) place (withField field value (processAt (now (ps .entry)) place)) ⌝ }
 {
     ps[place * PROCESS_WORDS + field] = value;
 }
@@ -57,7 +62,8 @@ pub fn thread_field_at(ts: &[u64], place: usize, field: usize) -> u64
 
 pub fn put_thread_field(ts: &mut [u64], place: usize, field: usize, value: u64)
     requires { ⌜ (length (now ts) ≡ threadTable) × ((place < threadPlaces) × (field < threadWords)) ⌝ }
-    ensures { λ _. ⌜ threadsOf (now (ts .exit)) ≡ set (threadsOf (now (ts .entry))) place (withThreadField field value (threadAt (now (ts .entry)) place)) ⌝ }
+    ensures { λ _. ⌜ threadsOf (now (ts .exit))
+        ≡ set (threadsOf (now (ts .entry))) place (withThreadField field value (threadAt (now (ts .entry)) place)) ⌝ }
 {
     ts[place * THREAD_WORDS + field] = value;
 }
@@ -86,7 +92,8 @@ pub fn action_at(ps: &[u64], place: usize, signal: u32) -> Action
 
 pub fn put_action(ps: &mut [u64], place: usize, signal: u32, a: Action)
     requires { ⌜ (length (now ps) ≡ processTable) × ((place < processPlaces) × ((1 ≤ signal) × (signal ≤ signals))) ⌝ }
-    ensures { λ _. ⌜ processesOf (now (ps .exit)) ≡ set (processesOf (now (ps .entry))) place (acted signal a (processAt (now (ps .entry)) place)) ⌝ }
+    ensures { λ _. ⌜ processesOf (now (ps .exit))
+        ≡ set (processesOf (now (ps .entry))) place (acted signal a (processAt (now (ps .entry)) place)) ⌝ }
 {
     let to = action_base(place, signal);
     let mask = a.mask;
@@ -208,7 +215,8 @@ pub fn clear_threads(ts: &mut [u64])
 // A new process into a place, whatever it held.
 pub fn fill_process(ps: &mut [u64], place: usize, new: NewProcess)
     requires { ⌜ (length (now ps) ≡ processTable) × (place < processPlaces) ⌝ }
-    ensures { λ _. ⌜ processesOf (now (ps .exit)) ≡ set (processesOf (now (ps .entry))) place (placed (addedProcess new)) ⌝ }
+    ensures { λ _. ⌜ processesOf (now (ps .exit))
+        ≡ set (processesOf (now (ps .entry))) place (placed (addedProcess new)) ⌝ }
 {
     let id = new.id as u64;
     let real = new.real as u64;
@@ -226,7 +234,8 @@ pub fn fill_process(ps: &mut [u64], place: usize, new: NewProcess)
 // A new thread into a place, whatever it held.
 pub fn fill_thread(ts: &mut [u64], place: usize, id: u32, process: u32, mask: SigSet)
     requires { ⌜ (length (now ts) ≡ threadTable) × (place < threadPlaces) ⌝ }
-    ensures { λ _. ⌜ threadsOf (now (ts .exit)) ≡ set (threadsOf (now (ts .entry))) place (threadPlaced id process mask) ⌝ }
+    ensures { λ _. ⌜ threadsOf (now (ts .exit))
+        ≡ set (threadsOf (now (ts .entry))) place (threadPlaced id process mask) ⌝ }
 {
     clear_thread(ts, place);
     put_thread_field(ts, place, THREAD_ID, id as u64);

@@ -62,19 +62,25 @@ module _ (l : Lent) (t n : ℕ) (r : n ≡ rowsOn (esrch (noThreadLive (viewOf l
     taker-live = live-thread l t n r z .1
 
     module _ (x : declared.Next) (k : nextOf x ≡ next v it) where
-      pub take-made : (m : Lent) → length (m .processes) ≡ length (l .processes) → length (m .threads) ≡ length (l .threads)
+      pub take-made : (m : Lent) → length (m .processes) ≡ length (l .processes)
+          → length (m .threads) ≡ length (l .threads)
           → length (m .threadBuffer) ≡ length (l .threadBuffer) → length (m .processBuffer) ≡ length (l .processBuffer)
           → ((i : ℕ) → getD (m .threadBuffer) i 0 < 256) → ((i : ℕ) → getD (m .processBuffer) i 0 < 256)
-          → (a : taken.Taken) → a ≡ takeAnswer v it (nextOf x) → decoded m ≡ applyAll (takeChanges v it (nextOf x)) (decoded l)
+          → (a : taken.Taken) → a ≡ takeAnswer v it (nextOf x)
+          → decoded m ≡ applyAll (takeChanges v it (nextOf x)) (decoded l)
           → (m, Accepted (Taken a)) ≡ stepOn (take t) l
       unfolding changes reply
       take-made m p q b c bt bp a h d =
-          accepted-ends (take t) l accepted (Taken a) (ap Taken (h ∙ ap (takeAnswer v it) k)) m (record { processes = p; threads = q; threadBuffer = b; processBuffer = c })
-          (bytes-each (m .threadBuffer) bt) (bytes-each (m .processBuffer) bp) (d ∙ ap (λ y. applyAll (takeChanges v it y) (decoded l)) k)
+          accepted-ends (take t) l accepted (Taken a) (ap Taken (h ∙ ap (takeAnswer v it) k)) m
+          (record { processes = p; threads = q; threadBuffer = b; processBuffer = c })
+          (bytes-each (m .threadBuffer) bt) (bytes-each (m .processBuffer) bp)
+          (d ∙ ap (λ y. applyAll (takeChanges v it y) (decoded l)) k)
 
-      pub take-nothing : x ≡ cases.Nothing → ((i : ℕ) → getD (l .threadBuffer) i 0 < 256) → ((i : ℕ) → getD (l .processBuffer) i 0 < 256)
+      pub take-nothing : x ≡ cases.Nothing → ((i : ℕ) → getD (l .threadBuffer) i 0 < 256)
+          → ((i : ℕ) → getD (l .processBuffer) i 0 < 256)
           → (l, Accepted (Taken Nothing)) ≡ stepOn (take t) l
       unfolding nextOf takeAnswer takeChanges applyAll
       take-nothing e bt bp =
           take-made l refl refl refl refl bt bp Nothing
-          (ap (λ y. takeAnswer v it (nextOf y)) (sym e)) (ap (λ y. applyAll (takeChanges v it (nextOf y)) (decoded l)) (sym e))
+          (ap (λ y. takeAnswer v it (nextOf y)) (sym e))
+          (ap (λ y. applyAll (takeChanges v it (nextOf y)) (decoded l)) (sym e))

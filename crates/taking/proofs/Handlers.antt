@@ -20,20 +20,26 @@ use Rattle.taking.specs.Takes.{handlerChanges}
 
 module _ (old : SigSet) (a : Action) (s : ℕ) (both : SigSet) (b : both ≡ union old (a .mask)) where
   -- the set that is added to both, as the flag says
-  with-added : (added : SigSet) → added ≡ cond (hasFlag a saNodefer) empty (ofSignal s) → (m : SigSet) → m ≡ maskable (union both added) → m ≡ handlerMask old a s
+  with-added : (added : SigSet) → added ≡ cond (hasFlag a saNodefer) empty (ofSignal s) → (m : SigSet)
+      → m ≡ maskable (union both added) → m ≡ handlerMask old a s
   unfolding handlerMask
-  with-added added e m h = h ∙ ap (λ (x : SigSet). maskable (union x added)) b ∙ ap (λ (x : SigSet). maskable (union (union old (a .mask)) x)) e
+  with-added added e m h =
+      h ∙ ap (λ (x : SigSet). maskable (union x added)) b
+      ∙ ap (λ (x : SigSet). maskable (union (union old (a .mask)) x)) e
 
   module _ (all m : SigSet) (h : m ≡ maskable all) where
     pub mask-bare : (bitAnd (a .flags) saNodefer ≡ 0 → ⊥) → all ≡ union both empty → m ≡ handlerMask old a s
     unfolding hasFlag
     mask-bare n u =
-        with-added empty (sym (cond-true empty (ofSignal s) (ap not (ne-eqb (bitAnd (a .flags) saNodefer) 0 n)))) m (h ∙ ap maskable u)
+        with-added empty (sym (cond-true empty (ofSignal s) (ap not (ne-eqb (bitAnd (a .flags) saNodefer) 0 n)))) m
+        (h ∙ ap maskable u)
 
-    pub mask-blocking : bitAnd (a .flags) saNodefer ≡ 0 → (one : SigSet) → one ≡ ofSignal s → all ≡ union both one → m ≡ handlerMask old a s
+    pub mask-blocking : bitAnd (a .flags) saNodefer ≡ 0 → (one : SigSet) → one ≡ ofSignal s → all ≡ union both one
+        → m ≡ handlerMask old a s
     unfolding hasFlag
     mask-blocking z one o u =
-        with-added one (o ∙ sym (cond-false empty (ofSignal s) (ap not (eq-eqb (bitAnd (a .flags) saNodefer) 0 z)))) m (h ∙ ap maskable u)
+        with-added one (o ∙ sym (cond-false empty (ofSignal s) (ap not (eq-eqb (bitAnd (a .flags) saNodefer) 0 z)))) m
+        (h ∙ ap maskable u)
 
 -- ---- the changes
 

@@ -1,4 +1,5 @@
--- The default outcome of a signal, and a delivery: its changes and its answer, by default or by a handler. Assumes nothing.
+-- The default outcome of a signal, and a delivery: its changes and its answer, by default or by a handler.
+-- Assumes nothing.
 use Prim.Native.Nat.{ℕ}
 use mathlib.Core.Path.{_≡_, sym, ap, _∙_}
 use mathlib.Core.Bool.{true, false, _||_}
@@ -39,7 +40,8 @@ module _ (s : ℕ) where
 
 module _ (t : Thread) (a : Action) where
   module _ (s : ℕ) where
-    pub by-default : eqb (a .handler) sigDfl ≡ true → (o : Outcome) → o ≡ outcome s → deliver t a s ≡ outcomeChanges o (t .process)
+    pub by-default : eqb (a .handler) sigDfl ≡ true → (o : Outcome) → o ≡ outcome s
+        → deliver t a s ≡ outcomeChanges o (t .process)
     unfolding deliver
     by-default d o h = cond-true _ _ d ∙ ap (λ (x : Outcome). outcomeChanges x (t .process)) (sym h)
 
@@ -48,11 +50,13 @@ module _ (t : Thread) (a : Action) where
     by-handler d = cond-false _ _ d
 
   module _ (r : Siginfo) where
-    pub answers-default : eqb (a .handler) sigDfl ≡ true → (o : Outcome) → o ≡ outcome (r .signal) → (x : Taken) → x ≡ outcomeAnswer o (r .signal)
+    pub answers-default : eqb (a .handler) sigDfl ≡ true → (o : Outcome) → o ≡ outcome (r .signal) → (x : Taken)
+        → x ≡ outcomeAnswer o (r .signal)
         → x ≡ delivered t a r
     unfolding delivered
     answers-default d o h x k = k ∙ ap (λ (y : Outcome). outcomeAnswer y (r .signal)) h ∙ sym (cond-true _ _ d)
 
-    pub answers-handler : eqb (a .handler) sigDfl ≡ false → Handler (a .handler) (r .signal) r (a .flags) (t .mask) ≡ delivered t a r
+    pub answers-handler : eqb (a .handler) sigDfl ≡ false
+        → Handler (a .handler) (r .signal) r (a .flags) (t .mask) ≡ delivered t a r
     unfolding delivered
     answers-handler d = sym (cond-false _ _ d)

@@ -1,4 +1,5 @@
--- A take: what is next leaves its queue, then it is delivered; together they are the rules' changes and answer. Assumes nothing.
+-- A take: what is next leaves its queue, then it is delivered; together they are the rules' changes and answer.
+-- Assumes nothing.
 use Prim.Native.Nat.{ℕ, _≤_}
 use mathlib.Core.Path.{_≡_, refl, sym, ap, ap₂, subst, _∙_}
 use mathlib.Core.Bool.{true, false}
@@ -15,7 +16,8 @@ use Rattle.types.specs.declared.Siginfo.{Siginfo}
 use Rattle.rules.specs.Types.{Thread, Queue, Next, noNext, nextMark, nextRecord}
 use Rattle.rules.specs.View.{View, actionOf, liveThread, theProcess, theThread, threadAction}
 use Rattle.rules.specs.Store.{Store, view}
-use Rattle.rules.specs.Taking.{nextSignal, nextQueue, nextIn, next, markInfo, deliver, delivered, takeChanges, takeAnswer}
+use Rattle.rules.specs.Taking.{nextSignal, nextQueue, nextIn, next, markInfo, deliver, delivered, takeChanges}
+use Rattle.rules.specs.Taking.{takeAnswer}
 use Rattle.rules.proofs.Marks.{the-thread-id}
 use Rattle.rules.proofs.TakeFits.{take-fits}
 use Rattle.sound.specs.Lent.{Lent, decoded, viewOf, soundTables}
@@ -59,14 +61,16 @@ next-signal v t n =
     split (eqb s 0)
     (λ z. clash (ap isNothing (cond-true _ _ z)) n)
     (λ z.
-    subst Signal (sym (ap signalIn (cond-false _ _ z) ∙ signal-in v (nextQueue v t s) s (v .oldest (nextQueue v t s) s)))
+    subst Signal
+    (sym (ap signalIn (cond-false _ _ z) ∙ signal-in v (nextQueue v t s) s (v .oldest (nextQueue v t s) s)))
     (next-is-signal v t s refl (eqb-false s 0 z)))
 
 -- ---- what leaves, then what is delivered
 
 module _ (v : View) (t : Thread) where
   takes : (x : declared.Next) → isNothing (nextOf x) ≡ false
-      → takeChanges v t (nextOf x) ≡ dequeueChanges (nextOf x) ++ deliver t (threadAction v t (infoIn (nextOf x) .signal)) (infoIn (nextOf x) .signal)
+      → takeChanges v t (nextOf x) ≡ dequeueChanges (nextOf x)
+      ++ deliver t (threadAction v t (infoIn (nextOf x) .signal)) (infoIn (nextOf x) .signal)
   unfolding nextOf isNothing takeChanges dequeueChanges infoIn markInfo
   takes cases.Nothing n = clash refl n
   takes (cases.Mark process thread s) n = refl
@@ -109,24 +113,31 @@ module _ (l : Lent) (e : soundTables l ≡ true) (thread : ℕ) (live : liveThre
     unfolding threadAction theProcess theThread view decoded
     action-read s a g = g ∙ ap (λ (n : ℕ). actionOf (processNamed (l .processes) n) s) i
 
-  module _ (x : declared.Next) (n : nextOf x ≡ next (view st) t) (y : isNothing (nextOf x) ≡ false) (r : Siginfo) (h : r ≡ infoIn (nextOf x)) where
+  module _ (x : declared.Next) (n : nextOf x ≡ next (view st) t) (y : isNothing (nextOf x) ≡ false) (r : Siginfo)
+      (h : r ≡ infoIn (nextOf x)) where
     pub signal-named : (1 ≤ r .signal) × (r .signal ≤ signals)
     signal-named =
         let g : Signal (r .signal) =
-        subst Signal (ap signalIn (sym n) ∙ signal-of x ∙ ap (λ (z : Siginfo). z .signal) (sym h)) (next-signal (view st) t (ap isNothing (sym n) ∙ y)) in
+        subst Signal (ap signalIn (sym n) ∙ signal-of x ∙ ap (λ (z : Siginfo). z .signal) (sym h))
+        (next-signal (view st) t (ap isNothing (sym n) ∙ y)) in
         (g .low, g .high)
 
-    pub known : (p : ℕ) → p ≡ threadNamed (l .threads) thread .process → (m : SigSet) → m ≡ threadNamed (l .threads) thread .mask → (a : Action) → a ≡ actionOf (processNamed (l .processes) p) (r .signal)
+    pub known : (p : ℕ) → p ≡ threadNamed (l .threads) thread .process
+        → (m : SigSet) → m ≡ threadNamed (l .threads) thread .mask → (a : Action)
+        → a ≡ actionOf (processNamed (l .processes) p) (r .signal)
         → Known l t (threadOf thread p m) x r a
     known p i m k a g =
         let v : View = view st in
         let q : t ≡ threadOf thread p m = thread-read p i m k in
         let b : threadAction v t (r .signal) ≡ a = sym (action-read p i (r .signal) a g) in
         record {
-          ready = ready-as (record { sound = e; fit = take-fits st (store-sound l e) thread live }) (sym (ap (takeChanges v t) n));
+          ready =
+              ready-as (record { sound = e; fit = take-fits st (store-sound l e) thread live })
+              (sym (ap (takeChanges v t) n));
           parts =
               takes v t x y
-              ∙ ap (λ (z : Siginfo). dequeueChanges (nextOf x) ++ deliver t (threadAction v t (z .signal)) (z .signal)) (sym h)
+              ∙ ap (λ (z : Siginfo). dequeueChanges (nextOf x) ++ deliver t (threadAction v t (z .signal)) (z .signal))
+              (sym h)
               ∙ ap₂ (λ (w : Thread) (c : Action). dequeueChanges (nextOf x) ++ deliver w c (r .signal)) q b;
           answering =
               answers v t x y

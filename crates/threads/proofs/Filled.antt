@@ -14,7 +14,8 @@ use Rattle.threads.specs.declared.Thread.{Thread}
 abbrev pub filled : List Thread → List Thread → ℕ → List Thread
 filled d ys i = paste d 0 ys i
 
-pub filled-suc : (d ys : List Thread) (i n : ℕ) → length d ≡ n → length ys ≡ n → i < n → set (filled d ys i) i (getD ys i noThread) ≡ filled d ys (i + 1)
+pub filled-suc : (d ys : List Thread) (i n : ℕ) → length d ≡ n → length ys ≡ n → i < n
+    → set (filled d ys i) i (getD ys i noThread) ≡ filled d ys (i + 1)
 filled-suc d ys i n c e l = paste-more ys d i noThread (omega arith) (omega arith)
 
 pub filled-long : (d ys : List Thread) (i n : ℕ) → length d ≡ n → length ys ≡ n → i ≤ n → length (filled d ys i) ≡ n

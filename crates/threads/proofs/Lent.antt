@@ -1,8 +1,12 @@
--- A `&κ mut [T]` that is lent as a `&κ′ [T]` for a call, and comes back as it was: steps of `Types/Kit.antt`'s calculus, for any element type R. It says nothing of the crate.
---     LentOut          what the holder keeps meanwhile: the lender's part at κ′, and its own borrow at κ, open, with both halves of its ghost variable
---     shares-slice     own (the `&κ mut [T]` ((b, o), γ, ys)) ∗ [κ]_q: own (the `&κ′ [T]` ((b, o), δ, ys)), under some new name δ, and LentOut
+-- A `&κ mut [T]` that is lent as a `&κ′ [T]` for a call, and comes back as it was:
+-- steps of `Types/Kit.antt`'s calculus, for any element type R. It says nothing of the crate.
+--     LentOut          what the holder keeps meanwhile: the lender's part at κ′, and its own borrow at κ, open,
+--                      with both halves of its ghost variable
+--     shares-slice     own (the `&κ mut [T]` ((b, o), γ, ys)) ∗ [κ]_q: own (the `&κ′ [T]` ((b, o), δ, ys)),
+--                      under some new name δ, and LentOut
 --     shared-back      [†κ′] ∗ LentOut: own (the `&κ mut [T]` ((b, o), γ, ys)) ∗ [κ]_q
---     gives-up         own (the `&κ mut [T]` ((b, o), γ, ys)), which is not used any more: its last list is ys, which is what `gave-slice` has at exit
+--     gives-up         own (the `&κ mut [T]` ((b, o), γ, ys)), which is not used any more:
+--                      its last list is ys, which is what `gave-slice` has at exit
 -- Assumes `Given`.
 use mathlib.Core.Path.{refl}
 use Prim.Native.Nat.{ℕ}
@@ -14,7 +18,8 @@ use mir.Syntax.{Lifetime}
 use base.Fml.{Lft, GName, Share, Fml, fsep, flft, fdead, fobs, fauth, fres, flent, fobor}
 use prog.Wp.{Heap}
 use ghost.Atoms.{Atoms}
-use types.Kit.{Goal, Soaks, Given, Item, ‵, _⊛_, some, later, Seq, Step, step, _$_, move, use1, drop, split, pick, fsplit, fjoin, feqI, await}
+use types.Kit.{Goal, Soaks, Given, Item, ‵, _⊛_, some, later, Seq, Step, step, _$_, move, use1, drop, split, pick}
+use types.Kit.{fsplit, fjoin, feqI, await}
 use types.Tokens.{lent-back}
 use types.Share.{arr-parts}
 use denote.RattleType.{RattleType}
@@ -29,23 +34,44 @@ abbrev pub at-list : {X : Type 0} → ℕ → ℕ → GName → List X → RefT 
 at-list b o δ ys = record { ptr = (b, o); name = δ; now = ys }
 
 abbrev pub LentOut : (R : RattleType) → Lft → Lft → Share → GName → ℕ → ℕ → List (R .Denot) → Fml
-LentOut R κ κ′ q γ b o ys = fsep (flent κ′ (arr-parts (shares R) (length ys) .part fullShare ys b o)) (fsep (fobor κ q (Held R (length ys) b o γ)) (fsep (fobs γ (codedHoleys R .code (heres R ys))) (fauth γ (codedHoleys R .code (heres R ys)))))
+LentOut R κ κ′ q γ b o ys =
+    fsep (flent κ′ (arr-parts (shares R) (length ys) .part fullShare ys b o))
+    (fsep (fobor κ q (Held R (length ys) b o γ))
+    (fsep (fobs γ (codedHoleys R .code (heres R ys))) (fauth γ (codedHoleys R .code (heres R ys)))))
 
-module _ {M : Type 1} {𝓤 : URA M} {H : Heap 𝓤} {A : Atoms 𝓤} {K : Type 0} {W : Given 𝓤 H A} {Γ : List (Item 𝓤)} {G : Goal 𝓤 H} where
-  pub shares-slice : K → Soaks G → (R : RattleType) (ℓ ℓ′ : Lifetime) {κ : Lft} {q : Share} {γ : GName} (κ′ : Lft) (b o : ℕ) (ys : List (R .Denot))
-      → ((δ : GName) → Seq K W (‵ (ShrSlice ℓ′ κ′ R .own (at-list b o δ ys) (sliceVal (b, o) (length ys) ∷ [])) ∷ ‵ (LentOut R κ κ′ q γ b o ys) ∷ Γ) G)
+module _ {M : Type 1} {𝓤 : URA M} {H : Heap 𝓤} {A : Atoms 𝓤} {K : Type 0} {W : Given 𝓤 H A} {Γ : List (Item 𝓤)}
+    {G : Goal 𝓤 H} where
+  pub shares-slice : K → Soaks G
+      → (R : RattleType) (ℓ ℓ′ : Lifetime) {κ : Lft} {q : Share} {γ : GName} (κ′ : Lft) (b o : ℕ) (ys : List (R .Denot))
+      → ((δ : GName) → Seq K W (‵ (ShrSlice ℓ′ κ′ R .own (at-list b o δ ys) (sliceVal (b, o) (length ys) ∷ []))
+      ∷ ‵ (LentOut R κ κ′ q γ b o ys) ∷ Γ) G)
       → Seq K W (‵ (MutSlice ℓ κ R .own (at-list b o γ ys) (sliceVal (b, o) (length ys) ∷ [])) ∷ ‵ (flft κ q) ∷ Γ) G
   shares-slice t z R ℓ ℓ′ {κ} {q} {γ} κ′ b o ys k =
-      fsplit t $ pureL t (at-slice R (at-list b o γ ys) (sliceVal (b, o) (length ys) ∷ [])) (λ p. fsplit t $ opens-slice t z R ys b o $ feqI t ℕ (length ys) (length ys) refl $ fjoin t $
-      use1 W (later (some (λ (δ : GName). ‵ (ShrSlice ℓ′ κ′ R .own (at-list b o δ ys) (sliceVal (b, o) (length ys) ∷ [])) ⊛ ‵ (flent κ′ (arr-parts (shares R) (length ys) .part fullShare ys b o))))) (lends-shr-slice 𝓤 H A W R ℓ′ κ′ fullShare ys b o (p .1)) $
-      await t z $ pick t (λ δ. split t $ move t (3 ∷ 4 ∷ []) $ fjoin t $ move t (3 ∷ 0 ∷ []) $ fjoin t $ move t (2 ∷ 0 ∷ []) $ fjoin t $ move t (1 ∷ 0 ∷ []) $ k δ))
+      fsplit t $ pureL t (at-slice R (at-list b o γ ys) (sliceVal (b, o) (length ys) ∷ [])) (λ p. fsplit t $
+      opens-slice t z R ys b o $ feqI t ℕ (length ys) (length ys) refl $ fjoin t $
+      use1 W
+      (later (some (λ (δ : GName). ‵ (ShrSlice ℓ′ κ′ R .own (at-list b o δ ys) (sliceVal (b, o) (length ys) ∷ []))
+      ⊛ ‵ (flent κ′ (arr-parts (shares R) (length ys) .part fullShare ys b o)))))
+      (lends-shr-slice 𝓤 H A W R ℓ′ κ′ fullShare ys b o (p .1)) $
+      await t z $ pick t (λ δ. split t $ move t (3 ∷ 4 ∷ []) $ fjoin t $ move t (3 ∷ 0 ∷ []) $ fjoin t $
+      move t (2 ∷ 0 ∷ []) $ fjoin t $ move t (1 ∷ 0 ∷ []) $ k δ))
 
-  pub shared-back : K → Soaks G → (R : RattleType) (ℓ : Lifetime) {κ κ′ : Lft} {q : Share} {γ : GName} (b o : ℕ) (ys : List (R .Denot)) → Room R (length ys)
-      → Step K W (‵ (MutSlice ℓ κ R .own (at-list b o γ ys) (sliceVal (b, o) (length ys) ∷ [])) ∷ ‵ (flft κ q) ∷ Γ) G (‵ (fdead κ′) ∷ ‵ (LentOut R κ κ′ q γ b o ys) ∷ Γ) G
-  shared-back t z R ℓ {κ} {κ′} {q} {γ} b o ys g = step (λ k. move t (1 ∷ []) $ fsplit t $ move t (2 ∷ 0 ∷ []) $ lent-back t z $ fsplit t $ drop t $ move t (1 ∷ []) $ fsplit t $ move t (1 ∷ []) $ fsplit t $
+  pub shared-back : K → Soaks G
+      → (R : RattleType) (ℓ : Lifetime) {κ κ′ : Lft} {q : Share} {γ : GName} (b o : ℕ) (ys : List (R .Denot))
+      → Room R (length ys)
+      → Step K W (‵ (MutSlice ℓ κ R .own (at-list b o γ ys) (sliceVal (b, o) (length ys) ∷ [])) ∷ ‵ (flft κ q) ∷ Γ) G
+      (‵ (fdead κ′) ∷ ‵ (LentOut R κ κ′ q γ b o ys) ∷ Γ) G
+  shared-back t z R ℓ {κ} {κ′} {q} {γ} b o ys g =
+      step (λ k. move t (1 ∷ []) $ fsplit t $ move t (2 ∷ 0 ∷ []) $ lent-back t z $ fsplit t $ drop t $
+      move t (1 ∷ []) $ fsplit t $ move t (1 ∷ []) $ fsplit t $
       -- [obs; auth; the open borrow; the row]
-      move t (3 ∷ 2 ∷ 0 ∷ 1 ∷ []) $ closes-slice t z R ys ys refl b o $ fjoin t $ pureI t (at-slice R (at-list b o γ ys) (sliceVal (b, o) (length ys) ∷ [])) (tt, (tt, tt)) (refl, g) $ fjoin t $ k)
+      move t (3 ∷ 2 ∷ 0 ∷ 1 ∷ []) $ closes-slice t z R ys ys refl b o $ fjoin t $
+      pureI t (at-slice R (at-list b o γ ys) (sliceVal (b, o) (length ys) ∷ [])) (tt, (tt, tt)) (refl, g) $ fjoin t $ k)
 
-  pub gives-up : K → (R : RattleType) (ℓ : Lifetime) (κ : Lft) (γ : GName) (b o : ℕ) (ys : List (R .Denot)) → Step K W (‵ (finally R γ ys) ∷ Γ) G (‵ (MutSlice ℓ κ R .own (at-list b o γ ys) (sliceVal (b, o) (length ys) ∷ [])) ∷ Γ) G
-  gives-up t R ℓ κ γ b o ys = step (λ k. fsplit t $ drop t $ fsplit t $ move t (1 ∷ []) $ drop t $ use1 W (‵ (fres γ (codedHoleys R .code (heres R ys)))) (W .names .obs-res γ (codedHoleys R .code (heres R ys))) $
+  pub gives-up : K → (R : RattleType) (ℓ : Lifetime) (κ : Lft) (γ : GName) (b o : ℕ) (ys : List (R .Denot))
+      → Step K W (‵ (finally R γ ys) ∷ Γ) G
+      (‵ (MutSlice ℓ κ R .own (at-list b o γ ys) (sliceVal (b, o) (length ys) ∷ [])) ∷ Γ) G
+  gives-up t R ℓ κ γ b o ys =
+      step (λ k. fsplit t $ drop t $ fsplit t $ move t (1 ∷ []) $ drop t $
+      use1 W (‵ (fres γ (codedHoleys R .code (heres R ys)))) (W .names .obs-res γ (codedHoleys R .code (heres R ys))) $
       use1 W (‵ (finally R γ ys)) (res-finally 𝓤 H A W ℓ κ R γ ys) $ k)

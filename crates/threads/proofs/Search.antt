@@ -21,11 +21,13 @@ Passed ys id i = find (hasId id) ys ≡ i + find (hasId id) (drop i ys)
 pub starts : (ys : List Thread) (id : ℕ) → Passed ys id 0
 starts ys id = find-none (hasId id) noThread ys
 
-pub found : (ys : List Thread) (id i : ℕ) → i < length ys → Passed ys id i → T (eqb (getD ys i noThread .id) id) → i ≡ find (hasId id) ys
+pub found : (ys : List Thread) (id i : ℕ) → i < length ys → Passed ys id i → T (eqb (getD ys i noThread .id) id)
+    → i ≡ find (hasId id) ys
 unfolding hasId
 found ys id i l e y = sym (find-here (hasId id) noThread ys i l e (is-true _ y))
 
-pub passed : (ys : List Thread) (id i : ℕ) → i < length ys → Passed ys id i → T (not (eqb (getD ys i noThread .id) id)) → Passed ys id (i + 1)
+pub passed : (ys : List Thread) (id i : ℕ) → i < length ys → Passed ys id i → T (not (eqb (getD ys i noThread .id) id))
+    → Passed ys id (i + 1)
 unfolding hasId
 passed ys id i l e y = find-more (hasId id) noThread ys i l e (is-false _ y)
 
@@ -33,9 +35,11 @@ pub at-end : (ys : List Thread) (id i : ℕ) → i ≡ length ys → Passed ys i
 at-end ys id i e p = sym (find-done (hasId id) noThread ys i (le-of-eq (sym e)) p)
 
 -- the place found, inside the row and past its end
-pub mask-changed-at : (ys zs : List Thread) (id i : ℕ) (m : SigSet) → i ≡ find (hasId id) ys → zs ≡ set ys i (withMask m (getD ys i noThread)) → zs ≡ withMaskAt id m ys
+pub mask-changed-at : (ys zs : List Thread) (id i : ℕ) (m : SigSet) → i ≡ find (hasId id) ys
+    → zs ≡ set ys i (withMask m (getD ys i noThread)) → zs ≡ withMaskAt id m ys
 unfolding withMaskAt
 mask-changed-at ys zs id i m e z = z ∙ ap (λ (k : ℕ). set ys k (withMask m (getD ys k noThread))) e
 
-pub mask-changed-out : (ys : List Thread) (id i : ℕ) (m : SigSet) → i ≡ find (hasId id) ys → length ys ≤ i → ys ≡ withMaskAt id m ys
+pub mask-changed-out : (ys : List Thread) (id i : ℕ) (m : SigSet) → i ≡ find (hasId id) ys → length ys ≤ i
+    → ys ≡ withMaskAt id m ys
 mask-changed-out ys id i m e l = mask-changed-at ys ys id i m e (sym (set-out ys i _ l))

@@ -31,7 +31,12 @@ recordTo t = t .id ∷ t .process ∷ t .mask .0 ∷ t .marks .0 ∷ []
 
 unfoldable pub recordFrom : List ℕ → Thread
 recordFrom l =
-    record { id = getD l threadId 0; process = getD l threadProcess 0; mask = bits (getD l threadMask 0); marks = bits (getD l threadMarks 0) }
+    record {
+      id = getD l threadId 0;
+      process = getD l threadProcess 0;
+      mask = bits (getD l threadMask 0);
+      marks = bits (getD l threadMarks 0);
+    }
 
 -- a row of records as words, and n rows of words as records
 unfoldable pub wordsOf : List Thread → List ℕ

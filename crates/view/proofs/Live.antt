@@ -9,7 +9,8 @@ use Rattle.sigset.specs.declared.SigSet.{SigSet}
 use Rattle.sigset.specs.Set.{Signal, has, setOf, union}
 use Rattle.sigset.proofs.Laws.{has-set, has-union}
 use Rattle.rules.specs.Types.{Thread, Queue}
-use Rattle.rules.specs.View.{View, isProcess, isThread, processQueue, threadQueue, targetQueue, liveProcess, liveThread, theProcess, theThread, pendingIn, pendingFor}
+use Rattle.rules.specs.View.{View, isProcess, isThread, processQueue, threadQueue, targetQueue, liveProcess, liveThread}
+use Rattle.rules.specs.View.{theProcess, theThread, pendingIn, pendingFor}
 use Rattle.rules.specs.Store.{view}
 use Rattle.rules.specs.Sound.{goodId}
 use Rattle.rules.specs.Refusals.{noProcessLive, noThreadLive}
@@ -34,7 +35,8 @@ module _ (l : Lent) (n : ℕ) where
   thread-named = refl
 
   -- the row of a refusal, from what the search told
-  pub no-process : (r : Bool) → r ≡ any (isProcess n) (heldProcesses (l .processes)) → noProcessLive (viewOf l) n ≡ not r
+  pub no-process : (r : Bool) → r ≡ any (isProcess n) (heldProcesses (l .processes))
+      → noProcessLive (viewOf l) n ≡ not r
   unfolding noProcessLive liveProcess view decoded
   no-process r e = ap not (sym e)
 
@@ -63,7 +65,8 @@ module _ (l : Lent) (e : soundTables l ≡ true) (t : ℕ) (live : liveThread (v
       ∙ process-id (decoded l) (store-sound l e) _ (owner-live (decoded l) (store-sound l e) t live)
 
   -- what asking for its process takes
-  pub owner-known : (length (l .threads) ≡ threadTable) × ((any (isThread t) (heldThreads (l .threads)) ≡ true) × (goodId (threadNamed (l .threads) t .process) ≡ true))
+  pub owner-known : (length (l .threads) ≡ threadTable)
+      × ((any (isThread t) (heldThreads (l .threads)) ≡ true) × (goodId (threadNamed (l .threads) t .process) ≡ true))
   owner-known = (threads-long l e, (thread-listed l t live, owner-good))
 
   module _ (p : ℕ) (o : p ≡ threadNamed (l .threads) t .process) where
@@ -82,7 +85,8 @@ module _ (l : Lent) (e : soundTables l ≡ true) (t : ℕ) (live : liveThread (v
 
 -- ---- what is pending for a thread, from both queues as they were read
 
-module _ (v : View) (th : Thread) (own shared : SigSet) (h : own ≡ setOf (pendingIn v (threadQueue th))) (k : shared ≡ setOf (pendingIn v (processQueue (th .process)))) where
+module _ (v : View) (th : Thread) (own shared : SigSet) (h : own ≡ setOf (pendingIn v (threadQueue th)))
+    (k : shared ≡ setOf (pendingIn v (processQueue (th .process)))) where
   pub pending-union : (s : ℕ) → Signal s → has (union own shared) s ≡ pendingFor v th s
   unfolding pendingFor
   pending-union s g =
@@ -91,7 +95,8 @@ module _ (v : View) (th : Thread) (own shared : SigSet) (h : own ≡ setOf (pend
       (ap (λ (x : SigSet). has x s) h ∙ has-set (pendingIn v (threadQueue th)) s g)
       (ap (λ (x : SigSet). has x s) k ∙ has-set (pendingIn v (processQueue (th .process))) s g)
 
-module _ (l : Lent) (t p : ℕ) (o : p ≡ threadNamed (l .threads) t .process) (live : liveThread (viewOf l) t ≡ true) where
+module _ (l : Lent) (t p : ℕ) (o : p ≡ threadNamed (l .threads) t .process)
+    (live : liveThread (viewOf l) t ≡ true) where
   pub pending-both : (own shared : SigSet) → own ≡ setOf (pendingIn (viewOf l) (targetQueue p t))
       → shared ≡ setOf (pendingIn (viewOf l) (targetQueue p 0)) → (s : ℕ) → Signal s
       → has (union own shared) s ≡ pendingFor (viewOf l) (theThread (viewOf l) t) s

@@ -1,4 +1,5 @@
--- The process and the thread that an id names in the lent words; the rules' theProcess and theThread, each by its own table.
+-- The process and the thread that an id names in the lent words;
+-- the rules' theProcess and theThread, each by its own table.
 use Prim.Native.Nat.{ℕ}
 use mathlib.Core.List.{List}
 use mathlib.Core.Option.{Option·getD}

@@ -1,4 +1,5 @@
-// What the rules read of the lent tables: who is live, the fields of a process or a thread by id, and what is pending in a queue.
+// What the rules read of the lent tables: who is live, the fields of a process or a thread by id,
+// and what is pending in a queue.
 ghost use mathlib.Core.Path.{_≡_};
 ghost use mathlib.Core.Bool.{true, not, cond};
 ghost use mathlib.Core.List.{[], _∷_};
@@ -159,7 +160,8 @@ pub fn marks_of(ps: &[u64], ts: &[u64], tb: &[u8], pb: &[u8], process: u32, thre
 // The signals that have a record in it.
 fn queued_of(tb: &[u8], pb: &[u8], process: u32, thread: u32) -> SigSet
     requires { ⌜ (length (now tb) ≡ bufferBytes) × (length (now pb) ≡ bufferBytes) ⌝ }
-    ensures { λ r. ⌜ r ≡ signalsIn (targetQueue process thread) (recordsOf (cond (eqb thread 0) (now (pb .entry)) (now (tb .entry)))) ⌝ }
+    ensures { λ r. ⌜ r ≡ signalsIn (targetQueue process thread)
+        (recordsOf (cond (eqb thread 0) (now (pb .entry)) (now (tb .entry)))) ⌝ }
 {
     if thread == 0 {
         return queue::signals_of(pb, process, thread);
@@ -182,7 +184,8 @@ pub fn pending_of(ps: &[u64], ts: &[u64], tb: &[u8], pb: &[u8], process: u32, th
 
 // 14 where the tables are not sound, 3 where the process is not live, else 0.
 pub fn process_refusal(ps: &[u64], ts: &[u64], tb: &[u8], pb: &[u8], process: u32) -> u32
-    ensures { λ r. ⌜ r ≡ rowsOn (esrch (noProcessLive (viewOf (before ps ts tb pb)) process) ∷ []) (before ps ts tb pb) ⌝ }
+    ensures { λ r. ⌜ r ≡ rowsOn (esrch (noProcessLive (viewOf (before ps ts tb pb)) process) ∷ [])
+        (before ps ts tb pb) ⌝ }
 {
     if !sound::sound(ps, ts, tb, pb) {
         return EFAULT;
@@ -195,7 +198,8 @@ pub fn process_refusal(ps: &[u64], ts: &[u64], tb: &[u8], pb: &[u8], process: u3
 
 // The same of a thread.
 pub fn thread_refusal(ps: &[u64], ts: &[u64], tb: &[u8], pb: &[u8], thread: u32) -> u32
-    ensures { λ r. ⌜ r ≡ rowsOn (esrch (noThreadLive (viewOf (before ps ts tb pb)) thread) ∷ []) (before ps ts tb pb) ⌝ }
+    ensures { λ r. ⌜ r ≡ rowsOn (esrch (noThreadLive (viewOf (before ps ts tb pb)) thread) ∷ [])
+        (before ps ts tb pb) ⌝ }
 {
     if !sound::sound(ps, ts, tb, pb) {
         return EFAULT;

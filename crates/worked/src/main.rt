@@ -1,5 +1,6 @@
-// A worked history: a table of calls, the first of them clear, made one after the other through the boundary's entry. After each it writes the call, its
-// answer, and what the tables then say, read from their words and bytes. host/ledger reads it.
+// A worked history: a table of calls, the first of them clear, made one after the other through the boundary's entry.
+// After each it writes the call, its answer, and what the tables then say, read from their words and bytes.
+// host/ledger reads it.
 use limits::ANSWER_WORDS;
 use limits::BUFFER_BYTES;
 use limits::CALL_ADD_PROCESS;
@@ -111,7 +112,8 @@ fn row_at(k: u64) -> Row {
         19 => Row::Look(WORKER),
         20 => Row::Take(WORKER),
         21 => Row::Return(WORKER, ONLY_INT),
-        // Storing ignore discards the records that are left; KILL discards what a thread has pending, and a send finds nobody.
+        // Storing ignore discards the records that are left;
+        // KILL discards what a thread has pending, and a send finds nobody.
         22 => Row::Action(PROCESS, BLOCKED, SIG_IGN, 0),
         23 => Row::Queue(OPERATOR, PROCESS, WORKER, OTHER, 5),
         24 => Row::Pending(MAIN),

@@ -9,24 +9,22 @@ use std::fmt::Write;
 const INTRODUCTION: &str = "\
 # A worked history
 
-This page is written by a program and not by hand. `crates/worked` makes the calls below through the dispatcher, one \
-after the other, and after each writes the call, its answer and what the
-four tables say. `host/ledger` reads that and writes the page; `.ci/history` does it again and compares.
+This page is written by a program and not by hand. `crates/worked` makes the calls below through the dispatcher, one
+after the other, and after each writes the call, its answer and what the four tables say. `host/ledger` reads that and
+writes the page; `.ci/history` does it again and compares.
 
-The ledger is the one of document 01's demand 3. It starts empty. Of a call it gets the arguments and whether it was \
-refused, and nothing of the tables: what its column says it has worked out from
-the calls above. It holds processes with their actions, threads with their masks, and for each queue and signal the \
-queued sends, the oldest first, and the mark, with counts of the sends kept,
-taken and discarded. A refused call leaves it alone.
+The ledger is the one of document 01's demand 3. It starts empty. Of a call it gets the arguments and whether it was
+refused, and nothing of the tables: what its column says it has worked out from the calls above. It holds processes with
+their actions, threads with their masks, and for each queue and signal the queued sends, the oldest first, and the mark,
+with counts of the sends kept, taken and discarded. A refused call leaves it alone.
 
-Each call stands with its answer, and under it what each side has after the call. The left column says of what, the \
-middle one is the ledger's, the right one is read from the words and bytes of the
-tables. A mask is in hexadecimal, signal s being bit s-1, and its signals follow. A queued send is signal:value. A \
-count is of one queue and signal over the whole history, and the tables' share in
-it is what they have pending. The page is written only where both columns agree in everything they show, and also in \
-user ids, sessions and the other fields of a record; where every count
-balances, kept = taken + discarded + pending, with the tables' pending; and where every answer, refusals too, is the \
-one that the ledger gives.
+Each call stands with its answer, and under it what each side has after the call. The left column says of what, the
+middle one is the ledger's, the right one is read from the words and bytes of the tables. A mask is in hexadecimal,
+signal s being bit s-1, and its signals follow. A queued send is signal:value. A count is of one queue and signal over
+the whole history, and the tables' share in it is what they have pending. The page is written only where both columns
+agree in everything they show, and also in user ids, sessions and the other fields of a record; where every count
+balances, kept = taken + discarded + pending, with the tables' pending; and where every answer, refusals too, is the one
+that the ledger gives.
 ";
 
 pub fn page(steps: &[Step]) -> Result<String, String> {
@@ -159,7 +157,7 @@ fn process(process: &Process) -> String {
         "running"
     });
     for (signal, action) in &process.actions {
-        said += &format!("; action of {signal}: {action}");
+        said += &format!("; action {signal}: {action}");
     }
     said
 }

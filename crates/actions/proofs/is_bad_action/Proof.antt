@@ -17,7 +17,8 @@ unfolding badAction overLast newAction
 returns c =
     let s = c .before .args .signal in
     ap (λ g. ltb signals s || (eqb s 0 || (g && isUnmaskable s)))
-    (⊎-elim (λ w. w .2 ∙ ap (λ x. isSome (newAction x)) (sym (w .1 .given .1))) (λ w. w .2 ∙ ap (λ x. isSome (newAction x)) (sym (w .1 .given .1))) (c .match .came))
+    (⊎-elim (λ w. w .2 ∙ ap (λ x. isSome (newAction x)) (sym (w .1 .given .1)))
+    (λ w. w .2 ∙ ap (λ x. isSome (newAction x)) (sym (w .1 .given .1))) (c .match .came))
 
 pub is-bad-action-spec : {M : Type 1} → statement M
 is-bad-action-spec = tie.close (tie.spec (λ c. search needs) (λ c. search needs) returns)

@@ -37,44 +37,78 @@ action-of-requires c κs =
 store-action-requires : tie.Need-store-action-requires
 unfolding newAction
 store-action-requires c κs =
-    let a = c .before .before .before .before .before .before .before .before .before .before .before .before .before .before .before .before .before .before .before .before in
+    let a = c .before .before .before .before .before .before .before .before .before .before .before .before .before
+    .before .before .before .before .before .before .before in
     let l = given (a .args .ps) (a .args .ts) (a .args .tb) (a .args .pb) in
     let p = a .args .process in
     let s = a .args .signal in
     let new = newAction (a .args .new) in
-    let e = sym (c .before .before .before .before .before .before .before .before .before .before .before .action-refusal .ensures) ∙ c .before .before .before .before .before .before .before .before .before .before .if1 .left in
+    let e =
+    sym
+    (c .before .before .before .before .before .before .before .before .before .before .before .action-refusal .ensures)
+    ∙ c .before .before .before .before .before .before .before .before .before .before .if1 .left in
     let d = action-accepted l p s new e in
-    action-ready l p s new e (c .before .before .before .before .before .before .new .given .0 .0) (c .stored-of .result) (ap newAction (c .before .before .before .before .before .before .new .given .1)) (c .stored-of .ensures)
+    action-ready l p s new e (c .before .before .before .before .before .before .new .given .0 .0)
+    (c .stored-of .result) (ap newAction (c .before .before .before .before .before .before .new .given .1))
+    (c .stored-of .ensures)
 
 returns-2 : tie.Need-returns-2
 unfolding newAction
 returns-2 c =
-    let a = c .before .before .before .before .before .before .before .before .before .before .before .before .before .before in
+    let a =
+    c .before .before .before .before .before .before .before .before .before .before .before .before .before .before in
     let l = given (a .args .ps) (a .args .ts) (a .args .tb) (a .args .pb) in
     let p = a .args .process in
     let s = a .args .signal in
     let new = newAction (a .args .new) in
-    let e = sym (c .before .before .before .before .before .action-refusal .ensures) ∙ c .before .before .before .before .if1 .left in
-    action-kept l p s new e (c .before .before .action-of .result) (c .before .before .action-of .ensures) (ap newAction (c .enum-told .given .1)) (bytes-each (l .threadBuffer) (λ i. omega (arith, c .before .before .before .before .before .before .before .before .before .before .before .slice-known3 .given i)))
-    (bytes-each (l .processBuffer) (λ i. omega (arith, c .before .before .before .before .before .before .before .before .before .before .slice-known4 .given i)))
+    let e =
+    sym (c .before .before .before .before .before .action-refusal .ensures)
+    ∙ c .before .before .before .before .if1 .left in
+    action-kept l p s new e (c .before .before .action-of .result) (c .before .before .action-of .ensures)
+    (ap newAction (c .enum-told .given .1)) (bytes-each (l .threadBuffer) (λ i. omega (
+      arith,
+      c .before .before .before .before .before .before .before .before .before .before .before .slice-known3 .given i,
+    )))
+    (bytes-each (l .processBuffer) (λ i. omega
+    (arith, c .before .before .before .before .before .before .before .before .before .before .slice-known4 .given i)))
 
 returns-3 : tie.Need-returns-3
 unfolding newAction
 returns-3 c =
     let w = c .before .before .before .before .before .before .before .before in
-    let a = c .before .before .before .before .before .before .before .before .before .before .before .before .before .before .before .before .before .before .before .before .before .before .before .before .before .before .before .before .before in
+    let a = c .before .before .before .before .before .before .before .before .before .before .before .before .before
+    .before .before .before .before .before .before .before .before .before .before .before .before .before .before
+    .before .before in
     let l = given (a .args .ps) (a .args .ts) (a .args .tb) (a .args .pb) in
     let p = a .args .process in
     let s = a .args .signal in
     let new = newAction (a .args .new) in
-    let e = sym (c .before .before .before .before .before .before .before .before .before .before .before .before .before .before .before .before .before .before .before .before .action-refusal .ensures) ∙ c .before .before .before .before .before .before .before .before .before .before .before .before .before .before .before .before .before .before .before .if1 .left in
+    let e = sym (c .before .before .before .before .before .before .before .before .before .before .before
+    .before .before .before .before .before .before .before .before .before .action-refusal .ensures)
+    ∙ c .before .before .before .before .before .before .before .before .before .before .before .before .before .before
+    .before .before .before .before .before .if1 .left in
     let ps′ = w .store-action .last .0 in
     let ts′ = w .store-action .last .1 .0 in
     let tb′ = w .store-action .last .1 .1 .0 in
     let pb′ = w .store-action .last .1 .1 .1 .0 in
-    action-stored l p s new e (c .before .before .before .before .before .before .before .before .before .before .before .before .before .before .before .new .given .0 .0) (c .before .before .before .before .before .before .before .before .before .stored-of .result) (ap newAction (c .before .before .before .before .before .before .before .before .before .before .before .before .before .before .before .new .given .1)) (c .before .before .before .before .before .before .before .before .before .stored-of .ensures)
-    (c .before .before .before .before .before .before .before .before .before .before .before .before .before .before .before .before .before .action-of .result) (c .before .before .before .before .before .before .before .before .before .before .before .before .before .before .before .before .before .action-of .ensures) (lent ps′ ts′ tb′ pb′)
-    (record { processes = search needs; threads = search needs; threadBuffer = search needs; processBuffer = search needs })
+    action-stored l p s new e
+    (c .before .before .before .before .before .before .before .before
+    .before .before .before .before .before .before .before .new .given .0 .0)
+    (c .before .before .before .before .before .before .before .before .before .stored-of .result)
+    (ap newAction (c .before .before .before .before .before .before .before
+    .before .before .before .before .before .before .before .before .new .given .1))
+    (c .before .before .before .before .before .before .before .before .before .stored-of .ensures)
+    (c .before .before .before .before .before .before .before .before .before .before
+    .before .before .before .before .before .before .before .action-of .result)
+    (c .before .before .before .before .before .before .before .before .before .before
+    .before .before .before .before .before .before .before .action-of .ensures)
+    (lent ps′ ts′ tb′ pb′)
+    (record {
+      processes = search needs;
+      threads = search needs;
+      threadBuffer = search needs;
+      processBuffer = search needs;
+    })
     (bytes-each tb′ (λ i. omega (arith, c .before .before .slice-known7 .given i)))
     (bytes-each pb′ (λ i. omega (arith, c .slice-known8 .given i))) (w .store-action .ensures)
 

@@ -40,7 +40,8 @@ returns-2 c =
     let a = k .before .before .before .before in
     process-added (given (a .args .ps) (a .args .ts) (a .args .tb) (a .args .pb))
     (a .args .new) (r .add-process-refusal .result) (r .add-process-refusal .ensures)
-    (p .new-process .last .0) (t .new-thread .last .0) (t .before .maskable .result) (t .before .maskable .ensures) (p .new-process .ensures) (t .new-thread .ensures)
+    (p .new-process .last .0) (t .new-thread .last .0) (t .before .maskable .result) (t .before .maskable .ensures)
+    (p .new-process .ensures) (t .new-thread .ensures)
     (i .if1 .left) (search needs) (search needs)
     (bytes-each (a .args .tb .now) (λ i. omega (arith, k .before .slice-known3 .given i)))
     (bytes-each (a .args .pb .now) (λ i. omega (arith, k .slice-known4 .given i)))

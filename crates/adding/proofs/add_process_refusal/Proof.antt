@@ -29,14 +29,16 @@ is-process-requires c κs =
     let i = c .before in
     let s = i .before .before .before in
     let a = s .before .before .before .before .before in
-    processes-long (given (a .args .ps) (a .args .ts) (a .args .tb) (a .args .pb)) (sym (s .sound .ensures) ∙ not-false (s .sound .result) (i .before .before .if1 .left))
+    processes-long (given (a .args .ps) (a .args .ts) (a .args .tb) (a .args .pb))
+    (sym (s .sound .ensures) ∙ not-false (s .sound .result) (i .before .before .if1 .left))
 
 is-thread-requires : tie.Need-is-thread-requires
 is-thread-requires c κs =
     let i = c .before .before in
     let s = i .before .before .before in
     let a = s .before .before .before .before .before in
-    threads-long (given (a .args .ps) (a .args .ts) (a .args .tb) (a .args .pb)) (sym (s .sound .ensures) ∙ not-false (s .sound .result) (i .before .before .if1 .left))
+    threads-long (given (a .args .ps) (a .args .ts) (a .args .tb) (a .args .pb))
+    (sym (s .sound .ensures) ∙ not-false (s .sound .result) (i .before .before .if1 .left))
 
 returns-3 : tie.Need-returns-3
 returns-3 c =
@@ -46,8 +48,10 @@ returns-3 c =
     let a = s .before .before .before .before .before in
     process-there (given (a .args .ps) (a .args .ts) (a .args .tb) (a .args .pb))
     (a .args .new) (s .sound .result) (s .sound .ensures) (i .before .before .if1 .left)
-    (i .before .is-id .result) (i .is-id2 .result) (i .before .is-id .ensures) (i .is-id2 .ensures) (t .before .before .if2 .left)
-    (t .before .is-process .result) (t .is-thread .result) (t .before .is-process .ensures) (t .is-thread .ensures) (c .if3 .taken)
+    (i .before .is-id .result) (i .is-id2 .result) (i .before .is-id .ensures) (i .is-id2 .ensures)
+    (t .before .before .if2 .left)
+    (t .before .is-process .result) (t .is-thread .result) (t .before .is-process .ensures) (t .is-thread .ensures)
+    (c .if3 .taken)
 
 has-process-place-requires : tie.Need-has-process-place-requires
 has-process-place-requires c κs =
@@ -55,7 +59,8 @@ has-process-place-requires c κs =
     let i = t .before .before .before in
     let s = i .before .before .before in
     let a = s .before .before .before .before .before in
-    processes-long (given (a .args .ps) (a .args .ts) (a .args .tb) (a .args .pb)) (sym (s .sound .ensures) ∙ not-false (s .sound .result) (i .before .before .if1 .left))
+    processes-long (given (a .args .ps) (a .args .ts) (a .args .tb) (a .args .pb))
+    (sym (s .sound .ensures) ∙ not-false (s .sound .result) (i .before .before .if1 .left))
 
 has-thread-place-requires : tie.Need-has-thread-place-requires
 has-thread-place-requires c κs =
@@ -63,7 +68,8 @@ has-thread-place-requires c κs =
     let i = t .before .before .before in
     let s = i .before .before .before in
     let a = s .before .before .before .before .before in
-    threads-long (given (a .args .ps) (a .args .ts) (a .args .tb) (a .args .pb)) (sym (s .sound .ensures) ∙ not-false (s .sound .result) (i .before .before .if1 .left))
+    threads-long (given (a .args .ps) (a .args .ts) (a .args .tb) (a .args .pb))
+    (sym (s .sound .ensures) ∙ not-false (s .sound .result) (i .before .before .if1 .left))
 
 returns-4 : tie.Need-returns-4
 returns-4 c =
@@ -74,9 +80,12 @@ returns-4 c =
     let a = s .before .before .before .before .before in
     process-full (given (a .args .ps) (a .args .ts) (a .args .tb) (a .args .pb))
     (a .args .new) (s .sound .result) (s .sound .ensures) (i .before .before .if1 .left)
-    (i .before .is-id .result) (i .is-id2 .result) (i .before .is-id .ensures) (i .is-id2 .ensures) (t .before .before .if2 .left)
-    (t .before .is-process .result) (t .is-thread .result) (t .before .is-process .ensures) (t .is-thread .ensures) (q .before .before .if3 .left)
-    (q .before .has-process-place .result) (q .has-thread-place .result) (q .before .has-process-place .ensures) (q .has-thread-place .ensures) (c .if4 .taken)
+    (i .before .is-id .result) (i .is-id2 .result) (i .before .is-id .ensures) (i .is-id2 .ensures)
+    (t .before .before .if2 .left)
+    (t .before .is-process .result) (t .is-thread .result) (t .before .is-process .ensures) (t .is-thread .ensures)
+    (q .before .before .if3 .left)
+    (q .before .has-process-place .result) (q .has-thread-place .result) (q .before .has-process-place .ensures)
+    (q .has-thread-place .ensures) (c .if4 .taken)
 
 returns-5 : tie.Need-returns-5
 returns-5 c =
@@ -87,9 +96,12 @@ returns-5 c =
     let a = s .before .before .before .before .before in
     process-accepted (given (a .args .ps) (a .args .ts) (a .args .tb) (a .args .pb))
     (a .args .new) (s .sound .result) (s .sound .ensures) (i .before .before .if1 .left)
-    (i .before .is-id .result) (i .is-id2 .result) (i .before .is-id .ensures) (i .is-id2 .ensures) (t .before .before .if2 .left)
-    (t .before .is-process .result) (t .is-thread .result) (t .before .is-process .ensures) (t .is-thread .ensures) (q .before .before .if3 .left)
-    (q .before .has-process-place .result) (q .has-thread-place .result) (q .before .has-process-place .ensures) (q .has-thread-place .ensures) (c .if4 .left)
+    (i .before .is-id .result) (i .is-id2 .result) (i .before .is-id .ensures) (i .is-id2 .ensures)
+    (t .before .before .if2 .left)
+    (t .before .is-process .result) (t .is-thread .result) (t .before .is-process .ensures) (t .is-thread .ensures)
+    (q .before .before .if3 .left)
+    (q .before .has-process-place .result) (q .has-thread-place .result) (q .before .has-process-place .ensures)
+    (q .has-thread-place .ensures) (c .if4 .left)
 
 pub add-process-refusal-spec : {M : Type 1} → statement M
 add-process-refusal-spec =

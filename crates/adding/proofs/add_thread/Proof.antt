@@ -49,7 +49,8 @@ returns-2 c =
     let a = k .before .before .before .before in
     thread-added (given (a .args .ps) (a .args .ts) (a .args .tb) (a .args .pb))
     (a .args .creator) (a .args .id) (r .add-thread-refusal .result) (r .add-thread-refusal .ensures) (i .if1 .left)
-    (t .new-thread .last .0) (p .process-of .result) (m .mask-of .result) (p .process-of .ensures) (m .mask-of .ensures) (t .new-thread .ensures) (search needs)
+    (t .new-thread .last .0) (p .process-of .result) (m .mask-of .result) (p .process-of .ensures) (m .mask-of .ensures)
+    (t .new-thread .ensures) (search needs)
     (bytes-each (a .args .tb .now) (λ i. omega (arith, k .before .slice-known3 .given i)))
     (bytes-each (a .args .pb .now) (λ i. omega (arith, k .slice-known4 .given i)))
 

@@ -2,7 +2,9 @@
 use mathlib.Core.Path.{_≡_, ap, _∙_}
 use native.Mathlib.Omega.{arith}
 use borrow.Author.Needs.{needs}
-use Rattle.limits.specs.Limits.{callClear, callAddProcess, callAddThread, callEndProcess, callEndThread, callKill, callSigqueue, callSigaction, callSigmask, callSigpending, callLook, callWho, callTake, callSigreturn}
+use Rattle.limits.specs.Limits.{callClear, callAddProcess, callAddThread, callEndProcess, callEndThread, callKill}
+use Rattle.limits.specs.Limits.{callSigqueue, callSigaction, callSigmask, callSigpending, callLook, callWho, callTake}
+use Rattle.limits.specs.Limits.{callSigreturn}
 use Rattle.rules.specs.Types.{addProcess, sigaction, sigmask}
 use Rattle.calls.specs.Calls.{placingOf, sendingOf, settingOf, askingOf, callOf}
 use Rattle.boundary.specs.Boundary.{arguments, callsOf, numbered}
@@ -14,7 +16,8 @@ returns : tie.Need-returns
 unfolding callOf placingOf sendingOf settingOf askingOf numbered callsOf
 returns c =
     let a = c .before .args in
-    at-number (a .number) callClear (arguments (a .a) (a .b) (a .c) (a .d) (a .e) (a .f) (a .x) (a .y) (a .z)) (c .match .keys1)
+    at-number (a .number) callClear (arguments (a .a) (a .b) (a .c) (a .d) (a .e) (a .f) (a .x) (a .y) (a .z))
+    (c .match .keys1)
 
 returns-2 : tie.Need-returns-2
 unfolding callOf placingOf sendingOf settingOf askingOf numbered callsOf
@@ -27,31 +30,36 @@ returns-3 : tie.Need-returns-3
 unfolding callOf placingOf sendingOf settingOf askingOf numbered callsOf
 returns-3 c =
     let a = c .before .args in
-    at-number (a .number) callAddThread (arguments (a .a) (a .b) (a .c) (a .d) (a .e) (a .f) (a .x) (a .y) (a .z)) (c .match .keys3)
+    at-number (a .number) callAddThread (arguments (a .a) (a .b) (a .c) (a .d) (a .e) (a .f) (a .x) (a .y) (a .z))
+    (c .match .keys3)
 
 returns-4 : tie.Need-returns-4
 unfolding callOf placingOf sendingOf settingOf askingOf numbered callsOf
 returns-4 c =
     let a = c .before .args in
-    at-number (a .number) callEndProcess (arguments (a .a) (a .b) (a .c) (a .d) (a .e) (a .f) (a .x) (a .y) (a .z)) (c .match .keys4)
+    at-number (a .number) callEndProcess (arguments (a .a) (a .b) (a .c) (a .d) (a .e) (a .f) (a .x) (a .y) (a .z))
+    (c .match .keys4)
 
 returns-5 : tie.Need-returns-5
 unfolding callOf placingOf sendingOf settingOf askingOf numbered callsOf
 returns-5 c =
     let a = c .before .args in
-    at-number (a .number) callEndThread (arguments (a .a) (a .b) (a .c) (a .d) (a .e) (a .f) (a .x) (a .y) (a .z)) (c .match .keys5)
+    at-number (a .number) callEndThread (arguments (a .a) (a .b) (a .c) (a .d) (a .e) (a .f) (a .x) (a .y) (a .z))
+    (c .match .keys5)
 
 returns-6 : tie.Need-returns-6
 unfolding callOf placingOf sendingOf settingOf askingOf numbered callsOf
 returns-6 c =
     let a = c .before .args in
-    at-number (a .number) callKill (arguments (a .a) (a .b) (a .c) (a .d) (a .e) (a .f) (a .x) (a .y) (a .z)) (c .match .keys6)
+    at-number (a .number) callKill (arguments (a .a) (a .b) (a .c) (a .d) (a .e) (a .f) (a .x) (a .y) (a .z))
+    (c .match .keys6)
 
 returns-7 : tie.Need-returns-7
 unfolding callOf placingOf sendingOf settingOf askingOf numbered callsOf
 returns-7 c =
     let a = c .before .args in
-    at-number (a .number) callSigqueue (arguments (a .a) (a .b) (a .c) (a .d) (a .e) (a .f) (a .x) (a .y) (a .z)) (c .match .keys7)
+    at-number (a .number) callSigqueue (arguments (a .a) (a .b) (a .c) (a .d) (a .e) (a .f) (a .x) (a .y) (a .z))
+    (c .match .keys7)
 
 returns-8 : tie.Need-returns-8
 unfolding callOf placingOf sendingOf settingOf askingOf numbered callsOf
@@ -73,25 +81,29 @@ returns-10 : tie.Need-returns-10
 unfolding callOf placingOf sendingOf settingOf askingOf numbered callsOf
 returns-10 c =
     let a = c .before .args in
-    at-number (a .number) callSigpending (arguments (a .a) (a .b) (a .c) (a .d) (a .e) (a .f) (a .x) (a .y) (a .z)) (c .match .keys10)
+    at-number (a .number) callSigpending (arguments (a .a) (a .b) (a .c) (a .d) (a .e) (a .f) (a .x) (a .y) (a .z))
+    (c .match .keys10)
 
 returns-11 : tie.Need-returns-11
 unfolding callOf placingOf sendingOf settingOf askingOf numbered callsOf
 returns-11 c =
     let a = c .before .args in
-    at-number (a .number) callLook (arguments (a .a) (a .b) (a .c) (a .d) (a .e) (a .f) (a .x) (a .y) (a .z)) (c .match .keys11)
+    at-number (a .number) callLook (arguments (a .a) (a .b) (a .c) (a .d) (a .e) (a .f) (a .x) (a .y) (a .z))
+    (c .match .keys11)
 
 returns-12 : tie.Need-returns-12
 unfolding callOf placingOf sendingOf settingOf askingOf numbered callsOf
 returns-12 c =
     let a = c .before .args in
-    at-number (a .number) callWho (arguments (a .a) (a .b) (a .c) (a .d) (a .e) (a .f) (a .x) (a .y) (a .z)) (c .match .keys12)
+    at-number (a .number) callWho (arguments (a .a) (a .b) (a .c) (a .d) (a .e) (a .f) (a .x) (a .y) (a .z))
+    (c .match .keys12)
 
 returns-13 : tie.Need-returns-13
 unfolding callOf placingOf sendingOf settingOf askingOf numbered callsOf
 returns-13 c =
     let a = c .before .args in
-    at-number (a .number) callTake (arguments (a .a) (a .b) (a .c) (a .d) (a .e) (a .f) (a .x) (a .y) (a .z)) (c .match .keys13)
+    at-number (a .number) callTake (arguments (a .a) (a .b) (a .c) (a .d) (a .e) (a .f) (a .x) (a .y) (a .z))
+    (c .match .keys13)
 
 returns-14 : tie.Need-returns-14
 unfolding callOf placingOf sendingOf settingOf askingOf numbered callsOf

@@ -22,23 +22,33 @@ slice-write-out : tie.Need-slice-write-out Inv-loop μ-loop
 slice-write-out c =
     let a = c .before .before in
     let i = c .before .loop .i in
-    omega (arith, a .pre, written-length (a .args .out .now) (a .args .t2) i (c .before .loop .out) (a .good .1 .0 .1 .0 .1) (a .pre) (c .before .loop .inv))
+    omega (
+      arith,
+      a .pre,
+      written-length (a .args .out .now) (a .args .t2) i (c .before .loop .out) (a .good .1 .0 .1 .0 .1) (a .pre)
+          (c .before .loop .inv),
+    )
 
 loop-again : tie.Need-loop-again Inv-loop μ-loop
 loop-again c =
     let a = c .before .before in
-    let i = c .before .loop .i in
-    (omega arith, written-more (a .args .out .now) (a .args .t2) i (c .before .loop .out) (a .good .1 .0 .1 .0 .1) (a .pre) (c .before .loop .inv) (omega arith))
+    let i = c .before .loop .i in (
+      omega arith,
+      written-more (a .args .out .now) (a .args .t2) i (c .before .loop .out) (a .good .1 .0 .1 .0 .1) (a .pre)
+          (c .before .loop .inv) (omega arith),
+    )
 
 same-length : tie.Need-same-length Inv-loop μ-loop
 same-length c =
     let a = c .before .before in
-    written-length (a .args .out .now) (a .args .t2) (c .before .loop .i) (c .before .loop .out) (a .good .1 .0 .1 .0 .1) (a .pre) (c .before .loop .inv)
+    written-length (a .args .out .now) (a .args .t2) (c .before .loop .i) (c .before .loop .out)
+    (a .good .1 .0 .1 .0 .1) (a .pre) (c .before .loop .inv)
 
 returns : tie.Need-returns Inv-loop μ-loop
 returns c =
     let a = c .before .before in
-    written-all (a .args .out .now) (a .args .t2) (c .before .loop .i) (c .before .loop .out) (a .good .1 .0 .1 .0 .1) (c .before .loop .inv) (omega arith)
+    written-all (a .args .out .now) (a .args .t2) (c .before .loop .i) (c .before .loop .out) (a .good .1 .0 .1 .0 .1)
+    (c .before .loop .inv) (omega arith)
 
 pub write-spec : {M : Type 1} → statement M
 write-spec =

@@ -11,14 +11,16 @@ returns : tie.Need-returns
 returns c =
     let s = c .before in
     let a = s .before .before .before .before .before .before .before .before .before in
-    clear-refused (given (a .args .ps) (a .args .ts) (a .args .tb) (a .args .pb)) (s .lengths-are .result) (s .lengths-are .ensures) (c .if1 .taken)
+    clear-refused (given (a .args .ps) (a .args .ts) (a .args .tb) (a .args .pb)) (s .lengths-are .result)
+    (s .lengths-are .ensures) (c .if1 .taken)
 
 forget-requires : tie.Need-forget-requires
 forget-requires c κs =
     let i = c .before .before .before .before in
     let s = i .before in
     let a = s .before .before .before .before .before .before .before .before .before in
-    clear-long (given (a .args .ps) (a .args .ts) (a .args .tb) (a .args .pb)) (s .lengths-are .result) (s .lengths-are .ensures) (i .if1 .left)
+    clear-long (given (a .args .ps) (a .args .ts) (a .args .tb) (a .args .pb)) (s .lengths-are .result)
+    (s .lengths-are .ensures) (i .if1 .left)
 
 returns-2 : tie.Need-returns-2
 returns-2 c =
@@ -26,9 +28,15 @@ returns-2 c =
     let i = f .before .before .before .before .before in
     let s = i .before in
     let a = s .before .before .before .before .before .before .before .before .before in
-    clear-done (given (a .args .ps) (a .args .ts) (a .args .tb) (a .args .pb)) (s .lengths-are .result) (s .lengths-are .ensures) (i .if1 .left)
+    clear-done (given (a .args .ps) (a .args .ts) (a .args .tb) (a .args .pb)) (s .lengths-are .result)
+    (s .lengths-are .ensures) (i .if1 .left)
     (lent (f .forget .last .0) (f .forget .last .1 .0) (f .forget .last .1 .1 .0) (f .forget .last .1 .1 .1 .0))
-    (record { processes = search needs; threads = search needs; threadBuffer = search needs; processBuffer = search needs })
+    (record {
+      processes = search needs;
+      threads = search needs;
+      threadBuffer = search needs;
+      processBuffer = search needs;
+    })
     (bytes-each (f .forget .last .1 .1 .0) (λ i. omega (arith, c .before .before .slice-known7 .given i)))
     (bytes-each (f .forget .last .1 .1 .1 .0) (λ i. omega (arith, c .slice-known8 .given i)))
     (f .forget .ensures)

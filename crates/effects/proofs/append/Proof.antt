@@ -45,4 +45,5 @@ returns-2 c =
     (append-thread l r (ne-eqb (r .thread) 0 (i .if1 .left)) tb′ (w .append2 .ensures))
 
 pub append-spec : {M : Type 1} → statement M
-append-spec = tie.close (tie.spec append-requires append-requires-2 (λ c. search needs) returns (λ c. search needs) returns-2)
+append-spec =
+    tie.close (tie.spec append-requires append-requires-2 (λ c. search needs) returns (λ c. search needs) returns-2)

@@ -15,7 +15,8 @@ field-at-requires c κs =
     let d = c .before in
     let a = d .before .before .before in
     let ps = a .args .ps .now in
-    let h = any-inside (isProcess (a .args .process)) (heldProcesses ps) processPlaces (length-heldProcesses ps) (a .pre .1) in
+    let h =
+    any-inside (isProcess (a .args .process)) (heldProcesses ps) processPlaces (length-heldProcesses ps) (a .pre .1) in
     (a .pre .0, (omega (arith, d .find-process .ensures), omega arith))
 
 put-field-requires : tie.Need-put-field-requires
@@ -23,7 +24,8 @@ put-field-requires c κs =
     let d = c .before .before .before .before in
     let a = d .before .before .before in
     let ps = a .args .ps .now in
-    let h = any-inside (isProcess (a .args .process)) (heldProcesses ps) processPlaces (length-heldProcesses ps) (a .pre .1) in
+    let h =
+    any-inside (isProcess (a .args .process)) (heldProcesses ps) processPlaces (length-heldProcesses ps) (a .pre .1) in
     (a .pre .0, (omega (arith, d .find-process .ensures), omega arith))
 
 returns : tie.Need-returns
@@ -33,8 +35,11 @@ returns c =
     let r = m .before in
     let d = r .before .before in
     let a = d .before .before .before in
-    process-marks-changed (a .args .how) (r .field-at .result) (m .marked .result) (m .marked .ensures) (a .args .ps .now) (w .put-field .last .0) (a .args .process)
+    process-marks-changed (a .args .how) (r .field-at .result) (m .marked .result) (m .marked .ensures)
+    (a .args .ps .now) (w .put-field .last .0) (a .args .process)
     (d .find-process .result) (d .find-process .ensures) (r .field-at .ensures) (w .put-field .ensures)
 
 pub change-process-marks-spec : {M : Type 1} → statement M
-change-process-marks-spec = tie.close (tie.spec (λ c κs. search needs) field-at-requires (λ c κs. search needs) put-field-requires (λ c. search needs) returns)
+change-process-marks-spec =
+    tie.close (tie.spec (λ c κs. search needs) field-at-requires (λ c κs. search needs) put-field-requires
+    (λ c. search needs) returns)

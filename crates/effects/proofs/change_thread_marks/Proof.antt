@@ -33,8 +33,11 @@ returns c =
     let r = m .before in
     let d = r .before .before in
     let a = d .before .before .before in
-    thread-marks-changed (a .args .how) (r .thread-field-at .result) (m .marked .result) (m .marked .ensures) (a .args .ts .now) (w .put-thread-field .last .0) (a .args .thread)
+    thread-marks-changed (a .args .how) (r .thread-field-at .result) (m .marked .result) (m .marked .ensures)
+    (a .args .ts .now) (w .put-thread-field .last .0) (a .args .thread)
     (d .find-thread .result) (d .find-thread .ensures) (r .thread-field-at .ensures) (w .put-thread-field .ensures)
 
 pub change-thread-marks-spec : {M : Type 1} → statement M
-change-thread-marks-spec = tie.close (tie.spec (λ c κs. search needs) thread-field-at-requires (λ c κs. search needs) put-thread-field-requires (λ c. search needs) returns)
+change-thread-marks-spec =
+    tie.close (tie.spec (λ c κs. search needs) thread-field-at-requires (λ c κs. search needs) put-thread-field-requires
+    (λ c. search needs) returns)

@@ -1,4 +1,5 @@
--- `change_threads_marks` meets its contract. The invariant: the threads below i have their marks changed. Assumes nothing.
+-- `change_threads_marks` meets its contract. The invariant: the threads below i have their marks changed.
+-- Assumes nothing.
 use mathlib.Core.Path.{_∙_, ap}
 use mathlib.Core.Logic.{⊎-elim}
 use Prim.Native.Nat.{_-_}
@@ -8,7 +9,8 @@ use lib.ListN.{length}
 use Rattle.limits.specs.Limits.{threadPlaces}
 use Rattle.tables.specs.Tables.{threadsOf, threadAt}
 use Rattle.effects.specs.Effects.{withMarkingOf}
-use Rattle.effects.proofs.Marks.{Passing, passing-start, passing-step, passing-skip, passing-done, marks-changed-here, marks-changed-not}
+use Rattle.effects.proofs.Marks.{Passing, passing-start, passing-step, passing-skip, passing-done}
+use Rattle.effects.proofs.Marks.{marks-changed-here, marks-changed-not}
 use Rattle.effects.proofs.change_threads_marks.Statement.{statement}
 use Rattle.effects.proofs.change_threads_marks.Tie as tie
 
@@ -19,7 +21,8 @@ abbrev μ-loop : tie.MeasureT-loop
 μ-loop ts₀ process how i₀ ts i = threadPlaces - i
 
 loop-holds : tie.Need-loop-holds Inv-loop μ-loop
-loop-holds c = let a = c .before in passing-start (withMarkingOf (a .args .process) (a .args .how)) (a .args .ts .now) (a .pre)
+loop-holds c =
+    let a = c .before in passing-start (withMarkingOf (a .args .process) (a .args .how)) (a .args .ts .now) (a .pre)
 
 loop-again : tie.Need-loop-again Inv-loop μ-loop
 loop-again c =
@@ -36,16 +39,19 @@ loop-again c =
     ⊎-elim
     (λ w.
     passing-step (withMarkingOf p how) ts₀ ts i (l .loop .inv) h (c .if1 .ts) _
-    (marks-changed-here p (r .thread-field-at .result) x (r .thread-field-at .ensures) how (w .2 .result) (w .3 .result) (w .0 .taken) (w .2 .ensures) (w .3 .ensures))
+    (marks-changed-here p (r .thread-field-at .result) x (r .thread-field-at .ensures) how (w .2 .result) (w .3 .result)
+    (w .0 .taken) (w .2 .ensures) (w .3 .ensures))
     (ap length (w .8) ∙ search needs) (ap threadsOf (w .8) ∙ w .5 .ensures))
-    (λ w. passing-skip (withMarkingOf p how) ts₀ ts i (l .loop .inv) h (c .if1 .ts) (marks-changed-not p (r .thread-field-at .result) x (r .thread-field-at .ensures) how (w .0 .left)) (w .1))
+    (λ w. passing-skip (withMarkingOf p how) ts₀ ts i (l .loop .inv) h (c .if1 .ts)
+    (marks-changed-not p (r .thread-field-at .result) x (r .thread-field-at .ensures) how (w .0 .left)) (w .1))
     (c .if1 .came)
 
 returns : tie.Need-returns Inv-loop μ-loop
 returns c =
     let l = c .before in
     let a = l .before .before in
-    passing-done (withMarkingOf (a .args .process) (a .args .how)) (a .args .ts .now) (l .loop .ts) (l .loop .i) (omega (arith, c .loop-test .left)) (l .loop .inv)
+    passing-done (withMarkingOf (a .args .process) (a .args .how)) (a .args .ts .now) (l .loop .ts) (l .loop .i)
+    (omega (arith, c .loop-test .left)) (l .loop .inv)
 
 pub change-threads-marks-spec : {M : Type 1} → statement M
 change-threads-marks-spec =

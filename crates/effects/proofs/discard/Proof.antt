@@ -28,7 +28,8 @@ change-process-marks-requires c κs =
 
 change-threads-marks-requires : tie.Need-change-threads-marks-requires
 change-threads-marks-requires c κs =
-    let a = c .before .before .before .before .before .before .before .before .before .before .before .before .before .before .before .before .before in
+    let a = c .before .before .before .before .before .before .before .before .before .before .before .before .before
+    .before .before .before .before in
     threads-long (given (a .args .ps) (a .args .ts) (a .args .tb) (a .args .pb)) (a .pre .sound)
 
 returns : tie.Need-returns

@@ -23,7 +23,8 @@ remove-requires c κs =
     let l = given (a .args .ps) (a .args .ts) (a .args .tb) (a .args .pb) in
     let q = targetQueue (a .args .process) (a .args .thread) in (
       process-buffer-laid l (a .pre .sound),
-      oldest-process l q (a .args .signal) (d .first-of .result) (fits-one (a .pre)) (eq-eqb (a .args .thread) 0 (i .if1 .taken)) (d .first-of .ensures),
+      oldest-process l q (a .args .signal) (d .first-of .result) (fits-one (a .pre))
+          (eq-eqb (a .args .thread) 0 (i .if1 .taken)) (d .first-of .ensures),
     )
 
 first-of-requires-2 : tie.Need-first-of-requires-2
@@ -39,7 +40,8 @@ remove-requires-2 c κs =
     let l = given (a .args .ps) (a .args .ts) (a .args .tb) (a .args .pb) in
     let q = targetQueue (a .args .process) (a .args .thread) in (
       thread-buffer-laid l (a .pre .sound),
-      oldest-thread l q (a .args .signal) (d .first-of2 .result) (fits-one (a .pre)) (ne-eqb (a .args .thread) 0 (i .if1 .left)) (d .first-of2 .ensures),
+      oldest-thread l q (a .args .signal) (d .first-of2 .result) (fits-one (a .pre))
+          (ne-eqb (a .args .thread) 0 (i .if1 .left)) (d .first-of2 .ensures),
     )
 
 returns : tie.Need-returns
@@ -53,7 +55,8 @@ returns c =
     let s = a .args .signal in
     let pb′ = w .remove .last .0 in
     makes (a .pre) refl refl refl (search needs)
-    (drop-process l q s (d .first-of .result) (eq-eqb (a .args .thread) 0 (i .if1 .taken)) (d .first-of .ensures) pb′ (w .remove .ensures))
+    (drop-process l q s (d .first-of .result) (eq-eqb (a .args .thread) 0 (i .if1 .taken)) (d .first-of .ensures) pb′
+    (w .remove .ensures))
 
 returns-2 : tie.Need-returns-2
 returns-2 c =
@@ -66,7 +69,8 @@ returns-2 c =
     let s = a .args .signal in
     let tb′ = w .remove2 .last .0 in
     makes (a .pre) refl refl (search needs) refl
-    (drop-thread l q s (d .first-of2 .result) (ne-eqb (a .args .thread) 0 (i .if1 .left)) (d .first-of2 .ensures) tb′ (w .remove2 .ensures))
+    (drop-thread l q s (d .first-of2 .result) (ne-eqb (a .args .thread) 0 (i .if1 .left)) (d .first-of2 .ensures) tb′
+    (w .remove2 .ensures))
 
 pub drop-oldest-spec : {M : Type 1} → statement M
 drop-oldest-spec =

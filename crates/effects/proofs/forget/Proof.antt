@@ -23,7 +23,8 @@ empty-requires c κs =
 
 empty-requires-2 : tie.Need-empty-requires-2
 empty-requires-2 c κs =
-    let a = c .before .before .before .before .before .before .before .before .before .before .before .before .before .before .before .before .before in
+    let a = c .before .before .before .before .before .before .before .before .before .before .before .before .before
+    .before .before .before .before in
     right-process-buffer (given (a .args .ps) (a .args .ts) (a .args .tb) (a .args .pb)) (a .pre)
 
 returns : tie.Need-returns

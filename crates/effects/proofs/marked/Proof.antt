@@ -18,4 +18,6 @@ returns-2 c =
     c .without .ensures ∙ ap (λ h. markedBy h (a .args .m)) (sym (c .before .before .how2 .given .1))
 
 pub marked-spec : {M : Type 1} → statement M
-marked-spec = tie.close (tie.spec (λ c. search needs) (λ c κs. search needs) (λ c. search needs) (λ c κs. search needs) returns returns-2)
+marked-spec =
+    tie.close (tie.spec (λ c. search needs) (λ c κs. search needs) (λ c. search needs)
+    (λ c κs. search needs) returns returns-2)

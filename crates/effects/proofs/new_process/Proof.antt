@@ -28,7 +28,8 @@ returns c =
     let a = d .before .before .before in
     let ps = a .args .ps .now in
     let new = placed (addedProcess (a .args .new)) in
-    w .fill-process .ensures ∙ ap (λ i. set (processesOf ps) i new) (d .free-process .ensures) ∙ filled-place isFreeProcess new (processesOf ps)
+    w .fill-process .ensures ∙ ap (λ i. set (processesOf ps) i new) (d .free-process .ensures)
+    ∙ filled-place isFreeProcess new (processesOf ps)
 
 pub new-process-spec : {M : Type 1} → statement M
 new-process-spec = tie.close (tie.spec (λ c κs. search needs) fill-process-requires (λ c. search needs) returns)

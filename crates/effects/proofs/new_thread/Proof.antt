@@ -28,7 +28,8 @@ returns c =
     let a = d .before .before .before in
     let ts = a .args .ts .now in
     let new = placed (threadOf (a .args .id) (a .args .process) (a .args .mask)) in
-    w .fill-thread .ensures ∙ ap (λ i. set (threadsOf ts) i new) (d .free-thread .ensures) ∙ filled-place isFreeThread new (threadsOf ts)
+    w .fill-thread .ensures ∙ ap (λ i. set (threadsOf ts) i new) (d .free-thread .ensures)
+    ∙ filled-place isFreeThread new (threadsOf ts)
 
 pub new-thread-spec : {M : Type 1} → statement M
 new-thread-spec = tie.close (tie.spec (λ c κs. search needs) fill-thread-requires (λ c. search needs) returns)

@@ -30,12 +30,14 @@ vacate-threads-requires c κs =
 
 discard-requires : tie.Need-discard-requires
 discard-requires c κs =
-    let a = c .before .before .before .before .before .before .before .before .before .before .before .before .before .before .before in
+    let a = c .before .before .before .before .before .before .before .before .before .before .before .before .before
+    .before .before in
     thread-buffer-laid (given (a .args .ps) (a .args .ts) (a .args .tb) (a .args .pb)) (a .pre .sound)
 
 discard-requires-2 : tie.Need-discard-requires-2
 discard-requires-2 c κs =
-    let a = c .before .before .before .before .before .before .before .before .before .before .before .before .before .before .before .before .before .before .before in
+    let a = c .before .before .before .before .before .before .before .before .before .before .before .before .before
+    .before .before .before .before .before .before in
     process-buffer-laid (given (a .args .ps) (a .args .ts) (a .args .tb) (a .args .pb)) (a .pre .sound)
 
 returns : tie.Need-returns
@@ -53,7 +55,8 @@ returns c =
     let tb′ = b .discard .last .0 in
     let pb′ = q .discard2 .last .0 in
     makes (a .pre) (search needs) (search needs) (search needs) (search needs)
-    (process-removed l (a .pre .sound) n (d .find-process .result) (lent ps′ ts′ tb′ pb′) (fits-one (a .pre)) (d .find-process .ensures)
+    (process-removed l (a .pre .sound) n (d .find-process .result) (lent ps′ ts′ tb′ pb′) (fits-one (a .pre))
+    (d .find-process .ensures)
     (w .clear-process .ensures) (t .vacate-threads .ensures) (b .discard .ensures) (q .discard2 .ensures))
 
 pub remove-process-spec : {M : Type 1} → statement M

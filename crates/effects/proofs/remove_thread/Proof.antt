@@ -31,7 +31,8 @@ discard-requires c κs =
 
 discard-requires-2 : tie.Need-discard-requires-2
 discard-requires-2 c κs =
-    let a = c .before .before .before .before .before .before .before .before .before .before .before .before .before .before .before in
+    let a = c .before .before .before .before .before .before .before .before .before .before .before .before .before
+    .before .before in
     process-buffer-laid (given (a .args .ps) (a .args .ts) (a .args .tb) (a .args .pb)) (a .pre .sound)
 
 returns : tie.Need-returns
@@ -47,7 +48,8 @@ returns c =
     let tb′ = b .discard .last .0 in
     let pb′ = q .discard2 .last .0 in
     makes (a .pre) refl (search needs) (search needs) (search needs)
-    (thread-removed l (a .pre .sound) n (d .find-thread .result) (lent (l .processes) ts′ tb′ pb′) (fits-one (a .pre)) (d .find-thread .ensures)
+    (thread-removed l (a .pre .sound) n (d .find-thread .result) (lent (l .processes) ts′ tb′ pb′) (fits-one (a .pre))
+    (d .find-thread .ensures)
     (w .clear-thread .ensures) (b .discard .ensures) (q .discard2 .ensures))
 
 pub remove-thread-spec : {M : Type 1} → statement M

@@ -23,8 +23,10 @@ put-action-requires c κs =
     let n = a .args .process in
     let v = viewOf l in
     let live = action-live v n (a .args .signal) (a .args .a) (fits-one (a .pre)) in
-    let signal = action-signal v n (a .args .signal) (a .args .a) (fits-one (a .pre)) in
-    (processes-long l (a .pre .sound), (process-inside l n (d .find-process .result) live (d .find-process .ensures), (signal .low, signal .high)))
+    let signal = action-signal v n (a .args .signal) (a .args .a) (fits-one (a .pre)) in (
+      processes-long l (a .pre .sound),
+      (process-inside l n (d .find-process .result) live (d .find-process .ensures), (signal .low, signal .high)),
+    )
 
 returns : tie.Need-returns
 returns c =
@@ -37,7 +39,8 @@ returns c =
     let ps′ = w .put-action .last .0 in
     let live = action-live (viewOf l) n s (a .args .a) (fits-one (a .pre)) in
     makes (a .pre) (search needs) refl refl refl
-    (action-store l (a .pre .sound) n (d .find-process .result) live (d .find-process .ensures) ps′ s (a .args .a) (w .put-action .ensures))
+    (action-store l (a .pre .sound) n (d .find-process .result) live (d .find-process .ensures) ps′ s (a .args .a)
+    (w .put-action .ensures))
 
 pub set-action-spec : {M : Type 1} → statement M
 set-action-spec = tie.close (tie.spec find-process-requires put-action-requires (λ c. search needs) returns)

@@ -22,8 +22,10 @@ put-thread-field-requires c κs =
     let a = d .before .before .before .before .before .before in
     let l = given (a .args .ps) (a .args .ts) (a .args .tb) (a .args .pb) in
     let n = a .args .thread in
-    let live = mask-live (viewOf l) n (a .args .mask) (fits-one (a .pre)) in
-    (threads-long l (a .pre .sound), (thread-inside l n (d .find-thread .result) live (d .find-thread .ensures), omega arith))
+    let live = mask-live (viewOf l) n (a .args .mask) (fits-one (a .pre)) in (
+      threads-long l (a .pre .sound),
+      (thread-inside l n (d .find-thread .result) live (d .find-thread .ensures), omega arith),
+    )
 
 returns : tie.Need-returns
 returns c =
@@ -36,7 +38,8 @@ returns c =
     let ts′ = w .put-thread-field .last .0 in
     let live = mask-live (viewOf l) n m (fits-one (a .pre)) in
     makes (a .pre) refl (search needs) refl refl
-    (mask-store l (a .pre .sound) n (d .find-thread .result) live (d .find-thread .ensures) ts′ m (w .put-thread-field .ensures))
+    (mask-store l (a .pre .sound) n (d .find-thread .result) live (d .find-thread .ensures) ts′ m
+    (w .put-thread-field .ensures))
 
 pub set-mask-spec : {M : Type 1} → statement M
 set-mask-spec = tie.close (tie.spec find-thread-requires put-thread-field-requires (λ c. search needs) returns)

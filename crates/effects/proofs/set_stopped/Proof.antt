@@ -22,8 +22,10 @@ put-field-requires c κs =
     let a = d .before .before .before .before .before .before in
     let l = given (a .args .ps) (a .args .ts) (a .args .tb) (a .args .pb) in
     let n = a .args .process in
-    let live = stopped-live (viewOf l) n (a .args .stopped) (fits-one (a .pre)) in
-    (processes-long l (a .pre .sound), (process-inside l n (d .find-process .result) live (d .find-process .ensures), omega arith))
+    let live = stopped-live (viewOf l) n (a .args .stopped) (fits-one (a .pre)) in (
+      processes-long l (a .pre .sound),
+      (process-inside l n (d .find-process .result) live (d .find-process .ensures), omega arith),
+    )
 
 returns : tie.Need-returns
 returns c =
@@ -36,7 +38,8 @@ returns c =
     let ps′ = w .put-field .last .0 in
     let live = stopped-live (viewOf l) n b (fits-one (a .pre)) in
     makes (a .pre) (search needs) refl refl refl
-    (stopped-store l (a .pre .sound) n (d .find-process .result) live (d .find-process .ensures) ps′ b (w .put-field .ensures))
+    (stopped-store l (a .pre .sound) n (d .find-process .result) live (d .find-process .ensures) ps′ b
+    (w .put-field .ensures))
 
 pub set-stopped-spec : {M : Type 1} → statement M
 set-stopped-spec = tie.close (tie.spec find-process-requires put-field-requires (λ c. search needs) returns)

@@ -10,7 +10,9 @@ discard-requires : tie.Need-discard-requires
 discard-requires c κs =
     let t = c .before .before .before .before .before in
     let a = t .before .before .before .before .before .before in
-    ready-first (a .pre) (stores-both (a .args .process) (a .args .signal) (a .args .a) (sym (t .before .is-ignored .ensures) ∙ t .if1 .taken) (c .of-signal .result) (c .of-signal .ensures))
+    ready-first (a .pre)
+    (stores-both (a .args .process) (a .args .signal) (a .args .a)
+    (sym (t .before .is-ignored .ensures) ∙ t .if1 .taken) (c .of-signal .result) (c .of-signal .ensures))
 
 set-action-requires : tie.Need-set-action-requires
 set-action-requires c κs =
@@ -18,13 +20,17 @@ set-action-requires c κs =
     let t = d .before .before .before .before .before .before in
     let a = t .before .before .before .before .before .before in
     let o = d .before .of-signal in
-    ready-last (a .pre) (d .discard .ensures) (stores-both (a .args .process) (a .args .signal) (a .args .a) (sym (t .before .is-ignored .ensures) ∙ t .if1 .taken) (o .result) (o .ensures))
+    ready-last (a .pre) (d .discard .ensures)
+    (stores-both (a .args .process) (a .args .signal) (a .args .a)
+    (sym (t .before .is-ignored .ensures) ∙ t .if1 .taken) (o .result) (o .ensures))
 
 set-action-requires-2 : tie.Need-set-action-requires-2
 set-action-requires-2 c κs =
     let t = c .before .before .before .before in
     let a = t .before .before .before .before .before .before in
-    ready-as (a .pre) (stores-not-ignored (a .args .process) (a .args .signal) (a .args .a) (sym (t .before .is-ignored .ensures) ∙ t .if1 .left))
+    ready-as (a .pre)
+    (stores-not-ignored (a .args .process) (a .args .signal) (a .args .a)
+    (sym (t .before .is-ignored .ensures) ∙ t .if1 .left))
 
 returns : tie.Need-returns
 returns c =
@@ -33,14 +39,18 @@ returns c =
     let t = d .before .before .before .before .before .before in
     let a = t .before .before .before .before .before .before in
     let o = d .before .of-signal in
-    made-last (d .discard .ensures) (w .set-action .ensures) (stores-both (a .args .process) (a .args .signal) (a .args .a) (sym (t .before .is-ignored .ensures) ∙ t .if1 .taken) (o .result) (o .ensures))
+    made-last (d .discard .ensures) (w .set-action .ensures)
+    (stores-both (a .args .process) (a .args .signal) (a .args .a)
+    (sym (t .before .is-ignored .ensures) ∙ t .if1 .taken) (o .result) (o .ensures))
 
 returns-2 : tie.Need-returns-2
 returns-2 c =
     let w = c .before .before in
     let t = w .before .before .before .before .before in
     let a = t .before .before .before .before .before .before in
-    made-as (w .set-action2 .ensures) (stores-not-ignored (a .args .process) (a .args .signal) (a .args .a) (sym (t .before .is-ignored .ensures) ∙ t .if1 .left))
+    made-as (w .set-action2 .ensures)
+    (stores-not-ignored (a .args .process) (a .args .signal) (a .args .a)
+    (sym (t .before .is-ignored .ensures) ∙ t .if1 .left))
 
 pub store-action-spec : {M : Type 1} → statement M
 store-action-spec =

@@ -1,4 +1,5 @@
--- `vacate_threads` meets its contract. The invariant: the places below i are free where they were the process's. Assumes nothing.
+-- `vacate_threads` meets its contract. The invariant: the places below i are free where they were the process's.
+-- Assumes nothing.
 use mathlib.Core.Path.{_∙_, ap}
 use mathlib.Core.Logic.{⊎-elim}
 use Prim.Native.Nat.{_-_}
@@ -8,7 +9,8 @@ use lib.ListN.{length}
 use Rattle.limits.specs.Limits.{threadPlaces}
 use Rattle.rules.specs.Store.{freeThread}
 use Rattle.tables.specs.Tables.{threadsOf, threadAt}
-use Rattle.effects.proofs.Marks.{Passing, passing-start, passing-step, passing-skip, passing-done, vacatedOf, vacated-all, vacated-here, vacated-not}
+use Rattle.effects.proofs.Marks.{Passing, passing-start, passing-step, passing-skip, passing-done, vacatedOf}
+use Rattle.effects.proofs.Marks.{vacated-all, vacated-here, vacated-not}
 use Rattle.effects.proofs.vacate_threads.Statement.{statement}
 use Rattle.effects.proofs.vacate_threads.Tie as tie
 
@@ -37,7 +39,8 @@ loop-again c =
     passing-step (vacatedOf p) ts₀ ts i (l .loop .inv) h (c .if1 .ts) freeThread
     (vacated-here p (r .thread-field-at .result) x (r .thread-field-at .ensures) (w .0 .taken))
     (ap length (w .5) ∙ search needs) (ap threadsOf (w .5) ∙ w .2 .ensures))
-    (λ w. passing-skip (vacatedOf p) ts₀ ts i (l .loop .inv) h (c .if1 .ts) (vacated-not p (r .thread-field-at .result) x (r .thread-field-at .ensures) (w .0 .left)) (w .1))
+    (λ w. passing-skip (vacatedOf p) ts₀ ts i (l .loop .inv) h (c .if1 .ts)
+    (vacated-not p (r .thread-field-at .result) x (r .thread-field-at .ensures) (w .0 .left)) (w .1))
     (c .if1 .came)
 
 returns : tie.Need-returns Inv-loop μ-loop
@@ -46,7 +49,8 @@ returns c =
     let a = l .before .before in
     let p = a .args .process in
     let ts₀ = a .args .ts .now in
-    passing-done (vacatedOf p) ts₀ (l .loop .ts) (l .loop .i) (omega (arith, c .loop-test .left)) (l .loop .inv) ∙ vacated-all p (threadsOf ts₀)
+    passing-done (vacatedOf p) ts₀ (l .loop .ts) (l .loop .i) (omega (arith, c .loop-test .left)) (l .loop .inv)
+    ∙ vacated-all p (threadsOf ts₀)
 
 pub vacate-threads-spec : {M : Type 1} → statement M
 vacate-threads-spec =

@@ -30,8 +30,14 @@ returns-2 c =
     let a = r .before .before .before .before .before .before .before .before .before in
     process-ended (given (a .args .ps) (a .args .ts) (a .args .tb) (a .args .pb))
     (a .args .id) (r .process-refusal .result) (r .process-refusal .ensures) (i .if1 .left)
-    (lent (f .remove-process .last .0) (f .remove-process .last .1 .0) (f .remove-process .last .1 .1 .0) (f .remove-process .last .1 .1 .1 .0))
-    (record { processes = search needs; threads = search needs; threadBuffer = search needs; processBuffer = search needs })
+    (lent (f .remove-process .last .0) (f .remove-process .last .1 .0) (f .remove-process .last .1 .1 .0)
+    (f .remove-process .last .1 .1 .1 .0))
+    (record {
+      processes = search needs;
+      threads = search needs;
+      threadBuffer = search needs;
+      processBuffer = search needs;
+    })
     (bytes-each (f .remove-process .last .1 .1 .0) (λ i. omega (arith, c .before .before .slice-known7 .given i)))
     (bytes-each (f .remove-process .last .1 .1 .1 .0) (λ i. omega (arith, c .slice-known8 .given i)))
     (f .remove-process .ensures)

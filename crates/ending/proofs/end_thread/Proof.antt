@@ -1,4 +1,5 @@
--- `end_thread` meets its contract: refused, or the thread is gone, and its process with it where it was the last one. Assumes nothing.
+-- `end_thread` meets its contract: refused, or the thread is gone, and its process with it where it was the last one.
+-- Assumes nothing.
 use native.Mathlib.Omega.{arith}
 use Rattle.siginfo.proofs.Numbers.{bytes-each}
 use Rattle.sound.specs.Lent.{lent, given}
@@ -11,14 +12,16 @@ returns : tie.Need-returns
 returns c =
     let r = c .before in
     let a = r .before .before .before .before .before .before .before .before .before in
-    thread-kept (given (a .args .ps) (a .args .ts) (a .args .tb) (a .args .pb)) (a .args .id) (r .thread-refusal .result) (r .thread-refusal .ensures) (c .if1 .taken)
+    thread-kept (given (a .args .ps) (a .args .ts) (a .args .tb) (a .args .pb)) (a .args .id)
+    (r .thread-refusal .result) (r .thread-refusal .ensures) (c .if1 .taken)
 
 remove-requires : tie.Need-remove-requires
 remove-requires c κs =
     let i = c .before .before .before .before in
     let r = i .before in
     let a = r .before .before .before .before .before .before .before .before .before in
-    thread-can-end (given (a .args .ps) (a .args .ts) (a .args .tb) (a .args .pb)) (a .args .id) (r .thread-refusal .result) (r .thread-refusal .ensures) (i .if1 .left)
+    thread-can-end (given (a .args .ps) (a .args .ts) (a .args .tb) (a .args .pb)) (a .args .id)
+    (r .thread-refusal .result) (r .thread-refusal .ensures) (i .if1 .left)
 
 returns-2 : tie.Need-returns-2
 returns-2 c =
@@ -26,9 +29,15 @@ returns-2 c =
     let i = f .before .before .before .before .before in
     let r = i .before in
     let a = r .before .before .before .before .before .before .before .before .before in
-    thread-ended (given (a .args .ps) (a .args .ts) (a .args .tb) (a .args .pb)) (a .args .id) (r .thread-refusal .result) (r .thread-refusal .ensures) (i .if1 .left)
+    thread-ended (given (a .args .ps) (a .args .ts) (a .args .tb) (a .args .pb)) (a .args .id)
+    (r .thread-refusal .result) (r .thread-refusal .ensures) (i .if1 .left)
     (lent (f .remove .last .0) (f .remove .last .1 .0) (f .remove .last .1 .1 .0) (f .remove .last .1 .1 .1 .0))
-    (record { processes = search needs; threads = search needs; threadBuffer = search needs; processBuffer = search needs })
+    (record {
+      processes = search needs;
+      threads = search needs;
+      threadBuffer = search needs;
+      processBuffer = search needs;
+    })
     (bytes-each (f .remove .last .1 .1 .0) (λ i. omega (arith, c .before .before .slice-known7 .given i)))
     (bytes-each (f .remove .last .1 .1 .1 .0) (λ i. omega (arith, c .slice-known8 .given i)))
     (f .remove .ensures)

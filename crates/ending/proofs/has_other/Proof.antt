@@ -31,7 +31,8 @@ returns c =
     let a = o .before .before .before .before in
     let i = o .before .before .loop .i in
     let h : i < length (heldThreads (a .args .ts .now)) = rw (length-heldThreads (a .args .ts .now)) (omega arith) in
-    sym (any-here (isOther (a .args .process) (a .args .thread)) noThread (heldThreads (a .args .ts .now)) i h (sym (o .is-other .ensures) ∙ c .if1 .taken))
+    sym (any-here (isOther (a .args .process) (a .args .thread)) noThread (heldThreads (a .args .ts .now)) i h
+    (sym (o .is-other .ensures) ∙ c .if1 .taken))
 
 loop-again : tie.Need-loop-again Inv-loop μ-loop
 loop-again c =
@@ -40,14 +41,16 @@ loop-again c =
     let i = o .before .before .loop .i in
     let h : i < length (heldThreads (a .args .ts .now)) = rw (length-heldThreads (a .args .ts .now)) (omega arith) in (
       omega arith,
-      any-more (isOther (a .args .process) (a .args .thread)) noThread (heldThreads (a .args .ts .now)) i h (o .before .before .loop .inv .1)
+      any-more (isOther (a .args .process) (a .args .thread)) noThread (heldThreads (a .args .ts .now)) i h
+          (o .before .before .loop .inv .1)
           (sym (o .is-other .ensures) ∙ c .if1 .left),
     )
 
 returns-2 : tie.Need-returns-2 Inv-loop μ-loop
 returns-2 c =
     let a = c .before .before .before in
-    sym (any-done (isOther (a .args .process) (a .args .thread)) noThread (heldThreads (a .args .ts .now)) (c .before .loop .i)
+    sym (any-done (isOther (a .args .process) (a .args .thread)) noThread (heldThreads (a .args .ts .now))
+    (c .before .loop .i)
     (rw (length-heldThreads (a .args .ts .now)) (omega arith)) (c .before .loop .inv .1))
 
 pub has-other-spec : {M : Type 1} → statement M

@@ -9,28 +9,34 @@ use Rattle.ending.proofs.remove.Tie as tie
 process-of-requires : tie.Need-process-of-requires
 process-of-requires c κs =
     let a = c .before .before .before .before .before in
-    owner-known (given (a .args .ps) (a .args .ts) (a .args .tb) (a .args .pb)) (a .pre .0) (a .args .thread) (a .pre .1)
+    owner-known (given (a .args .ps) (a .args .ts) (a .args .tb) (a .args .pb)) (a .pre .0)
+    (a .args .thread) (a .pre .1)
 
 has-other-requires : tie.Need-has-other-requires
 has-other-requires c κs =
     let a = c .before .before .before .before .before .before .before in
-    owner-known (given (a .args .ps) (a .args .ts) (a .args .tb) (a .args .pb)) (a .pre .0) (a .args .thread) (a .pre .1) .0
+    owner-known (given (a .args .ps) (a .args .ts) (a .args .tb) (a .args .pb)) (a .pre .0) (a .args .thread)
+    (a .pre .1) .0
 
 remove-thread-requires : tie.Need-remove-thread-requires
 remove-thread-requires c κs =
     let i = c .before .before .before .before in
     let o = i .before in
     let a = o .before .before .before .before .before .before .before .before in
-    thread-ready (given (a .args .ps) (a .args .ts) (a .args .tb) (a .args .pb)) (a .pre .0) (a .args .thread) (a .pre .1)
-    (o .before .before .process-of .result) (o .before .before .process-of .ensures) (o .has-other .result) (o .has-other .ensures) (i .if1 .taken)
+    thread-ready (given (a .args .ps) (a .args .ts) (a .args .tb) (a .args .pb)) (a .pre .0)
+    (a .args .thread) (a .pre .1)
+    (o .before .before .process-of .result) (o .before .before .process-of .ensures) (o .has-other .result)
+    (o .has-other .ensures) (i .if1 .taken)
 
 remove-process-requires : tie.Need-remove-process-requires
 remove-process-requires c κs =
     let i = c .before .before .before .before in
     let o = i .before in
     let a = o .before .before .before .before .before .before .before .before in
-    process-ready (given (a .args .ps) (a .args .ts) (a .args .tb) (a .args .pb)) (a .pre .0) (a .args .thread) (a .pre .1)
-    (o .before .before .process-of .result) (o .before .before .process-of .ensures) (o .has-other .result) (o .has-other .ensures) (i .if1 .left)
+    process-ready (given (a .args .ps) (a .args .ts) (a .args .tb) (a .args .pb)) (a .pre .0)
+    (a .args .thread) (a .pre .1)
+    (o .before .before .process-of .result) (o .before .before .process-of .ensures) (o .has-other .result)
+    (o .has-other .ensures) (i .if1 .left)
 
 returns : tie.Need-returns
 returns c =
@@ -38,8 +44,10 @@ returns c =
     let i = f .before .before .before .before .before in
     let o = i .before in
     let a = o .before .before .before .before .before .before .before .before in
-    thread-removed (given (a .args .ps) (a .args .ts) (a .args .tb) (a .args .pb)) (a .pre .0) (a .args .thread) (a .pre .1)
-    (o .before .before .process-of .result) (o .before .before .process-of .ensures) (o .has-other .result) (o .has-other .ensures) (i .if1 .taken)
+    thread-removed (given (a .args .ps) (a .args .ts) (a .args .tb) (a .args .pb)) (a .pre .0)
+    (a .args .thread) (a .pre .1)
+    (o .before .before .process-of .result) (o .before .before .process-of .ensures) (o .has-other .result)
+    (o .has-other .ensures) (i .if1 .taken)
     (f .remove-thread .ensures)
 
 returns-2 : tie.Need-returns-2
@@ -48,8 +56,10 @@ returns-2 c =
     let i = f .before .before .before .before .before in
     let o = i .before in
     let a = o .before .before .before .before .before .before .before .before in
-    process-removed (given (a .args .ps) (a .args .ts) (a .args .tb) (a .args .pb)) (a .pre .0) (a .args .thread) (a .pre .1)
-    (o .before .before .process-of .result) (o .before .before .process-of .ensures) (o .has-other .result) (o .has-other .ensures) (i .if1 .left)
+    process-removed (given (a .args .ps) (a .args .ts) (a .args .tb) (a .args .pb)) (a .pre .0)
+    (a .args .thread) (a .pre .1)
+    (o .before .before .process-of .result) (o .before .before .process-of .ensures) (o .has-other .result)
+    (o .has-other .ensures) (i .if1 .left)
     (f .remove-process .ensures)
 
 pub remove-spec : {M : Type 1} → statement M

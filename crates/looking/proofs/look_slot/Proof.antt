@@ -5,26 +5,33 @@ use native.Mathlib.Omega.{arith}
 use borrow.Author.Needs.{needs}
 use Rattle.sound.specs.Lent.{soundTables, given}
 use Rattle.sound.proofs.Facts.{thread-buffer-long, process-buffer-long}
-use Rattle.looking.proofs.Looks.{look-sound, look-live, found-small, slot-refused, slot-nothing, slot-mark, slot-shared, slot-own}
+use Rattle.looking.proofs.Looks.{look-sound, look-live, found-small, slot-refused, slot-nothing, slot-mark}
+use Rattle.looking.proofs.Looks.{slot-shared, slot-own}
 use Rattle.looking.proofs.look_slot.Statement.{statement}
 use Rattle.looking.proofs.look_slot.Tie as tie
 
 -- past the refusal the tables are sound
-sound-here : (c : tie.Else1) → soundTables (given (c .before .before .before .before .before .before .args .ps) (c .before .before .before .before .before .before .args .ts) (c .before .before .before .before .before .before .args .tb) (c .before .before .before .before .before .before .args .pb)) ≡ true
+sound-here : (c : tie.Else1) → soundTables (given (c .before .before .before .before .before .before .args .ps)
+    (c .before .before .before .before .before .before .args .ts)
+    (c .before .before .before .before .before .before .args .tb)
+    (c .before .before .before .before .before .before .args .pb)) ≡ true
 sound-here c =
     let a = c .before .before .before .before .before .before in
-    look-sound (given (a .args .ps) (a .args .ts) (a .args .tb) (a .args .pb)) (a .args .thread) (c .before .thread-refusal .result) (c .before .thread-refusal .ensures) (c .if1 .left)
+    look-sound (given (a .args .ps) (a .args .ts) (a .args .tb) (a .args .pb)) (a .args .thread)
+    (c .before .thread-refusal .result) (c .before .thread-refusal .ensures) (c .if1 .left)
 
 returns : tie.Need-returns
 returns c =
     let a = c .before .before .before .before .before .before in
-    slot-refused (given (a .args .ps) (a .args .ts) (a .args .tb) (a .args .pb)) (a .args .thread) (c .before .thread-refusal .result) (c .before .thread-refusal .ensures) (c .if1 .taken)
+    slot-refused (given (a .args .ps) (a .args .ts) (a .args .tb) (a .args .pb)) (a .args .thread)
+    (c .before .thread-refusal .result) (c .before .thread-refusal .ensures) (c .if1 .taken)
 
 next-of-requires : tie.Need-next-of-requires
 next-of-requires c κs =
     let a = c .before .before .before .before .before .before in (
       sound-here c,
-      look-live (given (a .args .ps) (a .args .ts) (a .args .tb) (a .args .pb)) (a .args .thread) (c .before .thread-refusal .result) (c .before .thread-refusal .ensures) (c .if1 .left),
+      look-live (given (a .args .ps) (a .args .ts) (a .args .tb) (a .args .pb)) (a .args .thread)
+          (c .before .thread-refusal .result) (c .before .thread-refusal .ensures) (c .if1 .left),
     )
 
 first-of-requires : tie.Need-first-of-requires
@@ -44,7 +51,10 @@ returns-2 c =
     let d = c .before .before .before .before .before .before in
     let a = d .before .before .before .before .before .before .before in
     let m = c .before .before .before .before .r .given in
-    slot-shared (given (a .args .ps) (a .args .ts) (a .args .tb) (a .args .pb)) (a .args .thread) (d .before .before .thread-refusal .result) (d .before .before .thread-refusal .ensures) (d .before .if1 .left) (d .next-of .result) (d .next-of .ensures) (m .0 .0) (m .1) (c .first-of .result) (c .before .if2 .taken) (c .first-of .ensures)
+    slot-shared (given (a .args .ps) (a .args .ts) (a .args .tb) (a .args .pb)) (a .args .thread)
+    (d .before .before .thread-refusal .result) (d .before .before .thread-refusal .ensures) (d .before .if1 .left)
+    (d .next-of .result) (d .next-of .ensures) (m .0 .0) (m .1) (c .first-of .result) (c .before .if2 .taken)
+    (c .first-of .ensures)
 
 first-of-requires-2 : tie.Need-first-of-requires-2
 first-of-requires-2 c κs =
@@ -59,21 +69,28 @@ returns-3 : tie.Need-returns-3
 returns-3 c =
     let d = c .before .before in
     let a = d .before .before .before .before .before .before .before in
-    slot-nothing (given (a .args .ps) (a .args .ts) (a .args .tb) (a .args .pb)) (a .args .thread) (d .before .before .thread-refusal .result) (d .before .before .thread-refusal .ensures) (d .before .if1 .left) (d .next-of .result) (d .next-of .ensures) (c .enum-told .given .1)
+    slot-nothing (given (a .args .ps) (a .args .ts) (a .args .tb) (a .args .pb)) (a .args .thread)
+    (d .before .before .thread-refusal .result) (d .before .before .thread-refusal .ensures) (d .before .if1 .left)
+    (d .next-of .result) (d .next-of .ensures) (c .enum-told .given .1)
 
 returns-4 : tie.Need-returns-4
 returns-4 c =
     let d = c .before .before in
     let a = d .before .before .before .before .before .before .before in
     let m = c .enum-told2 .given in
-    slot-mark (given (a .args .ps) (a .args .ts) (a .args .tb) (a .args .pb)) (a .args .thread) (d .before .before .thread-refusal .result) (d .before .before .thread-refusal .ensures) (d .before .if1 .left) (d .next-of .result) (d .next-of .ensures) (m .0 .0) (m .0 .1 .0) (m .0 .1 .1 .0) (m .1)
+    slot-mark (given (a .args .ps) (a .args .ts) (a .args .tb) (a .args .pb)) (a .args .thread)
+    (d .before .before .thread-refusal .result) (d .before .before .thread-refusal .ensures) (d .before .if1 .left)
+    (d .next-of .result) (d .next-of .ensures) (m .0 .0) (m .0 .1 .0) (m .0 .1 .1 .0) (m .1)
 
 returns-5 : tie.Need-returns-5
 returns-5 c =
     let d = c .before .before .before .before .before .before in
     let a = d .before .before .before .before .before .before .before in
     let m = c .before .before .before .before .r .given in
-    slot-own (given (a .args .ps) (a .args .ts) (a .args .tb) (a .args .pb)) (a .args .thread) (d .before .before .thread-refusal .result) (d .before .before .thread-refusal .ensures) (d .before .if1 .left) (d .next-of .result) (d .next-of .ensures) (m .0 .0) (m .1) (c .first-of2 .result) (c .before .if2 .left) (c .first-of2 .ensures)
+    slot-own (given (a .args .ps) (a .args .ts) (a .args .tb) (a .args .pb)) (a .args .thread)
+    (d .before .before .thread-refusal .result) (d .before .before .thread-refusal .ensures) (d .before .if1 .left)
+    (d .next-of .result) (d .next-of .ensures) (m .0 .0) (m .1) (c .first-of2 .result) (c .before .if2 .left)
+    (c .first-of2 .ensures)
 
 pub look-slot-spec : {M : Type 1} → statement M
 look-slot-spec =

@@ -26,8 +26,12 @@ abbrev μ-loop : tie.MeasureT-loop
 
 loop-holds : tie.Need-loop-holds Inv-loop μ-loop
 loop-holds c =
-    let a = c .before .before .before .before in
-    (omega arith, find-none (canTakeSome (viewOf (given (a .args .ps) (a .args .ts) (a .args .tb) (a .args .pb))) (a .args .process)) noThread (heldThreads (a .args .ts .now)))
+    let a = c .before .before .before .before in (
+      omega arith,
+      find-none
+          (canTakeSome (viewOf (given (a .args .ps) (a .args .ts) (a .args .tb) (a .args .pb))) (a .args .process))
+          noThread (heldThreads (a .args .ts .now)),
+    )
 
 can-take-requires : tie.Need-can-take-requires Inv-loop μ-loop
 can-take-requires c κs = (c .before .before .before .before .before .before .pre, omega arith)
@@ -36,7 +40,9 @@ returns : tie.Need-returns Inv-loop μ-loop
 returns c =
     let l = c .before .before .before in
     let a = l .before .before .before .before .before in
-    sym (find-here (canTakeSome (viewOf (given (a .args .ps) (a .args .ts) (a .args .tb) (a .args .pb))) (a .args .process)) noThread (heldThreads (a .args .ts .now)) (l .loop .i)
+    sym (find-here
+    (canTakeSome (viewOf (given (a .args .ps) (a .args .ts) (a .args .tb) (a .args .pb))) (a .args .process)) noThread
+    (heldThreads (a .args .ts .now)) (l .loop .i)
     (rw length-heldThreads (omega arith)) (l .loop .inv .1) (sym (c .before .can-take .ensures) ∙ c .if1 .taken))
 
 loop-again : tie.Need-loop-again Inv-loop μ-loop
@@ -44,7 +50,9 @@ loop-again c =
     let l = c .before .before .before in
     let a = l .before .before .before .before .before in (
       omega arith,
-      find-more (canTakeSome (viewOf (given (a .args .ps) (a .args .ts) (a .args .tb) (a .args .pb))) (a .args .process)) noThread (heldThreads (a .args .ts .now)) (l .loop .i)
+      find-more
+          (canTakeSome (viewOf (given (a .args .ps) (a .args .ts) (a .args .tb) (a .args .pb))) (a .args .process))
+          noThread (heldThreads (a .args .ts .now)) (l .loop .i)
           (rw length-heldThreads (omega arith)) (l .loop .inv .1) (sym (c .before .can-take .ensures) ∙ c .if1 .left),
     )
 
@@ -52,7 +60,9 @@ returns-2 : tie.Need-returns-2 Inv-loop μ-loop
 returns-2 c =
     let l = c .before in
     let a = l .before .before .before .before .before in
-    sym (find-done (canTakeSome (viewOf (given (a .args .ps) (a .args .ts) (a .args .tb) (a .args .pb))) (a .args .process)) noThread (heldThreads (a .args .ts .now)) (l .loop .i)
+    sym (find-done
+    (canTakeSome (viewOf (given (a .args .ps) (a .args .ts) (a .args .tb) (a .args .pb))) (a .args .process)) noThread
+    (heldThreads (a .args .ts .now)) (l .loop .i)
     (rw length-heldThreads (omega arith)) (l .loop .inv .1))
 
 pub taker-place-spec : {M : Type 1} → statement M

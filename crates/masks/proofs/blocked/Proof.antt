@@ -23,8 +23,11 @@ pending-of-requires c κs =
 pending-of-requires-2 : tie.Need-pending-of-requires-2
 pending-of-requires-2 c κs =
     let a = c .before .before .before .before .before .before in
-    let l = given (a .args .ps) (a .args .ts) (a .args .tb) (a .args .pb) in
-    (a .pre .0, shared-queue l (a .pre .0) (a .args .thread) (a .pre .1) (c .before .process-of .result) (c .before .process-of .ensures))
+    let l = given (a .args .ps) (a .args .ts) (a .args .tb) (a .args .pb) in (
+      a .pre .0,
+      shared-queue l (a .pre .0) (a .args .thread) (a .pre .1) (c .before .process-of .result)
+          (c .before .process-of .ensures),
+    )
 
 mask-of-requires : tie.Need-mask-of-requires
 mask-of-requires c κs =
@@ -37,9 +40,12 @@ returns c =
     let a = c .before .before .before .before .before .before .before .before .before .before in
     let l = given (a .args .ps) (a .args .ts) (a .args .tb) (a .args .pb) in
     c .intersect .ensures
-    ∙ blocked-read l (a .args .thread) (a .pre .1) (c .before .before .before .before .before .process-of .result) (c .before .before .before .before .before .process-of .ensures)
-    (c .before .before .before .before .pending-of .result) (c .before .before .before .pending-of2 .result) (c .before .union .result) (c .before .before .mask-of .result)
-    (c .before .before .before .before .pending-of .ensures) (c .before .before .before .pending-of2 .ensures) (c .before .union .ensures) (c .before .before .mask-of .ensures)
+    ∙ blocked-read l (a .args .thread) (a .pre .1) (c .before .before .before .before .before .process-of .result)
+    (c .before .before .before .before .before .process-of .ensures)
+    (c .before .before .before .before .pending-of .result) (c .before .before .before .pending-of2 .result)
+    (c .before .union .result) (c .before .before .mask-of .result)
+    (c .before .before .before .before .pending-of .ensures) (c .before .before .before .pending-of2 .ensures)
+    (c .before .union .ensures) (c .before .before .mask-of .ensures)
 
 pub blocked-spec : {M : Type 1} → statement M
 blocked-spec =

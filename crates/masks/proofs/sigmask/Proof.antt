@@ -36,43 +36,72 @@ mask-of-requires c κs =
 set-mask-requires : tie.Need-set-mask-requires
 unfolding newSet
 set-mask-requires c κs =
-    let a = c .before .before .before .before .before .before .before .before .before .before .before .before .before .before .before .before .before .before .before .before in
+    let a = c .before .before .before .before .before .before .before .before .before .before .before .before .before
+    .before .before .before .before .before .before .before in
     let l = given (a .args .ps) (a .args .ts) (a .args .tb) (a .args .pb) in
     let t = a .args .thread in
     let way = a .args .way in
     let set = newSet (a .args .set) in
-    let e = sym (c .before .before .before .before .before .before .before .before .before .before .before .mask-refusal .ensures) ∙ c .before .before .before .before .before .before .before .before .before .before .if1 .left in
+    let e =
+    sym
+    (c .before .before .before .before .before .before .before .before .before .before .before .mask-refusal .ensures)
+    ∙ c .before .before .before .before .before .before .before .before .before .before .if1 .left in
     let o = c .before .before .before .before .before .before .before .before in
-    mask-ready l t way set e (o .mask-of .result) (o .mask-of .ensures) (c .before .before .before .before .before .before .set .given .0 .0) (c .mask-after .result)
+    mask-ready l t way set e (o .mask-of .result) (o .mask-of .ensures)
+    (c .before .before .before .before .before .before .set .given .0 .0) (c .mask-after .result)
     (ap newSet (c .before .before .before .before .before .before .set .given .1)) (c .mask-after .ensures)
 
 returns-2 : tie.Need-returns-2
 unfolding newSet
 returns-2 c =
-    let a = c .before .before .before .before .before .before .before .before .before .before .before .before .before .before in
+    let a =
+    c .before .before .before .before .before .before .before .before .before .before .before .before .before .before in
     let l = given (a .args .ps) (a .args .ts) (a .args .tb) (a .args .pb) in
     let t = a .args .thread in
     let way = a .args .way in
     let set = newSet (a .args .set) in
-    let e = sym (c .before .before .before .before .before .mask-refusal .ensures) ∙ c .before .before .before .before .if1 .left in
-    mask-kept l t way set e (c .before .before .mask-of .result) (c .before .before .mask-of .ensures) (ap newSet (c .enum-told .given .1)) (bytes-each (l .threadBuffer) (λ i. omega (arith, c .before .before .before .before .before .before .before .before .before .before .before .slice-known3 .given i)))
-    (bytes-each (l .processBuffer) (λ i. omega (arith, c .before .before .before .before .before .before .before .before .before .before .slice-known4 .given i)))
+    let e =
+    sym (c .before .before .before .before .before .mask-refusal .ensures)
+    ∙ c .before .before .before .before .if1 .left in
+    mask-kept l t way set e (c .before .before .mask-of .result) (c .before .before .mask-of .ensures)
+    (ap newSet (c .enum-told .given .1)) (bytes-each (l .threadBuffer) (λ i. omega (
+      arith,
+      c .before .before .before .before .before .before .before .before .before .before .before .slice-known3 .given i,
+    )))
+    (bytes-each (l .processBuffer) (λ i. omega
+    (arith, c .before .before .before .before .before .before .before .before .before .before .slice-known4 .given i)))
 
 returns-3 : tie.Need-returns-3
 unfolding newSet
 returns-3 c =
     let w = c .before .before in
     let o = c .before .before .before .before .before .before .before .before .before .before .before in
-    let a = c .before .before .before .before .before .before .before .before .before .before .before .before .before .before .before .before .before .before .before .before .before .before .before in
+    let a = c .before .before .before .before .before .before .before .before .before .before .before .before .before
+    .before .before .before .before .before .before .before .before .before .before in
     let l = given (a .args .ps) (a .args .ts) (a .args .tb) (a .args .pb) in
     let t = a .args .thread in
     let way = a .args .way in
     let set = newSet (a .args .set) in
-    let e = sym (c .before .before .before .before .before .before .before .before .before .before .before .before .before .before .mask-refusal .ensures) ∙ c .before .before .before .before .before .before .before .before .before .before .before .before .before .if1 .left in
-    mask-stored l t way set e (o .mask-of .result) (o .mask-of .ensures) (c .before .before .before .before .before .before .before .before .before .set .given .0 .0) (c .before .before .before .mask-after .result)
-    (ap newSet (c .before .before .before .before .before .before .before .before .before .set .given .1)) (c .before .before .before .mask-after .ensures) (lent (l .processes) (w .set-mask .last .1 .0) (l .threadBuffer) (l .processBuffer))
+    let e = sym (c .before .before .before .before .before .before .before .before
+    .before .before .before .before .before .before .mask-refusal .ensures)
+    ∙ c .before .before .before .before .before .before .before .before .before .before .before .before .before
+    .if1 .left in
+    mask-stored l t way set e (o .mask-of .result) (o .mask-of .ensures)
+    (c .before .before .before .before .before .before .before .before .before .set .given .0 .0)
+    (c .before .before .before .mask-after .result)
+    (ap newSet (c .before .before .before .before .before .before .before .before .before .set .given .1))
+    (c .before .before .before .mask-after .ensures)
+    (lent (l .processes) (w .set-mask .last .1 .0) (l .threadBuffer) (l .processBuffer))
     (record { processes = refl; threads = search needs; threadBuffer = refl; processBuffer = refl })
-    (bytes-each (l .threadBuffer) (λ i. omega (arith, c .before .before .before .before .before .before .before .before .before .before .before .before .before .before .before .before .before .before .before .before .slice-known3 .given i))) (bytes-each (l .processBuffer) (λ i. omega (arith, c .before .before .before .before .before .before .before .before .before .before .before .before .before .before .before .before .before .before .before .slice-known4 .given i)))
+    (bytes-each (l .threadBuffer) (λ i. omega (
+      arith,
+      c .before .before .before .before .before .before .before .before .before .before .before .before .before .before
+          .before .before .before .before .before .before .slice-known3 .given i,
+    ))) (bytes-each (l .processBuffer) (λ i. omega (
+      arith,
+      c .before .before .before .before .before .before .before .before .before .before .before .before .before .before
+          .before .before .before .before .before .slice-known4 .given i,
+    )))
     (w .set-mask .ensures)
 
 pub sigmask-spec : {M : Type 1} → statement M

@@ -21,7 +21,8 @@ process-of-requires c κs =
       threads-long (given (a .args .ps) (a .args .ts) (a .args .tb) (a .args .pb)) (a .pre .0),
       (
         thread-listed (given (a .args .ps) (a .args .ts) (a .args .tb) (a .args .pb)) (a .args .thread) (a .pre .1),
-        owner-good (given (a .args .ps) (a .args .ts) (a .args .tb) (a .args .pb)) (a .pre .0) (a .args .thread) (a .pre .1),
+        owner-good (given (a .args .ps) (a .args .ts) (a .args .tb) (a .args .pb)) (a .pre .0) (a .args .thread)
+            (a .pre .1),
       ),
     )
 
@@ -29,7 +30,8 @@ pending-of-requires : tie.Need-pending-of-requires
 pending-of-requires c κs =
     let a = c .before .before .before .before .before .before .before in (
       a .pre .0,
-      own-queue (given (a .args .ps) (a .args .ts) (a .args .tb) (a .args .pb)) (a .pre .0) (a .args .thread) (a .pre .1) (c .process-of .result) (c .process-of .ensures),
+      own-queue (given (a .args .ps) (a .args .ts) (a .args .tb) (a .args .pb)) (a .pre .0) (a .args .thread)
+          (a .pre .1) (c .process-of .result) (c .process-of .ensures),
     )
 
 next-in-requires : tie.Need-next-in-requires
@@ -41,9 +43,12 @@ returns-2 : tie.Need-returns-2
 returns-2 c =
     let d = c .before .before .before in
     let a = d .before .before .before .before .before .before .before .before in
-    own-next (given (a .args .ps) (a .args .ts) (a .args .tb) (a .args .pb)) (a .args .thread) (d .before .process-of .result) (d .before .before .before .next-signal .result)
-    (a .pre .1) (d .before .process-of .ensures) (d .before .before .before .next-signal .ensures) (d .before .before .if1 .left) (c .next-in .result)
-    (d .pending-of .result) (c .before .before .has .result) (d .pending-of .ensures) (c .before .before .has .ensures) (c .before .if2 .taken) (c .next-in .ensures)
+    own-next (given (a .args .ps) (a .args .ts) (a .args .tb) (a .args .pb)) (a .args .thread)
+    (d .before .process-of .result) (d .before .before .before .next-signal .result)
+    (a .pre .1) (d .before .process-of .ensures) (d .before .before .before .next-signal .ensures)
+    (d .before .before .if1 .left) (c .next-in .result)
+    (d .pending-of .result) (c .before .before .has .result) (d .pending-of .ensures) (c .before .before .has .ensures)
+    (c .before .if2 .taken) (c .next-in .ensures)
 
 next-in-requires-2 : tie.Need-next-in-requires-2
 next-in-requires-2 c κs =
@@ -54,9 +59,12 @@ returns-3 : tie.Need-returns-3
 returns-3 c =
     let d = c .before .before .before in
     let a = d .before .before .before .before .before .before .before .before in
-    shared-next (given (a .args .ps) (a .args .ts) (a .args .tb) (a .args .pb)) (a .args .thread) (d .before .process-of .result) (d .before .before .before .next-signal .result)
-    (a .pre .1) (d .before .process-of .ensures) (d .before .before .before .next-signal .ensures) (d .before .before .if1 .left) (c .next-in2 .result)
-    (d .pending-of .result) (c .before .before .has .result) (d .pending-of .ensures) (c .before .before .has .ensures) (c .before .if2 .left) (c .next-in2 .ensures)
+    shared-next (given (a .args .ps) (a .args .ts) (a .args .tb) (a .args .pb)) (a .args .thread)
+    (d .before .process-of .result) (d .before .before .before .next-signal .result)
+    (a .pre .1) (d .before .process-of .ensures) (d .before .before .before .next-signal .ensures)
+    (d .before .before .if1 .left) (c .next-in2 .result)
+    (d .pending-of .result) (c .before .before .has .result) (d .pending-of .ensures) (c .before .before .has .ensures)
+    (c .before .if2 .left) (c .next-in2 .ensures)
 
 pub next-of-spec : {M : Type 1} → statement M
 next-of-spec =

@@ -13,7 +13,8 @@ process-of-requires c κs =
       threads-long (given (a .args .ps) (a .args .ts) (a .args .tb) (a .args .pb)) (a .pre .0),
       (
         thread-listed (given (a .args .ps) (a .args .ts) (a .args .tb) (a .args .pb)) (a .args .thread) (a .pre .1),
-        owner-good (given (a .args .ps) (a .args .ts) (a .args .tb) (a .args .pb)) (a .pre .0) (a .args .thread) (a .pre .1),
+        owner-good (given (a .args .ps) (a .args .ts) (a .args .tb) (a .args .pb)) (a .pre .0) (a .args .thread)
+            (a .pre .1),
       ),
     )
 
@@ -21,27 +22,31 @@ is-stopped-requires : tie.Need-is-stopped-requires
 is-stopped-requires c κs =
     let a = c .before .before .before .before .before in (
       processes-long (given (a .args .ps) (a .args .ts) (a .args .tb) (a .args .pb)) (a .pre .0),
-      process-held (given (a .args .ps) (a .args .ts) (a .args .tb) (a .args .pb)) (a .pre .0) (a .args .thread) (a .pre .1) (c .process-of .result) (c .process-of .ensures),
+      process-held (given (a .args .ps) (a .args .ts) (a .args .tb) (a .args .pb)) (a .pre .0) (a .args .thread)
+          (a .pre .1) (c .process-of .result) (c .process-of .ensures),
     )
 
 returns : tie.Need-returns
 returns c =
     let a = c .before .before .before .before .before .before .before in
-    signal-stopped (given (a .args .ps) (a .args .ts) (a .args .tb) (a .args .pb)) (a .args .thread) (c .before .before .process-of .result) (c .before .before .process-of .ensures)
+    signal-stopped (given (a .args .ps) (a .args .ts) (a .args .tb) (a .args .pb)) (a .args .thread)
+    (c .before .before .process-of .result) (c .before .before .process-of .ensures)
     (c .before .is-stopped .result) (c .before .is-stopped .ensures) (c .if1 .taken)
 
 pending-of-requires : tie.Need-pending-of-requires
 pending-of-requires c κs =
     let a = c .before .before .before .before .before .before .before in (
       a .pre .0,
-      own-queue (given (a .args .ps) (a .args .ts) (a .args .tb) (a .args .pb)) (a .pre .0) (a .args .thread) (a .pre .1) (c .before .before .process-of .result) (c .before .before .process-of .ensures),
+      own-queue (given (a .args .ps) (a .args .ts) (a .args .tb) (a .args .pb)) (a .pre .0) (a .args .thread)
+          (a .pre .1) (c .before .before .process-of .result) (c .before .before .process-of .ensures),
     )
 
 pending-of-requires-2 : tie.Need-pending-of-requires-2
 pending-of-requires-2 c κs =
     let a = c .before .before .before .before .before .before .before .before in (
       a .pre .0,
-      shared-queue (given (a .args .ps) (a .args .ts) (a .args .tb) (a .args .pb)) (a .pre .0) (a .args .thread) (a .pre .1) (c .before .before .before .process-of .result) (c .before .before .before .process-of .ensures),
+      shared-queue (given (a .args .ps) (a .args .ts) (a .args .tb) (a .args .pb)) (a .pre .0) (a .args .thread)
+          (a .pre .1) (c .before .before .before .process-of .result) (c .before .before .before .process-of .ensures),
     )
 
 mask-of-requires : tie.Need-mask-of-requires
@@ -55,11 +60,14 @@ returns-2 : tie.Need-returns-2
 returns-2 c =
     let d = c .before .before .before .before .before .before in
     let a = d .before .before .before .before .before .before .before in
-    signal-taken (given (a .args .ps) (a .args .ts) (a .args .tb) (a .args .pb)) (a .args .thread) (d .before .before .process-of .result) (d .before .before .process-of .ensures)
+    signal-taken (given (a .args .ps) (a .args .ts) (a .args .tb) (a .args .pb)) (a .args .thread)
+    (d .before .before .process-of .result) (d .before .before .process-of .ensures)
     (d .before .is-stopped .result) (d .before .is-stopped .ensures) (a .pre .1) (d .if1 .left)
-    (c .before .before .before .before .before .pending-of .result) (c .before .before .before .before .pending-of2 .result) (c .before .before .before .union .result)
-    (c .before .before .mask-of .result) (c .before .without .result) (c .lowest .result)
-    (c .before .before .before .before .before .pending-of .ensures) (c .before .before .before .before .pending-of2 .ensures) (c .before .before .before .union .ensures)
+    (c .before .before .before .before .before .pending-of .result)
+    (c .before .before .before .before .pending-of2 .result) (c .before .before .before .union .result)
+    (c .before .before .mask-of .result) (c .before .without .result)
+    (c .lowest .result) (c .before .before .before .before .before .pending-of .ensures)
+    (c .before .before .before .before .pending-of2 .ensures) (c .before .before .before .union .ensures)
     (c .before .before .mask-of .ensures) (c .before .without .ensures) (c .lowest .ensures)
 
 pub next-signal-spec : {M : Type 1} → statement M

@@ -54,7 +54,8 @@ returns-2 : tie.Need-returns-2 Inv-loop μ-loop
 returns-2 c =
     let a = c .before .before .before in
     let long = length-actions (a .args .ps .now) (a .args .place) (a .pre .1) in
-    sym (all-done actionOk defaultAction (processAt (a .args .ps .now) (a .args .place) .holds .actions) (c .before .loop .i) (rw long (omega arith)) (c .before .loop .inv .1))
+    sym (all-done actionOk defaultAction (processAt (a .args .ps .now) (a .args .place) .holds .actions)
+    (c .before .loop .i) (rw long (omega arith)) (c .before .loop .inv .1))
 
 pub actions-ok-spec : {M : Type 1} → statement M
 actions-ok-spec =

@@ -26,7 +26,8 @@ abbrev μ-loop : tie.MeasureT-loop
 returns : tie.Need-returns Inv-loop μ-loop
 returns c =
     let a = c .before .before in
-    sym (ap (λ n. any (belongsTo n) (heldThreads (a .args .ts .now))) (c .if1 .taken) ∙ belongs-none (heldThreads (a .args .ts .now)))
+    sym (ap (λ n. any (belongsTo n) (heldThreads (a .args .ts .now))) (c .if1 .taken)
+    ∙ belongs-none (heldThreads (a .args .ts .now)))
 
 loop-holds : tie.Need-loop-holds Inv-loop μ-loop
 loop-holds c = (search needs, any-none (belongsTo (c .before .before .args .id)) noThread [])
@@ -38,7 +39,8 @@ returns-2 c =
     let long = length-heldThreads (a .args .ts .now) in
     let h : i < length (heldThreads (a .args .ts .now)) = rw long (omega arith) in
     sym (any-here (belongsTo (a .args .id)) noThread (heldThreads (a .args .ts .now)) i h
-    (belongs-test (a .args .ts .now) i (a .args .id) (c .before .thread-field-at .result) (c .before .thread-field-at .ensures)
+    (belongs-test (a .args .ts .now) i (a .args .id) (c .before .thread-field-at .result)
+    (c .before .thread-field-at .ensures)
     (c .before .before .before .before .if1 .left) ∙ eq-eqb _ _ (c .if2 .taken)))
 
 loop-again : tie.Need-loop-again Inv-loop μ-loop
@@ -48,8 +50,10 @@ loop-again c =
     let long = length-heldThreads (a .args .ts .now) in
     let h : i < length (heldThreads (a .args .ts .now)) = rw long (omega arith) in (
       omega arith,
-      any-more (belongsTo (a .args .id)) noThread (heldThreads (a .args .ts .now)) i h (c .before .before .before .loop .inv .1)
-          (belongs-test (a .args .ts .now) i (a .args .id) (c .before .thread-field-at .result) (c .before .thread-field-at .ensures)
+      any-more (belongsTo (a .args .id)) noThread (heldThreads (a .args .ts .now)) i h
+          (c .before .before .before .loop .inv .1)
+          (belongs-test (a .args .ts .now) i (a .args .id) (c .before .thread-field-at .result)
+          (c .before .thread-field-at .ensures)
           (c .before .before .before .before .if1 .left) ∙ ne-eqb _ _ (c .if2 .left)),
     )
 
@@ -57,7 +61,8 @@ returns-3 : tie.Need-returns-3 Inv-loop μ-loop
 returns-3 c =
     let a = c .before .before .before .before in
     let long = length-heldThreads (a .args .ts .now) in
-    sym (any-done (belongsTo (a .args .id)) noThread (heldThreads (a .args .ts .now)) (c .before .loop .i) (rw long (omega arith)) (c .before .loop .inv .1))
+    sym (any-done (belongsTo (a .args .id)) noThread (heldThreads (a .args .ts .now)) (c .before .loop .i)
+    (rw long (omega arith)) (c .before .loop .inv .1))
 
 pub has-thread-spec : {M : Type 1} → statement M
 has-thread-spec =

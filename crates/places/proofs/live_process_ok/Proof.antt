@@ -7,7 +7,16 @@ use Rattle.places.proofs.live_process_ok.Tie as tie
 returns : tie.Need-returns
 unfolding liveProcessOk headTo
 returns c =
-    rw (c .head-ok .ensures, c .before .marks-not-ignored .ensures, c .before .before .actions-ok .ensures, c .before .before .before .kill-stop-default .ensures, c .before .before .before .before .has-thread .ensures, c .before .before .before .before .before .find-process .ensures, c .before .before .before .before .before .before .field-at2 .ensures, c .before .before .before .before .before .before .before .field-at .ensures)
+    rw (
+      c .head-ok .ensures,
+      c .before .marks-not-ignored .ensures,
+      c .before .before .actions-ok .ensures,
+      c .before .before .before .kill-stop-default .ensures,
+      c .before .before .before .before .has-thread .ensures,
+      c .before .before .before .before .before .find-process .ensures,
+      c .before .before .before .before .before .before .field-at2 .ensures,
+      c .before .before .before .before .before .before .before .field-at .ensures,
+    )
 
 pub live-process-ok-spec : {M : Type 1} → statement M
 live-process-ok-spec =

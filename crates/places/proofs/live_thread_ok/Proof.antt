@@ -17,7 +17,8 @@ use Rattle.places.proofs.live_thread_ok.Tie as tie
 returns : tie.Need-returns
 returns c =
     let a = c .before .before .before .before .before in
-    orphan (a .args .ps .now) (a .args .ts .now) (a .args .place) (c .before .find-process .result) (c .before .before .thread-field-at .result)
+    orphan (a .args .ps .now) (a .args .ts .now) (a .args .place) (c .before .find-process .result)
+    (c .before .before .thread-field-at .result)
     (c .before .before .thread-field-at .ensures) (c .before .find-process .ensures) (c .if1 .taken)
 
 marks-not-ignored-requires : tie.Need-marks-not-ignored-requires
@@ -25,8 +26,10 @@ marks-not-ignored-requires c κs =
     let d = c .before .before .before .before .before .before in
     let a = d .before .before .before .before in (
       a .pre .0,
-      found-inside (isProcess (d .before .thread-field-at .result)) noProcess (heldProcesses (a .args .ps .now)) processPlaces (d .find-process .result)
-          (length-heldProcesses (a .args .ps .now)) (d .find-process .ensures) (c .before .before .before .before .before .if1 .left),
+      found-inside (isProcess (d .before .thread-field-at .result)) noProcess
+          (heldProcesses (a .args .ps .now)) processPlaces (d .find-process .result)
+          (length-heldProcesses (a .args .ps .now)) (d .find-process .ensures)
+          (c .before .before .before .before .before .if1 .left),
     )
 
 returns-2 : tie.Need-returns-2
@@ -38,11 +41,15 @@ returns-2 c =
     thread-end (a .args .ps .now) ts (a .args .place) (d .find-process .result) (d .before .thread-field-at .result)
     (d .before .thread-field-at .ensures) (d .find-process .ensures) (f .before .before .before .if1 .left)
     (c .before .is-id .ensures ∙ ap goodId (f .before .before .thread-field-at2 .ensures))
-    (c .before .before .before .before .is-unmasked .ensures ∙ ap (λ n. unmasked (bits n)) (f .thread-field-at4 .ensures))
+    (c .before .before .before .before .is-unmasked .ensures
+    ∙ ap (λ n. unmasked (bits n)) (f .thread-field-at4 .ensures))
     (c .is-unmasked2 .ensures ∙ ap (λ n. unmasked (bits n)) (f .before .thread-field-at3 .ensures))
-    (ap (λ k. eqb k (a .args .place)) (c .before .before .before .find-thread .ensures ∙ ap (λ n. find (isThread n) (heldThreads ts)) (f .before .before .thread-field-at2 .ensures)))
+    (ap (λ k. eqb k (a .args .place))
+    (c .before .before .before .find-thread .ensures
+    ∙ ap (λ n. find (isThread n) (heldThreads ts)) (f .before .before .thread-field-at2 .ensures)))
     (c .before .before .marks-not-ignored .ensures
-    ∙ ap (λ n. marksNotIgnored (bits n) (actionOf (processAt (a .args .ps .now) (d .find-process .result) .holds))) (f .before .thread-field-at3 .ensures))
+    ∙ ap (λ n. marksNotIgnored (bits n) (actionOf (processAt (a .args .ps .now) (d .find-process .result) .holds)))
+    (f .before .thread-field-at3 .ensures))
 
 pub live-thread-ok-spec : {M : Type 1} → statement M
 live-thread-ok-spec =

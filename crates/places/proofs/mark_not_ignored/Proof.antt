@@ -20,7 +20,8 @@ returns-2 c =
     let a = c .before .before .before .before .before in
     let p = processAt (a .args .ps .now) (a .args .place) .holds in
     marked (a .args .marks) (actionOf p) (a .args .s)
-    (sym (c .before .before .before .has .ensures) ∙ not-false (c .before .before .before .has .result) (c .before .before .if1 .left))
+    (sym (c .before .before .before .has .ensures)
+    ∙ not-false (c .before .before .before .has .result) (c .before .before .if1 .left))
     (c .is-ignored .ensures ∙ ap (λ (x : Action). ignored x (a .args .s)) (c .before .action-at .ensures))
 
 pub mark-not-ignored-spec : {M : Type 1} → statement M

@@ -8,13 +8,15 @@ returns : tie.Need-returns
 returns c =
     let a = c .before .before .before .before .before in
     c .zeros .ensures
-    ∙ free-process (a .args .ps .now) (a .args .ts .now) (a .args .place) (c .before .before .field-at .result) (c .before .before .field-at .ensures) (a .pre .0) (a .pre .1 .1) (c .before .if1 .taken)
+    ∙ free-process (a .args .ps .now) (a .args .ts .now) (a .args .place) (c .before .before .field-at .result)
+    (c .before .before .field-at .ensures) (a .pre .0) (a .pre .1 .1) (c .before .if1 .taken)
 
 returns-2 : tie.Need-returns-2
 returns-2 c =
     let a = c .before .before .before .before .before in
     c .live-process-ok .ensures
-    ∙ live-process (a .args .ps .now) (a .args .ts .now) (a .args .place) (c .before .before .field-at .result) (c .before .before .field-at .ensures) (c .before .if1 .left)
+    ∙ live-process (a .args .ps .now) (a .args .ts .now) (a .args .place) (c .before .before .field-at .result)
+    (c .before .before .field-at .ensures) (c .before .if1 .left)
 
 pub process-ok-spec : {M : Type 1} → statement M
 process-ok-spec =

@@ -20,20 +20,39 @@ abbrev μ-loop : tie.MeasureT-loop
 μ-loop ps ts i₀ i = threadPlaces - i
 
 loop-holds : tie.Need-loop-holds Inv-loop μ-loop
-loop-holds c = (search needs, range-none (threadOkAt (processesOf (c .before .before .args .ps .now)) (threadsOf (c .before .before .args .ts .now))) 0)
+loop-holds c = (
+  search needs,
+  range-none
+      (threadOkAt (processesOf (c .before .before .args .ps .now)) (threadsOf (c .before .before .args .ts .now))) 0,
+)
 
 returns : tie.Need-returns Inv-loop μ-loop
 returns c =
-    sym (range-fails (threadOkAt (processesOf (c .before .before .before .before .before .before .args .ps .now)) (threadsOf (c .before .before .before .before .before .before .args .ts .now))) 0 threadPlaces (c .before .before .before .loop .i) (omega arith) (ap (threadOkAt (processesOf (c .before .before .before .before .before .before .args .ps .now)) (threadsOf (c .before .before .before .before .before .before .args .ts .now))) (zero-add (c .before .before .before .loop .i)) ∙ sym (c .before .thread-ok .ensures) ∙ not-true (c .before .thread-ok .result) (c .if1 .taken)))
+    sym (range-fails (threadOkAt (processesOf (c .before .before .before .before .before .before .args .ps .now))
+    (threadsOf (c .before .before .before .before .before .before .args .ts .now)))
+    0 threadPlaces (c .before .before .before .loop .i) (omega arith)
+    (ap (threadOkAt (processesOf (c .before .before .before .before .before .before .args .ps .now))
+    (threadsOf (c .before .before .before .before .before .before .args .ts .now)))
+    (zero-add (c .before .before .before .loop .i))
+    ∙ sym (c .before .thread-ok .ensures) ∙ not-true (c .before .thread-ok .result) (c .if1 .taken)))
 
 loop-again : tie.Need-loop-again Inv-loop μ-loop
-loop-again c =
-    (omega arith, range-more (threadOkAt (processesOf (c .before .before .before .before .before .before .args .ps .now)) (threadsOf (c .before .before .before .before .before .before .args .ts .now))) 0 (c .before .before .before .loop .i) (c .before .before .before .loop .inv .1) (ap (threadOkAt (processesOf (c .before .before .before .before .before .before .args .ps .now)) (threadsOf (c .before .before .before .before .before .before .args .ts .now))) (zero-add (c .before .before .before .loop .i)) ∙ sym (c .before .thread-ok .ensures) ∙ not-false (c .before .thread-ok .result) (c .if1 .left)))
+loop-again c = (
+  omega arith,
+  range-more (threadOkAt (processesOf (c .before .before .before .before .before .before .args .ps .now))
+      (threadsOf (c .before .before .before .before .before .before .args .ts .now)))
+      0 (c .before .before .before .loop .i) (c .before .before .before .loop .inv .1)
+      (ap (threadOkAt (processesOf (c .before .before .before .before .before .before .args .ps .now))
+      (threadsOf (c .before .before .before .before .before .before .args .ts .now)))
+      (zero-add (c .before .before .before .loop .i))
+      ∙ sym (c .before .thread-ok .ensures) ∙ not-false (c .before .thread-ok .result) (c .if1 .left)),
+)
 
 returns-2 : tie.Need-returns-2 Inv-loop μ-loop
 returns-2 c =
     let e : c .before .loop .i ≡ threadPlaces = omega arith in
-    sym (ap (λ k. all (threadOkAt (processesOf (c .before .before .before .before .args .ps .now)) (threadsOf (c .before .before .before .before .args .ts .now))) (range 0 k)) (sym e) ∙ c .before .loop .inv .1)
+    sym (ap (λ k. all (threadOkAt (processesOf (c .before .before .before .before .args .ps .now))
+    (threadsOf (c .before .before .before .before .args .ts .now))) (range 0 k)) (sym e) ∙ c .before .loop .inv .1)
 
 pub threads-ok-spec : {M : Type 1} → statement M
 threads-ok-spec =

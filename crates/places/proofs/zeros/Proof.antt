@@ -30,7 +30,8 @@ returns c =
     let long = part-long (a .args .ws .now) (a .args .from) (a .args .n) (omega arith) in
     let h : i < length (take (a .args .n) (drop (a .args .from) (a .args .ws .now))) = rw long (omega arith) in
     sym (all-fails isZeroWord 0 (take (a .args .n) (drop (a .args .from) (a .args .ws .now))) i h
-    (ap isZeroWord (part-at (a .args .ws .now) (a .args .from) (a .args .n) (omega arith) i (omega arith)) ∙ ne-eqb _ _ (c .if1 .taken)))
+    (ap isZeroWord (part-at (a .args .ws .now) (a .args .from) (a .args .n) (omega arith) i (omega arith))
+    ∙ ne-eqb _ _ (c .if1 .taken)))
 
 loop-again : tie.Need-loop-again Inv-loop μ-loop
 unfolding isZeroWord
@@ -40,15 +41,18 @@ loop-again c =
     let long = part-long (a .args .ws .now) (a .args .from) (a .args .n) (omega arith) in
     let h : i < length (take (a .args .n) (drop (a .args .from) (a .args .ws .now))) = rw long (omega arith) in (
       omega arith,
-      all-more isZeroWord 0 (take (a .args .n) (drop (a .args .from) (a .args .ws .now))) i h (c .before .before .before .loop .inv .1)
-          (ap isZeroWord (part-at (a .args .ws .now) (a .args .from) (a .args .n) (omega arith) i (omega arith)) ∙ eq-eqb _ _ (c .if1 .left)),
+      all-more isZeroWord 0 (take (a .args .n) (drop (a .args .from) (a .args .ws .now))) i h
+          (c .before .before .before .loop .inv .1)
+          (ap isZeroWord (part-at (a .args .ws .now) (a .args .from) (a .args .n) (omega arith) i (omega arith))
+          ∙ eq-eqb _ _ (c .if1 .left)),
     )
 
 returns-2 : tie.Need-returns-2 Inv-loop μ-loop
 returns-2 c =
     let a = c .before .before in
     let long = part-long (a .args .ws .now) (a .args .from) (a .args .n) (omega arith) in
-    sym (all-done isZeroWord 0 (take (a .args .n) (drop (a .args .from) (a .args .ws .now))) (c .before .loop .i) (rw long (omega arith)) (c .before .loop .inv .1))
+    sym (all-done isZeroWord 0 (take (a .args .n) (drop (a .args .from) (a .args .ws .now))) (c .before .loop .i)
+    (rw long (omega arith)) (c .before .loop .inv .1))
 
 pub zeros-spec : {M : Type 1} → statement M
 zeros-spec =

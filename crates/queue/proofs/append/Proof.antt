@@ -24,7 +24,8 @@ returns c =
     let u = c .before .before .before .before in
     let s = u .before .before .before in
     let fits : Fits (s .args .r) = omega arith in
-    appended-slots (now (s .args .b)) (u .used .result) (s .args .r) (s .pre .0) (u .used .ensures) (omega (arith, s .pre .1, u .used .ensures)) fits
+    appended-slots (now (s .args .b)) (u .used .result) (s .args .r) (s .pre .0) (u .used .ensures)
+    (omega (arith, s .pre .1, u .used .ensures)) fits
     (c .before .before .write .ensures)
 
 pub append-spec : {M : Type 1} → statement M

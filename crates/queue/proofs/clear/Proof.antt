@@ -16,15 +16,21 @@ use Rattle.queue.proofs.clear.Statement.{statement}
 use Rattle.queue.proofs.clear.Tie as tie
 
 abbrev Inv-loop : tie.InvT-loop
-Inv-loop b₀ j n m t₀ b t = (t ≤ n - j) × ((length b ≡ bufferBytes) × (slotsOf b ≡ paste (slotsOf b₀) j (replicate (n - j) noSiginfo) t))
+Inv-loop b₀ j n m t₀ b t =
+    (t ≤ n - j) × ((length b ≡ bufferBytes) × (slotsOf b ≡ paste (slotsOf b₀) j (replicate (n - j) noSiginfo) t))
 
 abbrev μ-loop : tie.MeasureT-loop
 μ-loop b₀ j n m t₀ b t = n - j - t
 
 loop-holds : tie.Need-loop-holds Inv-loop μ-loop
 loop-holds c =
-    let s = c .before in
-    (omega arith, (omega arith, paste-zero (slotsOf (now (s .args .b))) (s .args .j) (replicate (s .args .n - s .args .j) noSiginfo)))
+    let s = c .before in (
+      omega arith,
+      (
+        omega arith,
+        paste-zero (slotsOf (now (s .args .b))) (s .args .j) (replicate (s .args .n - s .args .j) noSiginfo),
+      ),
+    )
 
 loop-again : tie.Need-loop-again Inv-loop μ-loop
 loop-again c =
@@ -41,7 +47,8 @@ loop-again c =
         omega arith,
         slot-written b (j + t) noSiginfo (l .loop .inv .1 .0) (omega arith) fits-noSiginfo (w .write .ensures)
             ∙ ap (λ cs. set cs (j + t) noSiginfo) (l .loop .inv .1 .1)
-            ∙ clear-step noSiginfo (slotsOf b₀) j n t (w .before .before .loop-test .taken) (omega (arith, length-slotsOf b₀)),
+            ∙ clear-step noSiginfo (slotsOf b₀) j n t (w .before .before .loop-test .taken)
+            (omega (arith, length-slotsOf b₀)),
       ),
     )
 
@@ -49,7 +56,8 @@ returns : tie.Need-returns Inv-loop μ-loop
 returns c =
     let l = c .before in
     let s = l .before .before in
-    l .loop .inv .1 .1 ∙ clear-done noSiginfo (slotsOf (now (s .args .b))) (s .args .j) (s .args .n) (l .loop .t) (omega arith) (s .pre .1 .0)
+    l .loop .inv .1 .1 ∙ clear-done noSiginfo (slotsOf (now (s .args .b))) (s .args .j) (s .args .n) (l .loop .t)
+    (omega arith) (s .pre .1 .0)
 
 pub clear-spec : {M : Type 1} → statement M
 clear-spec =

@@ -19,7 +19,8 @@ use Rattle.queue.proofs.count_of.Tie as tie
 
 abbrev Inv-loop : tie.InvT-loop
 Inv-loop b process n i₀ k₀ i k =
-    (n ≤ bufferRecords) × (i ≤ n) × (k ≤ i) × (k + count (ofProcess process) (drop i (recordsOf b)) ≡ count (ofProcess process) (recordsOf b))
+    (n ≤ bufferRecords) × (i ≤ n) × (k ≤ i)
+    × (k + count (ofProcess process) (drop i (recordsOf b)) ≡ count (ofProcess process) (recordsOf b))
 
 abbrev μ-loop : tie.MeasureT-loop
 μ-loop b process n i₀ k₀ i k = n - i
@@ -27,8 +28,12 @@ abbrev μ-loop : tie.MeasureT-loop
 loop-holds : tie.Need-loop-holds Inv-loop μ-loop
 loop-holds c =
     let s = c .before .before in
-    let b = now (s .args .b) in
-    (omega (arith, length-recordsOf b), omega arith, omega arith, count-start (ofProcess (s .args .process)) noSiginfo (recordsOf b))
+    let b = now (s .args .b) in (
+      omega (arith, length-recordsOf b),
+      omega arith,
+      omega arith,
+      count-start (ofProcess (s .args .process)) noSiginfo (recordsOf b),
+    )
 
 loop-again : tie.Need-loop-again Inv-loop μ-loop
 loop-again c =
@@ -41,14 +46,21 @@ loop-again c =
     let n = count (ofProcess p) (recordsOf b) in
     let r = c .before .before .read .result in
     let e = c .before .before .read .ensures in
-    let h : i < length (recordsOf b) = omega (arith, c .before .before .before .loop-test .taken, l .before .used .ensures) in
+    let h : i < length (recordsOf b) =
+    omega (arith, c .before .before .before .loop-test .taken, l .before .used .ensures) in
     ⊎-elim
     (λ w.
-    omega
-    (arith, count-hit (ofProcess p) noSiginfo (recordsOf b) i k n h (l .loop .inv .3) (record-tested (ofProcess p) b i e (sym (eq-eqb (r .process) p (w .0 .taken))) h)))
+    omega (
+      arith,
+      count-hit (ofProcess p) noSiginfo (recordsOf b) i k n h (l .loop .inv .3)
+          (record-tested (ofProcess p) b i e (sym (eq-eqb (r .process) p (w .0 .taken))) h),
+    ))
     (λ w.
-    omega
-    (arith, count-miss (ofProcess p) noSiginfo (recordsOf b) i k n h (l .loop .inv .3) (record-tested (ofProcess p) b i e (sym (ne-eqb (r .process) p (w .0 .left))) h)))
+    omega (
+      arith,
+      count-miss (ofProcess p) noSiginfo (recordsOf b) i k n h (l .loop .inv .3)
+          (record-tested (ofProcess p) b i e (sym (ne-eqb (r .process) p (w .0 .left))) h),
+    ))
     (c .if1 .came)
 
 returns : tie.Need-returns Inv-loop μ-loop
@@ -56,7 +68,8 @@ returns c =
     let l = c .before in
     let s = l .before .before .before in
     let rs = recordsOf (now (s .args .b)) in
-    count-done (ofProcess (s .args .process)) noSiginfo rs (l .loop .i) (l .loop .k) (count (ofProcess (s .args .process)) rs)
+    count-done (ofProcess (s .args .process)) noSiginfo rs (l .loop .i) (l .loop .k)
+    (count (ofProcess (s .args .process)) rs)
     (omega (arith, c .loop-test .left, l .before .used .ensures)) (l .loop .inv .3)
 
 pub count-of-spec : {M : Type 1} → statement M

@@ -42,13 +42,16 @@ loop-again c =
     let inv = l .loop .inv .2 in
     let r = c .before .before .read .result in
     let e = c .before .before .read .ensures in
-    let h : i < length (recordsOf b₀) = omega (arith, c .before .before .before .before .loop-test .taken, l .before .used .ensures) in
+    let h : i < length (recordsOf b₀) =
+    omega (arith, c .before .before .before .before .loop-test .taken, l .before .used .ensures) in
     let fits : Fits r = omega (arith, c .before .before .read .ok) in (
       omega arith,
       omega arith,
       ⊎-elim
-          (λ w. sparing-kept q b₀ b i j r inv h e (c .if1 .b) (c .if1 .j) (sym (c .before .is-left .ensures) ∙ w .0 .taken) fits (w .5 ∙ w .2 .ensures) (w .6))
-          (λ w. sparing-passed q b₀ b i j r inv h e (c .if1 .b) (c .if1 .j) (sym (c .before .is-left .ensures) ∙ w .0 .left) (w .1) (w .2))
+          (λ w. sparing-kept q b₀ b i j r inv h e (c .if1 .b) (c .if1 .j)
+          (sym (c .before .is-left .ensures) ∙ w .0 .taken) fits (w .5 ∙ w .2 .ensures) (w .6))
+          (λ w. sparing-passed q b₀ b i j r inv h e (c .if1 .b) (c .if1 .j)
+          (sym (c .before .is-left .ensures) ∙ w .0 .left) (w .1) (w .2))
           (c .if1 .came),
     )
 
@@ -64,7 +67,8 @@ returns c =
     let s = l .before .before .before .before in
     let e = l .before .used .ensures in
     c .before .before .clear .ensures
-    ∙ sparing-done (isLeft (s .args .discarded)) (now (s .args .b)) (l .loop .b) (l .loop .i) (l .loop .j) (l .before .used .result) (s .pre) e
+    ∙ sparing-done (isLeft (s .args .discarded)) (now (s .args .b)) (l .loop .b) (l .loop .i) (l .loop .j)
+    (l .before .used .result) (s .pre) e
     (omega (arith, l .loop .inv .1, c .before .before .before .before .loop-test .left)) (l .loop .inv .2)
 
 pub discard-spec : {M : Type 1} → statement M

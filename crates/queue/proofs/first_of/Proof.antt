@@ -1,4 +1,5 @@
--- `first_of` meets its contract. The invariant: none of the records before i is of the queue and the signal. Assumes nothing.
+-- `first_of` meets its contract. The invariant: none of the records before i is of the queue and the signal.
+-- Assumes nothing.
 use mathlib.Core.Path.{_≡_, sym, _∙_}
 use Prim.Native.Nat.{_+_, _-_, _≤_, _<_}
 use native.Mathlib.Omega.{arith}
@@ -19,7 +20,8 @@ abbrev Inv-loop : tie.InvT-loop
 Inv-loop b process thread signal n i₀ i =
     (n ≤ bufferRecords)
     × (i ≤ n)
-    × (find (inQueue (targetQueue process thread) signal) (recordsOf b) ≡ i + find (inQueue (targetQueue process thread) signal) (drop i (recordsOf b)))
+    × (find (inQueue (targetQueue process thread) signal) (recordsOf b)
+    ≡ i + find (inQueue (targetQueue process thread) signal) (drop i (recordsOf b)))
 
 abbrev μ-loop : tie.MeasureT-loop
 μ-loop b process thread signal n i₀ i = n - i
@@ -27,8 +29,11 @@ abbrev μ-loop : tie.MeasureT-loop
 loop-holds : tie.Need-loop-holds Inv-loop μ-loop
 loop-holds c =
     let s = c .before .before in
-    let b = now (s .args .b) in
-    (omega (arith, length-recordsOf b), omega arith, find-none (inQueue (targetQueue (s .args .process) (s .args .thread)) (s .args .signal)) noSiginfo (recordsOf b))
+    let b = now (s .args .b) in (
+      omega (arith, length-recordsOf b),
+      omega arith,
+      find-none (inQueue (targetQueue (s .args .process) (s .args .thread)) (s .args .signal)) noSiginfo (recordsOf b),
+    )
 
 returns : tie.Need-returns Inv-loop μ-loop
 returns c =
@@ -37,7 +42,8 @@ returns c =
     let b = now (s .args .b) in
     let q = inQueue (targetQueue (s .args .process) (s .args .thread)) (s .args .signal) in
     let i = l .loop .i in
-    let h : i < length (recordsOf b) = omega (arith, c .before .before .before .loop-test .taken, l .before .used .ensures) in
+    let h : i < length (recordsOf b) =
+    omega (arith, c .before .before .before .loop-test .taken, l .before .used .ensures) in
     sym
     (find-here q noSiginfo (recordsOf b) i h (l .loop .inv .2)
     (record-tested q b i (c .before .before .read .ensures) (c .before .in-queue .ensures) h ∙ c .if1 .taken))
@@ -49,7 +55,8 @@ loop-again c =
     let b = now (s .args .b) in
     let q = inQueue (targetQueue (s .args .process) (s .args .thread)) (s .args .signal) in
     let i = l .loop .i in
-    let h : i < length (recordsOf b) = omega (arith, c .before .before .before .loop-test .taken, l .before .used .ensures) in (
+    let h : i < length (recordsOf b) =
+    omega (arith, c .before .before .before .loop-test .taken, l .before .used .ensures) in (
       omega arith,
       omega arith,
       find-more q noSiginfo (recordsOf b) i h (l .loop .inv .2)
@@ -61,7 +68,8 @@ returns-2 c =
     let l = c .before in
     let s = l .before .before .before in
     sym
-    (find-done (inQueue (targetQueue (s .args .process) (s .args .thread)) (s .args .signal)) noSiginfo (recordsOf (now (s .args .b))) (l .loop .i)
+    (find-done (inQueue (targetQueue (s .args .process) (s .args .thread)) (s .args .signal)) noSiginfo
+    (recordsOf (now (s .args .b))) (l .loop .i)
     (omega (arith, c .loop-test .left, l .before .used .ensures)) (l .loop .inv .2))
 
 pub first-of-spec : {M : Type 1} → statement M

@@ -20,7 +20,8 @@ zero-from-requires c κs = omega (arith, length-recordsOf (now (c .before .befor
 returns-2 : tie.Need-returns-2
 returns-2 c =
     let b = now (c .before .before .before .before .args .b) in
-    c .zero-from .ensures ∙ ap (λ n. all isZero (drop n (slotsOf b))) (c .before .used .ensures) ∙ laid-test b (c .before .before .if1 .left)
+    c .zero-from .ensures ∙ ap (λ n. all isZero (drop n (slotsOf b))) (c .before .used .ensures)
+    ∙ laid-test b (c .before .before .if1 .left)
 
 pub is-laid-spec : {M : Type 1} → statement M
 is-laid-spec = tie.close (tie.spec returns (λ c κs. search needs) zero-from-requires returns-2)

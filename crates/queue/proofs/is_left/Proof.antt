@@ -23,7 +23,8 @@ returns-3 : tie.Need-returns-3
 unfolding isLeft
 returns-3 c =
     let s = c .before .before .before .before .before in
-    ap (λ hit. not (eqb (s .args .r .process) (c .before .before .before .discarded3 .given .0 .0) && hit)) (c .before .has .ensures)
+    ap (λ hit. not (eqb (s .args .r .process) (c .before .before .before .discarded3 .given .0 .0) && hit))
+    (c .before .has .ensures)
     ∙ ap (λ d. isLeft d (s .args .r)) (sym (c .before .before .before .discarded3 .given .1))
 
 pub is-left-spec : {M : Type 1} → statement M

@@ -38,9 +38,13 @@ loop-again c =
     let b₀ = now (s .args .b) in
     let i = l .loop .i in
     let r = d .read .result in
-    let h : i + 1 < length (recordsOf b₀) = omega (arith, d .before .before .loop-test .taken, l .before .used .ensures) in
-    let fits : Fits r = omega (arith, d .read .ok) in
-    (omega arith, omega arith, moving-more (s .args .k) b₀ (l .loop .b) i r (l .loop .inv .2) h (d .read .ensures) fits (w .write .ensures))
+    let h : i + 1 < length (recordsOf b₀) =
+    omega (arith, d .before .before .loop-test .taken, l .before .used .ensures) in
+    let fits : Fits r = omega (arith, d .read .ok) in (
+      omega arith,
+      omega arith,
+      moving-more (s .args .k) b₀ (l .loop .b) i r (l .loop .inv .2) h (d .read .ensures) fits (w .write .ensures),
+    )
 
 same-length : tie.Need-same-length Inv-loop μ-loop
 same-length c =

@@ -1,4 +1,5 @@
--- `signals_of` meets its contract. The invariant: the set has the signals of the queue's records before i. Assumes nothing.
+-- `signals_of` meets its contract. The invariant: the set has the signals of the queue's records before i.
+-- Assumes nothing.
 use mathlib.Core.Path.{_≡_, sym, ap₂, _∙_}
 use mathlib.Core.Logic.{⊎-elim}
 use Prim.Native.Nat.{_-_, _≤_, _<_}
@@ -17,7 +18,8 @@ use Rattle.queue.proofs.signals_of.Statement.{statement}
 use Rattle.queue.proofs.signals_of.Tie as tie
 
 abbrev Inv-loop : tie.InvT-loop
-Inv-loop b process thread n i₀ set₀ i set = (n ≤ bufferRecords) × (i ≤ n) × (set ≡ signalsIn (targetQueue process thread) (take i (recordsOf b)))
+Inv-loop b process thread n i₀ set₀ i set =
+    (n ≤ bufferRecords) × (i ≤ n) × (set ≡ signalsIn (targetQueue process thread) (take i (recordsOf b)))
 
 abbrev μ-loop : tie.MeasureT-loop
 μ-loop b process thread n i₀ set₀ i set = n - i
@@ -25,8 +27,11 @@ abbrev μ-loop : tie.MeasureT-loop
 loop-holds : tie.Need-loop-holds Inv-loop μ-loop
 loop-holds c =
     let s = c .before .before in
-    let b = now (s .args .b) in
-    (omega (arith, length-recordsOf b), omega arith, sym (signals-none (targetQueue (s .args .process) (s .args .thread)) (recordsOf b)))
+    let b = now (s .args .b) in (
+      omega (arith, length-recordsOf b),
+      omega arith,
+      sym (signals-none (targetQueue (s .args .process) (s .args .thread)) (recordsOf b)),
+    )
 
 loop-again : tie.Need-loop-again Inv-loop μ-loop
 unfolding sameQueue
@@ -44,7 +49,8 @@ loop-again c =
       omega arith,
       omega arith,
       ⊎-elim
-          (λ w. w .3 ∙ w .2 .ensures ∙ ap₂ union (l .loop .inv .2) (w .1 .ensures) ∙ signals-here rs i h r e q (w .0 .taken))
+          (λ w. w .3 ∙ w .2 .ensures ∙ ap₂ union (l .loop .inv .2) (w .1 .ensures)
+          ∙ signals-here rs i h r e q (w .0 .taken))
           (λ w. w .1 ∙ l .loop .inv .2 ∙ sym (signals-other rs i h r e q (w .0 .left)))
           (c .if1 .came),
     )

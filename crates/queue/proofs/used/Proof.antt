@@ -33,7 +33,8 @@ returns c =
     let n = l .loop .n in
     let h : n < bufferRecords = omega (arith, c .before .before .before .loop-test .taken) in
     leading-here inUse noSiginfo (slotsOf b) n (length (recordsOf b)) (in-slots b n h) (l .loop .inv .1)
-    (slot-tested inUse b n (c .before .before .read .ensures) (c .before .in-use .ensures) h ∙ not-true _ (c .if1 .taken))
+    (slot-tested inUse b n (c .before .before .read .ensures) (c .before .in-use .ensures) h
+    ∙ not-true _ (c .if1 .taken))
 
 loop-again : tie.Need-loop-again Inv-loop μ-loop
 loop-again c =
@@ -43,13 +44,15 @@ loop-again c =
     let h : n < bufferRecords = omega (arith, c .before .before .before .loop-test .taken) in (
       omega arith,
       leading-more inUse noSiginfo (slotsOf b) n (length (recordsOf b)) (in-slots b n h) (l .loop .inv .1)
-          (slot-tested inUse b n (c .before .before .read .ensures) (c .before .in-use .ensures) h ∙ not-false _ (c .if1 .left)),
+          (slot-tested inUse b n (c .before .before .read .ensures) (c .before .in-use .ensures) h
+          ∙ not-false _ (c .if1 .left)),
     )
 
 returns-2 : tie.Need-returns-2 Inv-loop μ-loop
 returns-2 c =
     let b = now (c .before .before .before .args .b) in
-    leading-done inUse noSiginfo (slotsOf b) (c .before .loop .n) (length (recordsOf b)) (omega (arith, length-slotsOf b)) (c .before .loop .inv .1)
+    leading-done inUse noSiginfo (slotsOf b) (c .before .loop .n) (length (recordsOf b))
+    (omega (arith, length-slotsOf b)) (c .before .loop .inv .1)
 
 pub used-spec : {M : Type 1} → statement M
 used-spec =

@@ -1,4 +1,5 @@
--- `zero_from` meets its contract. The invariant: the slots from i on tell what those from `from` on do. Assumes nothing.
+-- `zero_from` meets its contract. The invariant: the slots from i on tell what those from `from` on do.
+-- Assumes nothing.
 use mathlib.Core.Path.{_≡_, refl, _∙_}
 use Prim.Native.Nat.{_-_, _≤_, _<_}
 use native.Mathlib.Omega.{arith}
@@ -32,7 +33,8 @@ returns c =
     let i = l .loop .i in
     let h : i < bufferRecords = omega (arith, c .before .before .before .loop-test .taken) in
     rest-fails isZero noSiginfo (slotsOf b) i (in-slots b i h) (l .loop .inv .1)
-    (slot-tested isZero b i (c .before .before .read .ensures) (c .before .is-zero .ensures) h ∙ not-true _ (c .if1 .taken))
+    (slot-tested isZero b i (c .before .before .read .ensures) (c .before .is-zero .ensures) h
+    ∙ not-true _ (c .if1 .taken))
 
 loop-again : tie.Need-loop-again Inv-loop μ-loop
 loop-again c =
@@ -42,13 +44,15 @@ loop-again c =
     let h : i < bufferRecords = omega (arith, c .before .before .before .loop-test .taken) in (
       omega arith,
       rest-more isZero noSiginfo (slotsOf b) i (in-slots b i h) (l .loop .inv .1)
-          (slot-tested isZero b i (c .before .before .read .ensures) (c .before .is-zero .ensures) h ∙ not-false _ (c .if1 .left)),
+          (slot-tested isZero b i (c .before .before .read .ensures) (c .before .is-zero .ensures) h
+          ∙ not-false _ (c .if1 .left)),
     )
 
 returns-2 : tie.Need-returns-2 Inv-loop μ-loop
 returns-2 c =
     let b = now (c .before .before .before .args .b) in
-    rest-done isZero noSiginfo (slotsOf b) (c .before .loop .i) (omega (arith, length-slotsOf b)) (c .before .loop .inv .1)
+    rest-done isZero noSiginfo (slotsOf b) (c .before .loop .i) (omega (arith, length-slotsOf b))
+    (c .before .loop .inv .1)
 
 pub zero-from-spec : {M : Type 1} → statement M
 zero-from-spec =

@@ -13,7 +13,9 @@ returns : tie.Need-returns
 unfolding lookAt
 returns c =
     let a = c .before .before .before .before .before .before in
-    c .look-part .ensures ∙ ap (λ (ws : List ℕ). lookBytes (a .args .thread) (lent (a .args .ps .now) ws (a .args .tb .now) (a .args .pb .now))) (c .before .before .words-of .ensures)
+    c .look-part .ensures ∙ ap
+    (λ (ws : List ℕ). lookBytes (a .args .thread) (lent (a .args .ps .now) ws (a .args .tb .now) (a .args .pb .now)))
+    (c .before .before .words-of .ensures)
 
 pub part-of-spec : {M : Type 1} → statement M
 part-of-spec = tie.close (tie.spec (λ c κs. search needs) (λ c. search needs) (λ c κs. search needs) returns)

@@ -1,4 +1,5 @@
--- `rrezhbuta::rrezhbuta_look` meets its contract: a walk of its MIR, by hand, with a branch and two calls. Of `slot_of` only what it ensures is used.
+-- `rrezhbuta::rrezhbuta_look` meets its contract: a walk of its MIR, by hand, with a branch and two calls.
+-- Of `slot_of` only what it ensures is used.
 -- Assumes nothing.
 use mathlib.Core.Path.{_≡_, refl}
 use Prim.Native.Nat.{ℕ, _<_, _^_}
@@ -16,9 +17,11 @@ use prog.Wp.{Heap, Env, Calls, Loops, WpFn, Tables}
 use ghost.Atoms.{Atoms}
 use contract.Monad.{Fun}
 use contract.Running.{givenOf, tables, tablesOf}
-use types.Kit.{Given, Item, Sq, runs, atRet, ‵, raw, _⊛_, ⋆, _$_, _∵_, !, qed, by, move, keep, drop, group, use0, use1, use2, split, join, rewrite, fsplit, suffices, frame, done}
+use types.Kit.{Given, Item, Sq, runs, atRet, ‵, raw, _⊛_, ⋆, _$_, _∵_, !, qed, by, move, keep, drop, group, use0, use1}
+use types.Kit.{use2, split, join, rewrite, fsplit, suffices, frame, done}
 use types.Part.{whole as part, sub, look-in}
-use types.Run.{look, init, forget, stop, fld, from, load, lit, and-then, no-more, of-opd, bin, assigns, first, branches, skips, exec, land, returns, returns-within, enter, alloc1, alloc0, params1, pass1, pass0}
+use types.Run.{look, init, forget, stop, fld, from, load, lit, and-then, no-more, of-opd, bin, assigns, first, branches}
+use types.Run.{skips, exec, land, returns, returns-within, enter, alloc1, alloc0, params1, pass1, pass0}
 use sound.WpLaws.{FmC, fmOf}
 use denote.Laws.{Is}
 use denote.Plain.{uint-vals, uint-tells, uint-makes, uint-lawful}
@@ -45,7 +48,8 @@ use Rattle.threads.proofs.load.Met as ld-thm
 use Rattle.rrezhbuta.proofs.Lends.{elem, slice, table, rows, word}
 use Rattle.rrezhbuta.proofs.Lengths.{no-slot}
 use Rattle.rrezhbuta.proofs.Load.{Load, to-load, asks-load}
-use Rattle.rrezhbuta.proofs.Walk.{is-yes, Cell, spare, holds, slots, cells, frees-all, copied, Numbers, numbers, Truths, truths, Its, ends-by, meets-by, calls-by}
+use Rattle.rrezhbuta.proofs.Walk.{is-yes, Cell, spare, holds, slots, cells, frees-all, copied, Numbers, numbers}
+use Rattle.rrezhbuta.proofs.Walk.{Truths, truths, Its, ends-by, meets-by, calls-by}
 use Rattle.rrezhbuta.proofs.slot_of as sl
 use Rattle.rrezhbuta.proofs.slot_of.Symbol as sl-def
 use Rattle.rrezhbuta.proofs.slot_of.Symbol.{name as #rrezhbuta·slot-of}
@@ -64,9 +68,10 @@ module _ {M : Type 1} (𝓤 : URA M) (H : Heap 𝓤) (A : Atoms 𝓤) (mem : Mem
   abbrev Slot : Contract 𝓤
   Slot = Its 𝓤 H A sl.ended (sl.clauses 𝓤 H A mem run)
 
-module _ {M : Type 1} (𝓤 : URA M) (H : Heap 𝓤) (A : Atoms 𝓤) (W : Given 𝓤 H A) (mem : Memory → SProp 𝓤) (run : Routine → Fun 𝓤)
-    (κ₁ κ₂ κ₃ κ₄ : Lft) (q₁ q₂ q₃ q₄ : Share) (ps tb pb : RefT (List ℕ)) (ts : RefT (List Thread)) (thread : ℕ)
-    (g₁ : Room u64 (length (ps .now))) (g₂ : Room u8 (length (tb .now))) (g₃ : Room u8 (length (pb .now))) (g₄ : Room T.the-row (length (ts .now))) (g₅ : thread < 2 ^ 32) where
+module _ {M : Type 1} (𝓤 : URA M) (H : Heap 𝓤) (A : Atoms 𝓤) (W : Given 𝓤 H A) (mem : Memory → SProp 𝓤)
+    (run : Routine → Fun 𝓤) (κ₁ κ₂ κ₃ κ₄ : Lft) (q₁ q₂ q₃ q₄ : Share) (ps tb pb : RefT (List ℕ))
+    (ts : RefT (List Thread)) (thread : ℕ) (g₁ : Room u64 (length (ps .now))) (g₂ : Room u8 (length (tb .now)))
+    (g₃ : Room u8 (length (pb .now))) (g₄ : Room T.the-row (length (ts .now))) (g₅ : thread < 2 ^ 32) where
   abbrev arg : Args self.signature (κ₁, (κ₂, (κ₃, (κ₄, tt))))
   arg = (ps, (tb, (pb, (ts, (thread, tt)))))
 
@@ -90,35 +95,53 @@ module _ {M : Type 1} (𝓤 : URA M) (H : Heap 𝓤) (A : Atoms 𝓤) (W : Given
   OwnT = ShrSlice (named 0) κ₄ T.the-row .own ts (word ts ∷ [])
 
   exits : (r : ℕ) (w : Val) → r ≡ slotAt (ps .now) (tb .now) (pb .now) (ts .now) thread
-      → ent 𝓤 (⋆ 𝓤 H A (‵ (u64 .own r (w ∷ [])) ∷ ‵ (flft κ₁ q₁) ∷ ‵ (flft κ₂ q₂) ∷ ‵ (flft κ₃ q₃) ∷ ‵ (flft κ₄ q₄) ∷ [])) (Post w)
+      → ent 𝓤
+      (⋆ 𝓤 H A (‵ (u64 .own r (w ∷ [])) ∷ ‵ (flft κ₁ q₁) ∷ ‵ (flft κ₂ q₂) ∷ ‵ (flft κ₃ q₃) ∷ ‵ (flft κ₄ q₄) ∷ []))
+      (Post w)
   exits r w e =
       qed W (‵ (u64 .own r (w ∷ [])) ∷ ‵ (flft κ₁ q₁) ∷ ‵ (flft κ₂ q₂) ∷ ‵ (flft κ₃ q₃) ∷ ‵ (flft κ₄ q₄) ∷ []) ∵
-      suffices ! _ (ends-by 𝓤 H A self.ended (self.clauses 𝓤 H A mem run) bound W w r (tt, (tt, (tt, (tt, (tt, tt)))))) $ says ! e $
-      nothing ! $ move ! (2 ∷ 3 ∷ 4 ∷ 5 ∷ 0 ∷ []) $ group ! 5 $ join ! $ frame ! $ use0 W (‵ (Truths 5)) (truths 𝓤 H A 5) $ done !
+      suffices ! _
+      (ends-by 𝓤 H A self.ended (self.clauses 𝓤 H A mem run) bound W w r (tt, (tt, (tt, (tt, (tt, tt)))))) $ says ! e $
+      nothing ! $ move ! (2 ∷ 3 ∷ 4 ∷ 5 ∷ 0 ∷ []) $ group ! 5 $ join ! $ frame ! $
+      use0 W (‵ (Truths 5)) (truths 𝓤 H A 5) $ done !
 
   -- what `slot_of` is handed, the records at the machine value w, and what it asks
   abbrev to-slot : Val → Slot 𝓤 H A mem run .Ghost
-  to-slot w =
-      (((κ₁, (κ₂, (κ₃, tt))), (q₁, (q₂, (q₃, tt))), tt, (ps, (tb, (pb, (ts .now, (thread, tt))))), (word ps ∷ [], (word tb ∷ [], (word pb ∷ [], (w ∷ [], (vint w32 thread ∷ [], tt)))))), tt)
+  to-slot w = (
+    (
+      (κ₁, (κ₂, (κ₃, tt))),
+      (q₁, (q₂, (q₃, tt))),
+      tt,
+      (ps, (tb, (pb, (ts .now, (thread, tt))))),
+      (word ps ∷ [], (word tb ∷ [], (word pb ∷ [], (w ∷ [], (vint w32 thread ∷ [], tt))))),
+    ),
+    tt,
+  )
 
   abbrev Handed : Val → Fml
   Handed w = fsep OwnP (fsep (OwnB κ₂ tb) (fsep (OwnB κ₃ pb) (fsep (rows (ts .now) w) (Numbers ((w32, thread) ∷ [])))))
 
-  asks-slot : (w : Val) → ent 𝓤 (⋆ 𝓤 H A (‵ (flft κ₁ q₁) ∷ ‵ (flft κ₂ q₂) ∷ ‵ (flft κ₃ q₃) ∷ ‵ OwnP ∷ ‵ (OwnB κ₂ tb) ∷ ‵ (OwnB κ₃ pb) ∷ ‵ (rows (ts .now) w) ∷ [])) (Slot 𝓤 H A mem run .pre (to-slot w))
+  asks-slot : (w : Val) → ent 𝓤 (⋆ 𝓤 H A (‵ (flft κ₁ q₁) ∷ ‵ (flft κ₂ q₂) ∷ ‵ (flft κ₃ q₃)
+      ∷ ‵ OwnP ∷ ‵ (OwnB κ₂ tb) ∷ ‵ (OwnB κ₃ pb) ∷ ‵ (rows (ts .now) w) ∷ []))
+      (Slot 𝓤 H A mem run .pre (to-slot w))
   asks-slot w =
-      qed W (‵ (flft κ₁ q₁) ∷ ‵ (flft κ₂ q₂) ∷ ‵ (flft κ₃ q₃) ∷ ‵ OwnP ∷ ‵ (OwnB κ₂ tb) ∷ ‵ (OwnB κ₃ pb) ∷ ‵ (rows (ts .now) w) ∷ []) ∵
-      use0 W (‵ (Numbers ((w32, thread) ∷ []))) (numbers 𝓤 H A W ((w32, thread) ∷ []) (g₅, tt)) $ move ! (4 ∷ 5 ∷ 6 ∷ 7 ∷ 0 ∷ []) $ group ! 5 $ use1 W (‵ (Handed w)) (id⊢ 𝓤 _) $
+      qed W (‵ (flft κ₁ q₁) ∷ ‵ (flft κ₂ q₂) ∷ ‵ (flft κ₃ q₃) ∷ ‵ OwnP ∷ ‵ (OwnB κ₂ tb) ∷ ‵ (OwnB κ₃ pb)
+      ∷ ‵ (rows (ts .now) w) ∷ []) ∵
+      use0 W (‵ (Numbers ((w32, thread) ∷ []))) (numbers 𝓤 H A W ((w32, thread) ∷ []) (g₅, tt)) $
+      move ! (4 ∷ 5 ∷ 6 ∷ 7 ∷ 0 ∷ []) $ group ! 5 $ use1 W (‵ (Handed w)) (id⊢ 𝓤 _) $
       nothing ! $ move ! (2 ∷ 3 ∷ 4 ∷ 0 ∷ []) $ group ! 4 $ join ! $ frame ! $ done !
 
   module _ (C : Calls 𝓤 H) (Λ : Loops 𝓤 H) (fm : FmC 𝓤 H (W .laws) C)
-      (known-load : Triple 𝓤 (C #threads·load) (Load 𝓤 H A mem run)) (known-slot : Triple 𝓤 (C #rrezhbuta·slot-of) (Slot 𝓤 H A mem run)) where
+      (known-load : Triple 𝓤 (C #threads·load) (Load 𝓤 H A mem run))
+      (known-slot : Triple 𝓤 (C #rrezhbuta·slot-of) (Slot 𝓤 H A mem run)) where
     module _
         (l₀ l₁ l₂ l₃ l₄ l₅ l₆ l₇ l₈ : ℕ) where
       -- the locals, with i for the records
       abbrev Frame : Cell → List Cell
       Frame i =
-          spare (tyInt w64) l₀ ∷ holds (slice (named 0) imm (tyInt w64)) l₁ (word ps) ∷ holds (slice (named 1) imm (tyInt w8)) l₂ (word tb)
-          ∷ holds (slice (named 2) imm (tyInt w8)) l₃ (word pb) ∷ holds (slice (named 3) imm elem) l₄ (word ts) ∷ holds (tyInt w32) l₅ (vint w32 thread) ∷ i
+          spare (tyInt w64) l₀ ∷ holds (slice (named 0) imm (tyInt w64)) l₁ (word ps)
+          ∷ holds (slice (named 1) imm (tyInt w8)) l₂ (word tb) ∷ holds (slice (named 2) imm (tyInt w8)) l₃ (word pb)
+          ∷ holds (slice (named 3) imm elem) l₄ (word ts) ∷ holds (tyInt w32) l₅ (vint w32 thread) ∷ i
           ∷ spare (tyInt w64) l₇ ∷ spare tyBool l₈ ∷ []
 
       abbrev En : Env 𝓤 H
@@ -126,64 +149,105 @@ module _ {M : Type 1} (𝓤 : URA M) (H : Heap 𝓤) (A : Atoms 𝓤) (W : Given
 
       -- the tokens, what the parameters own, and the locals
       abbrev Ready : List (Item 𝓤)
-      Ready = ‵ (flft κ₁ q₁) ∷ ‵ (flft κ₂ q₂) ∷ ‵ (flft κ₃ q₃) ∷ ‵ (flft κ₄ q₄) ∷ ‵ OwnP ∷ ‵ (OwnB κ₂ tb) ∷ ‵ (OwnB κ₃ pb) ∷ ‵ OwnT ∷ cells (Frame (spare table l₆)) []
+      Ready =
+          ‵ (flft κ₁ q₁) ∷ ‵ (flft κ₂ q₂) ∷ ‵ (flft κ₃ q₃) ∷ ‵ (flft κ₄ q₄) ∷ ‵ OwnP ∷ ‵ (OwnB κ₂ tb) ∷ ‵ (OwnB κ₃ pb)
+          ∷ ‵ OwnT ∷ cells (Frame (spare table l₆)) []
 
       -- a full row
       looks : length (ts .now) ≡ threadPlaces → Sq W Ready (runs C Λ En mir.t-4 (atRet En Post))
       looks all =
-          move ! (3 ∷ 7 ∷ []) $ use2 W (raw (Load 𝓤 H A mem run .pre (to-load 𝓤 H A mem run κ₄ q₄ ts))) (asks-load 𝓤 H A mem run κ₄ q₄ ts W all) $
-          calls-by ! fm ld.ended (ld.clauses 𝓤 H A mem run) known-load (to-load 𝓤 H A mem run κ₄ q₄ ts) (λ r zs. r ≡ ts .now) (λ r zs. id⊢ 𝓤 _) (and-then ! (copied ! 15 refl) (no-more !)) (λ w r zs e is.
+          move ! (3 ∷ 7 ∷ []) $ use2 W (raw (Load 𝓤 H A mem run .pre (to-load 𝓤 H A mem run κ₄ q₄ ts)))
+          (asks-load 𝓤 H A mem run κ₄ q₄ ts W all) $
+          calls-by ! fm ld.ended (ld.clauses 𝓤 H A mem run) known-load (to-load 𝓤 H A mem run κ₄ q₄ ts)
+          (λ r zs. r ≡ ts .now) (λ r zs. id⊢ 𝓤 _) (and-then ! (copied ! 15 refl) (no-more !)) (λ w r zs e is.
           rewrite ! 0 (λ (ys : List Thread). ‵ (rows ys w)) e refl $
-          land ! (from ! (stop !)) (init ! 13 refl (array-lawful 𝓤 H A W T.the-row (LL.lawful T.the-type T′.the-laws 𝓤 H A W) threadPlaces .typed r _ is .0)) $
+          land ! (from ! (stop !)) (init ! 13 refl
+          (array-lawful 𝓤 H A W T.the-row (LL.lawful T.the-type T′.the-laws 𝓤 H A W) threadPlaces .typed r _ is .0)) $
           -- [the records; ts's token; true; the others' tokens; ps; tb; pb; the locals]
-          move ! (3 ∷ 4 ∷ 5 ∷ 6 ∷ 7 ∷ 8 ∷ 0 ∷ []) $ group ! 7 $ use1 W (raw (Slot 𝓤 H A mem run .pre (to-slot w))) (asks-slot w) $
-          calls-by ! fm sl.ended (sl.clauses 𝓤 H A mem run) known-slot (to-slot w) (λ n zs. n ≡ slotAt (ps .now) (tb .now) (pb .now) (ts .now) thread) (λ n zs. id⊢ 𝓤 _)
-          (and-then ! (copied ! 17 refl) (and-then ! (copied ! 15 refl) (and-then ! (copied ! 13 refl) (and-then ! (copied ! 7 refl) (and-then ! (copied ! 9 refl) (no-more !)))))) (λ v n ys e₁ small.
-          land ! (from ! (stop !)) (init ! 21 refl (uint-lawful 𝓤 H A W w64 .typed n _ small .0)) $ returns ! (look ! 21 refl) $ forget ! 21 refl $ forget ! 9 refl $ frees-all ! 5 (Frame (spare table l₆)) refl $
+          move ! (3 ∷ 4 ∷ 5 ∷ 6 ∷ 7 ∷ 8 ∷ 0 ∷ []) $ group ! 7 $
+          use1 W (raw (Slot 𝓤 H A mem run .pre (to-slot w))) (asks-slot w) $
+          calls-by ! fm sl.ended (sl.clauses 𝓤 H A mem run) known-slot (to-slot w)
+          (λ n zs. n ≡ slotAt (ps .now) (tb .now) (pb .now) (ts .now) thread) (λ n zs. id⊢ 𝓤 _)
+          (and-then ! (copied ! 17 refl)
+          (and-then ! (copied ! 15 refl)
+          (and-then ! (copied ! 13 refl) (and-then ! (copied ! 7 refl) (and-then ! (copied ! 9 refl) (no-more !))))))
+          (λ v n ys e₁ small.
+          land ! (from ! (stop !)) (init ! 21 refl (uint-lawful 𝓤 H A W w64 .typed n _ small .0)) $
+          returns ! (look ! 21 refl) $ forget ! 21 refl $ forget ! 9 refl $
+          frees-all ! 5 (Frame (spare table l₆)) refl $
           -- [the number; the others' tokens; true; ts's token; true]
-          move ! (1 ∷ []) $ use1 W (‵ (flft κ₁ q₁) ⊛ (‵ (flft κ₂ q₂) ⊛ (‵ (flft κ₃ q₃) ⊛ ‵ ftrue))) (id⊢ 𝓤 _) $ split ! $ move ! (1 ∷ []) $ split ! $ move ! (1 ∷ []) $ split ! $
-          move ! (6 ∷ []) $ use1 W (‵ (flft κ₄ q₄) ⊛ ‵ ftrue) (id⊢ 𝓤 _) $ split ! $ keep ! (6 ∷ 5 ∷ 4 ∷ 2 ∷ 0 ∷ []) $ by ! (exits n v e₁)))
+          move ! (1 ∷ []) $ use1 W (‵ (flft κ₁ q₁) ⊛ (‵ (flft κ₂ q₂) ⊛ (‵ (flft κ₃ q₃) ⊛ ‵ ftrue))) (id⊢ 𝓤 _) $
+          split ! $ move ! (1 ∷ []) $ split ! $ move ! (1 ∷ []) $ split ! $ move ! (6 ∷ []) $
+          use1 W (‵ (flft κ₄ q₄) ⊛ ‵ ftrue) (id⊢ 𝓤 _) $ split ! $ keep ! (6 ∷ 5 ∷ 4 ∷ 2 ∷ 0 ∷ []) $
+          by ! (exits n v e₁)))
 
       -- the length is looked at
       begins : Sq W Ready (runs C Λ En mir.t-1 (atRet En Post))
       begins =
-          assigns ! (of-opd ! (load ! (from ! (fld ! refl (stop !))) (look-in ! 16 (sub ! 1 refl (part !))))) (from ! (stop !)) (init ! 10 refl (tt, record { fits = g₄ .0 })) $
+          assigns ! (of-opd ! (load ! (from ! (fld ! refl (stop !))) (look-in ! 16 (sub ! 1 refl (part !)))))
+          (from ! (stop !)) (init ! 10 refl (tt, record { fits = g₄ .0 })) $
           assigns ! (bin ! (copied ! 10 refl) (lit ! tt) tt) (from ! (stop !)) (init ! 8 refl (tt, tt)) $
           first ! $ branches ! (copied ! 8 refl)
           (λ other. assigns ! (of-opd ! (lit ! tt)) (from ! (stop !)) (init ! 24 refl (tt, record { fits = lit< tt })) $
-          returns-within ! Post refl (look ! 24 refl) $ forget ! 24 refl $ forget ! 10 refl $ forget ! 8 refl $ frees-all ! 8 (Frame (spare table l₆)) refl $
+          returns-within ! Post refl (look ! 24 refl) $ forget ! 24 refl $ forget ! 10 refl $ forget ! 8 refl $
+          frees-all ! 8 (Frame (spare table l₆)) refl $
           owned ! u64 (Is u64) (uint-makes 𝓤 H A W w64) 0 _ (refl, lit< tt) $ keep ! (0 ∷ 1 ∷ 2 ∷ 3 ∷ 4 ∷ []) $
           by ! (exits 0 (vint w64 0) (no-slot (ps .now) (tb .now) (pb .now) (ts .now) thread other)))
-          (λ same. skips ! $ exec ! C Λ En mir.t-4 (atRet En Post) $ forget ! 8 refl $ forget ! 10 refl $ looks (eqb→eq (length (ts .now)) threadPlaces (is-yes (eqb (length (ts .now)) threadPlaces) same)))
+          (λ same. skips ! $ exec ! C Λ En mir.t-4 (atRet En Post) $ forget ! 8 refl $ forget ! 10 refl $
+          looks (eqb→eq (length (ts .now)) threadPlaces (is-yes (eqb (length (ts .now)) threadPlaces) same)))
 
-    walk : ent 𝓤 (onEntry 𝓤 H A self.signature (κ₁, (κ₂, (κ₃, (κ₄, tt)))) (q₁, (q₂, (q₃, (q₄, tt)))) arg at) (WpFn 𝓤 H C Λ code.function (word ps ∷ word tb ∷ word pb ∷ word ts ∷ vint w32 thread ∷ []) Post)
+    walk : ent 𝓤 (onEntry 𝓤 H A self.signature (κ₁, (κ₂, (κ₃, (κ₄, tt)))) (q₁, (q₂, (q₃, (q₄, tt)))) arg at)
+        (WpFn 𝓤 H C Λ code.function (word ps ∷ word tb ∷ word pb ∷ word ts ∷ vint w32 thread ∷ []) Post)
     walk =
-        qed W ((‵ (flft κ₁ q₁) ⊛ (‵ (flft κ₂ q₂) ⊛ (‵ (flft κ₃ q₃) ⊛ (‵ (flft κ₄ q₄) ⊛ ‵ ftrue)))) ∷ ‵ (fsep OwnP (fsep (OwnB κ₂ tb) (fsep (OwnB κ₃ pb) (fsep OwnT (Numbers ((w32, thread) ∷ [])))))) ∷ []) ∵
+        qed W ((‵ (flft κ₁ q₁) ⊛ (‵ (flft κ₂ q₂) ⊛ (‵ (flft κ₃ q₃) ⊛ (‵ (flft κ₄ q₄) ⊛ ‵ ftrue))))
+        ∷ ‵ (fsep OwnP (fsep (OwnB κ₂ tb) (fsep (OwnB κ₃ pb) (fsep OwnT (Numbers ((w32, thread) ∷ [])))))) ∷ []) ∵
         enter ! C Λ code.function (word ps ∷ word tb ∷ word pb ∷ word ts ∷ vint w32 thread ∷ []) _ $
-        alloc1 ! (λ l₀. alloc1 ! (λ l₁. alloc1 ! (λ l₂. alloc1 ! (λ l₃. alloc1 ! (λ l₄. alloc1 ! (λ l₅. alloc1 ! (λ l₆. alloc1 ! (λ l₇. alloc1 ! (λ l₈. alloc0 ! $ params1 ! $
-        pass1 ! (init ! 14 refl (tt, (tt, (record { fits = g₁ .0 }, tt)))) $ pass1 ! (init ! 12 refl (tt, (tt, (record { fits = g₂ .0 }, tt)))) $
-        pass1 ! (init ! 10 refl (tt, (tt, (record { fits = g₃ .0 }, tt)))) $ pass1 ! (init ! 8 refl (tt, (tt, (record { fits = g₄ .0 }, tt)))) $
+        alloc1 ! (λ l₀. alloc1 ! (λ l₁. alloc1 ! (λ l₂. alloc1 ! (λ l₃. alloc1 ! (λ l₄. alloc1 ! (λ l₅. alloc1 ! (λ l₆.
+        alloc1 ! (λ l₇. alloc1 ! (λ l₈. alloc0 ! $ params1 ! $
+        pass1 ! (init ! 14 refl (tt, (tt, (record { fits = g₁ .0 }, tt)))) $
+        pass1 ! (init ! 12 refl (tt, (tt, (record { fits = g₂ .0 }, tt)))) $
+        pass1 ! (init ! 10 refl (tt, (tt, (record { fits = g₃ .0 }, tt)))) $
+        pass1 ! (init ! 8 refl (tt, (tt, (record { fits = g₄ .0 }, tt)))) $
         pass1 ! (init ! 6 refl (tt, record { fits = g₅ })) $ pass0 ! $
         move ! (18 ∷ []) $ split ! $ move ! (1 ∷ []) $ split ! $ move ! (1 ∷ []) $ split ! $ move ! (1 ∷ []) $ split ! $
         -- [ts's token; true; pb's, tb's and ps's; the locals; what is owned]
-        move ! (23 ∷ []) $ fsplit ! $ move ! (1 ∷ []) $ fsplit ! $ move ! (1 ∷ []) $ fsplit ! $ move ! (1 ∷ []) $ fsplit ! $
+        move ! (23 ∷ []) $ fsplit ! $ move ! (1 ∷ []) $ fsplit ! $ move ! (1 ∷ []) $ fsplit ! $
+        move ! (1 ∷ []) $ fsplit ! $
         -- [ts; the number; pb; tb; ps; ts's token; true; pb's, tb's and ps's; the locals]
-        move ! (1 ∷ 6 ∷ []) $ drop ! $ drop ! $ move ! (7 ∷ 6 ∷ 5 ∷ 4 ∷ 3 ∷ 2 ∷ 1 ∷ 0 ∷ []) $ begins l₀ l₁ l₂ l₃ l₄ l₅ l₆ l₇ l₈)))))))))
+        move ! (1 ∷ 6 ∷ []) $ drop ! $ drop ! $ move ! (7 ∷ 6 ∷ 5 ∷ 4 ∷ 3 ∷ 2 ∷ 1 ∷ 0 ∷ []) $
+        begins l₀ l₁ l₂ l₃ l₄ l₅ l₆ l₇ l₈)))))))))
 
-module _ {M : Type 1} (𝓤 : URA M) (H : Heap 𝓤) (A : Atoms 𝓤) (W : Given 𝓤 H A) (mem : Memory → SProp 𝓤) (run : Routine → Fun 𝓤)
-    (𝓣 : Tables 𝓤 H) (known-load : Triple 𝓤 (𝓣 .C #threads·load) (Load 𝓤 H A mem run)) (known-slot : Triple 𝓤 (𝓣 .C #rrezhbuta·slot-of) (Slot 𝓤 H A mem run)) where
+module _ {M : Type 1} (𝓤 : URA M) (H : Heap 𝓤) (A : Atoms 𝓤) (W : Given 𝓤 H A) (mem : Memory → SProp 𝓤)
+    (run : Routine → Fun 𝓤) (𝓣 : Tables 𝓤 H) (known-load : Triple 𝓤 (𝓣 .C #threads·load) (Load 𝓤 H A mem run))
+    (known-slot : Triple 𝓤 (𝓣 .C #rrezhbuta·slot-of) (Slot 𝓤 H A mem run)) where
   f-meets : Meets 𝓤 H A self.signature (WpFn 𝓤 H (𝓣 .C) (𝓣 .Λ) code.function) (self.spec 𝓤 H A mem run)
-  f-meets = meets-by 𝓤 H A self.ended (self.clauses 𝓤 H A mem run) (WpFn 𝓤 H (𝓣 .C) (𝓣 .Λ) code.function) (λ κs. (slice-vals, (slice-vals, (slice-vals, (slice-vals, (uint-vals w32, tt))))))
-      (λ κs. (shr-slice-tells (named 0) (κs .0) u64, (shr-slice-tells (named 1) (κs .1 .0) u8, (shr-slice-tells (named 2) (κs .1 .1 .0) u8, (shr-slice-tells (named 3) (κs .1 .1 .1 .0) T.the-row, (uint-tells w32, tt))))))
-      (λ κs qs bounds a g are. via 𝓤 _ (fst∗ 𝓤 _ (emp 𝓤)) (walk 𝓤 H A W mem run (κs .0) (κs .1 .0) (κs .1 .1 .0) (κs .1 .1 .1 .0) (qs .0) (qs .1 .0) (qs .1 .1 .0) (qs .1 .1 .1 .0)
+  f-meets =
+      meets-by 𝓤 H A self.ended (self.clauses 𝓤 H A mem run) (WpFn 𝓤 H (𝓣 .C) (𝓣 .Λ) code.function)
+      (λ κs. (slice-vals, (slice-vals, (slice-vals, (slice-vals, (uint-vals w32, tt))))))
+      (λ κs. (
+        shr-slice-tells (named 0) (κs .0) u64,
+        (
+          shr-slice-tells (named 1) (κs .1 .0) u8,
+          (
+            shr-slice-tells (named 2) (κs .1 .1 .0) u8,
+            (shr-slice-tells (named 3) (κs .1 .1 .1 .0) T.the-row, (uint-tells w32, tt)),
+          ),
+        ),
+      ))
+      (λ κs qs bounds a g are. via 𝓤 _ (fst∗ 𝓤 _ (emp 𝓤)) (walk 𝓤 H A W mem run (κs .0) (κs .1 .0) (κs .1 .1 .0)
+      (κs .1 .1 .1 .0) (qs .0) (qs .1 .0) (qs .1 .1 .0) (qs .1 .1 .1 .0)
       (a .0) (a .1 .0) (a .1 .1 .0) (a .1 .1 .1 .0) (a .1 .1 .1 .1 .0)
-      (are .0 .0 .1) (are .1 .0 .0 .1) (are .1 .1 .0 .0 .1) (are .1 .1 .1 .0 .0 .1) (are .1 .1 .1 .1 .0 .1) (𝓣 .C) (𝓣 .Λ) (fmOf 𝓤 H (W .laws) 𝓣) known-load known-slot))
+      (are .0 .0 .1) (are .1 .0 .0 .1) (are .1 .1 .0 .0 .1) (are .1 .1 .1 .0 .0 .1) (are .1 .1 .1 .1 .0 .1) (𝓣 .C)
+      (𝓣 .Λ) (fmOf 𝓤 H (W .laws) 𝓣) known-load known-slot))
 
 pub rrezhbuta-look-slot-spec : {M : Type 1} → stated.statement M
 unfolding code.routine tablesOf
 rrezhbuta-look-slot-spec 𝓤 H 𝓜 𝓖 𝓡 =
     entered 𝓤 H (tripleOf 𝓤 H (𝓖 .A) self.signature (self.spec 𝓤 H (𝓖 .A) (𝓜 .mem) (𝓡 .run)))
-    (tables 𝓤 H 𝓜 𝓡 code.env .C) (tables 𝓤 H 𝓜 𝓡 code.env .Λ) #rrezhbuta·rrezhbuta-look-slot code.function (code.unfolded 𝓤 H 𝓜 𝓡)
+    (tables 𝓤 H 𝓜 𝓡 code.env .C) (tables 𝓤 H 𝓜 𝓡 code.env .Λ) #rrezhbuta·rrezhbuta-look-slot code.function
+    (code.unfolded 𝓤 H 𝓜 𝓡)
     (f-meets 𝓤 H (𝓖 .A) (givenOf 𝓤 H 𝓜 𝓖) (𝓜 .mem) (𝓡 .run) (tablesOf 𝓤 H 𝓜 (tables 𝓤 H 𝓜 𝓡 code.env))
-    (cited 𝓤 H (tripleOf 𝓤 H (𝓖 .A) ld.signature (ld.spec 𝓤 H (𝓖 .A) (𝓜 .mem) (𝓡 .run))) 𝓜 𝓡 code.env #threads·load ld-def.routine code.calls-threads·load (ld-thm.met 𝓤 H 𝓜 𝓖 𝓡))
-    (cited 𝓤 H (tripleOf 𝓤 H (𝓖 .A) sl.signature (sl.spec 𝓤 H (𝓖 .A) (𝓜 .mem) (𝓡 .run))) 𝓜 𝓡 code.env #rrezhbuta·slot-of sl-def.routine code.calls-rrezhbuta·slot-of (sl-thm.met 𝓤 H 𝓜 𝓖 𝓡)))
+    (cited 𝓤 H (tripleOf 𝓤 H (𝓖 .A) ld.signature (ld.spec 𝓤 H (𝓖 .A) (𝓜 .mem) (𝓡 .run))) 𝓜 𝓡 code.env #threads·load
+    ld-def.routine code.calls-threads·load (ld-thm.met 𝓤 H 𝓜 𝓖 𝓡))
+    (cited 𝓤 H (tripleOf 𝓤 H (𝓖 .A) sl.signature (sl.spec 𝓤 H (𝓖 .A) (𝓜 .mem) (𝓡 .run))) 𝓜 𝓡 code.env #rrezhbuta·slot-of
+    sl-def.routine code.calls-rrezhbuta·slot-of (sl-thm.met 𝓤 H 𝓜 𝓖 𝓡)))

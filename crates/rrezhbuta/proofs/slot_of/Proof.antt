@@ -13,7 +13,9 @@ returns : tie.Need-returns
 unfolding slotAt
 returns c =
     let a = c .before .before .before .before .before .before in
-    c .look-slot .ensures ∙ ap (λ (ws : List ℕ). lookSlot (a .args .thread) (lent (a .args .ps .now) ws (a .args .tb .now) (a .args .pb .now))) (c .before .before .words-of .ensures)
+    c .look-slot .ensures ∙ ap
+    (λ (ws : List ℕ). lookSlot (a .args .thread) (lent (a .args .ps .now) ws (a .args .tb .now) (a .args .pb .now)))
+    (c .before .before .words-of .ensures)
 
 pub slot-of-spec : {M : Type 1} → statement M
 slot-of-spec = tie.close (tie.spec (λ c κs. search needs) (λ c. search needs) (λ c κs. search needs) returns)

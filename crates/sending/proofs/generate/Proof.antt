@@ -45,7 +45,8 @@ job-control-requires c κs =
 
 set-mark-requires : tie.Need-set-mark-requires
 set-mark-requires c κs =
-    let d = c .before .before .before .before .before .before .before .before .before .before .before .before .before .before in
+    let d =
+    c .before .before .before .before .before .before .before .before .before .before .before .before .before .before in
     let a = d .before .before .before .before .before .before .before .before .before .before in
     let f = a .args .f in
     let r = a .args .r in
@@ -57,7 +58,9 @@ abbrev marked : tie.After-slice-known14 → tie.After-set-mark
 marked c = c .before .before .before .before
 
 abbrev before-mark : tie.After-slice-known14 → tie.After-job-control
-before-mark c = marked c .before .before .before .before .before .before .before .before .before .before .before .before .before .before .before
+before-mark c =
+    marked c .before .before .before .before .before .before .before .before .before .before .before .before .before
+    .before .before
 
 returns-3 : tie.Need-returns-3
 returns-3 c =
@@ -74,7 +77,8 @@ returns-3 c =
 
 append-requires : tie.Need-append-requires
 append-requires c κs =
-    let d = c .before .before .before .before .before .before .before .before .before .before .before .before .before .before in
+    let d =
+    c .before .before .before .before .before .before .before .before .before .before .before .before .before .before in
     let a = d .before .before .before .before .before .before .before .before .before .before in
     let f = a .args .f in
     let r = a .args .r in
@@ -86,7 +90,9 @@ abbrev kept : tie.After-slice-known16 → tie.After-append
 kept c = c .before .before .before .before
 
 abbrev before-record : tie.After-slice-known16 → tie.After-job-control
-before-record c = kept c .before .before .before .before .before .before .before .before .before .before .before .before .before .before .before
+before-record c =
+    kept c .before .before .before .before .before .before .before .before .before .before .before .before .before
+    .before .before
 
 returns-4 : tie.Need-returns-4
 returns-4 c =

@@ -8,7 +8,8 @@ use Rattle.rules.proofs.Queues.{queue-target, target-process}
 use Rattle.sound.specs.Lent.{decoded, viewOf, given}
 use Rattle.sound.proofs.Facts.{processes-long}
 use Rattle.sending.specs.Generations.{generationOf}
-use Rattle.sending.proofs.Decided.{is-testing, is-killing, is-stopping, is-dropping, is-absorbing, is-keeping, is-marking, ignored-read}
+use Rattle.sending.proofs.Decided.{is-testing, is-killing, is-stopping, is-dropping, is-absorbing, is-keeping}
+use Rattle.sending.proofs.Decided.{is-marking, ignored-read}
 use Rattle.sending.proofs.generation_of.Statement.{statement}
 use Rattle.sending.proofs.generation_of.Tie as tie
 
@@ -34,7 +35,8 @@ returns-3 c =
     let a = c .before .before .before .before .before .before .before in
     let v = viewOf (given (a .args .ps) (a .args .ts) (a .args .tb) (a .args .pb)) in
     let q = targetQueue (a .args .process) (a .args .thread) in
-    is-stopping v (a .args .queued) q (a .args .signal) (c .before .before .if1 .left) (c .before .if2 .left) (c .if3 .taken)
+    is-stopping v (a .args .queued) q (a .args .signal) (c .before .before .if1 .left) (c .before .if2 .left)
+    (c .if3 .taken)
 
 action-of-requires : tie.Need-action-of-requires
 unfolding liveProcess view decoded
@@ -43,8 +45,13 @@ action-of-requires c κs =
     let l = given (a .args .ps) (a .args .ts) (a .args .tb) (a .args .pb) in
     let v = viewOf l in
     let p = a .args .process in
-    let t = a .args .thread in
-    (processes-long l (a .pre .0), (target-process v p t (queue-target v p t (a .pre .1 .0)), (omega (arith, c .before .before .if1 .left), a .pre .1 .1)))
+    let t = a .args .thread in (
+      processes-long l (a .pre .0),
+      (
+        target-process v p t (queue-target v p t (a .pre .1 .0)),
+        (omega (arith, c .before .before .if1 .left), a .pre .1 .1),
+      ),
+    )
 
 returns-4 : tie.Need-returns-4
 unfolding generationOf
@@ -54,7 +61,9 @@ returns-4 c =
     let l = given (a .args .ps) (a .args .ts) (a .args .tb) (a .args .pb) in
     let p = a .args .process in
     let s = a .args .signal in
-    let i = ignored-read l p s (d .action-of .result) (c .before .is-ignored .result) (d .action-of .ensures) (c .before .is-ignored .ensures) in
+    let i =
+    ignored-read l p s (d .action-of .result) (c .before .is-ignored .result) (d .action-of .ensures)
+    (c .before .is-ignored .ensures) in
     is-dropping (viewOf l) (a .args .queued) (targetQueue p (a .args .thread)) s
     (d .before .before .before .if1 .left) (d .before .before .if2 .left) (d .before .if3 .left) (sym i ∙ c .if4 .taken)
 
@@ -73,7 +82,9 @@ returns-5 c =
     let l = given (a .args .ps) (a .args .ts) (a .args .tb) (a .args .pb) in
     let p = a .args .process in
     let s = a .args .signal in
-    let i = ignored-read l p s (d .action-of .result) (f .before .is-ignored .result) (d .action-of .ensures) (f .before .is-ignored .ensures) in
+    let i =
+    ignored-read l p s (d .action-of .result) (f .before .is-ignored .result) (d .action-of .ensures)
+    (f .before .is-ignored .ensures) in
     is-absorbing (viewOf l) (a .args .queued) (targetQueue p (a .args .thread)) s
     (d .before .before .before .if1 .left) (d .before .before .if2 .left) (d .before .if3 .left) (sym i ∙ f .if4 .left)
     (sym (c .before .is-absorbed .ensures) ∙ c .if5 .taken)
@@ -88,7 +99,9 @@ returns-6 c =
     let l = given (a .args .ps) (a .args .ts) (a .args .tb) (a .args .pb) in
     let p = a .args .process in
     let s = a .args .signal in
-    let i = ignored-read l p s (d .action-of .result) (f .before .is-ignored .result) (d .action-of .ensures) (f .before .is-ignored .ensures) in
+    let i =
+    ignored-read l p s (d .action-of .result) (f .before .is-ignored .result) (d .action-of .ensures)
+    (f .before .is-ignored .ensures) in
     is-keeping (viewOf l) (a .args .queued) (targetQueue p (a .args .thread)) s
     (d .before .before .before .if1 .left) (d .before .before .if2 .left) (d .before .if3 .left) (sym i ∙ f .if4 .left)
     (sym (g .before .is-absorbed .ensures) ∙ g .if5 .left) (c .if6 .taken)
@@ -103,7 +116,9 @@ returns-7 c =
     let l = given (a .args .ps) (a .args .ts) (a .args .tb) (a .args .pb) in
     let p = a .args .process in
     let s = a .args .signal in
-    let i = ignored-read l p s (d .action-of .result) (f .before .is-ignored .result) (d .action-of .ensures) (f .before .is-ignored .ensures) in
+    let i =
+    ignored-read l p s (d .action-of .result) (f .before .is-ignored .result) (d .action-of .ensures)
+    (f .before .is-ignored .ensures) in
     is-marking (viewOf l) (a .args .queued) (targetQueue p (a .args .thread)) s
     (d .before .before .before .if1 .left) (d .before .before .if2 .left) (d .before .if3 .left) (sym i ∙ f .if4 .left)
     (sym (g .before .is-absorbed .ensures) ∙ g .if5 .left) (c .if6 .left)

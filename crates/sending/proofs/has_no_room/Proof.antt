@@ -40,7 +40,8 @@ returns c =
 returns-2 : tie.Need-returns-2
 returns-2 c =
     let a = c .before .before .before .before .before in
-    room-unasked (viewOf (given (a .args .ps) (a .args .ts) (a .args .tb) (a .args .pb))) (a .args .to) (a .args .f) (c .match .keys2)
+    room-unasked (viewOf (given (a .args .ps) (a .args .ts) (a .args .tb) (a .args .pb))) (a .args .to) (a .args .f)
+    (c .match .keys2)
 
 pub has-no-room-spec : {M : Type 1} → statement M
 has-no-room-spec =

@@ -17,7 +17,8 @@ real-of-requires c κs =
 returns : tie.Need-returns
 returns c =
     let a = c .before .before .before .before .before in
-    info-read (given (a .args .ps) (a .args .ts) (a .args .tb) (a .args .pb)) (a .args .by) (a .args .to) (a .args .thread) (a .args .signal) (a .args .value)
+    info-read (given (a .args .ps) (a .args .ts) (a .args .tb) (a .args .pb)) (a .args .by) (a .args .to)
+    (a .args .thread) (a .args .signal) (a .args .value)
     (c .real-of .result) (c .real-of .ensures)
 
 pub info-spec : {M : Type 1} → statement M

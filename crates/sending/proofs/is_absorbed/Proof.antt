@@ -12,9 +12,12 @@ returns c =
     let e = d .before .before in
     let a = e .before .before .before .before .before in
     let v = viewOf (given (a .args .ps) (a .args .ts) (a .args .tb) (a .args .pb)) in
-    absorbed v (a .args .queued) (targetQueue (a .args .process) (a .args .thread)) (a .args .signal) (record { low = a .pre .1 .1 .0; high = a .pre .1 .1 .1 })
-    (e .pending-of .result) (d .before .marks-of .result) (d .is-standard .result) (c .before .has .result) (c .has2 .result)
-    (e .pending-of .ensures) (d .before .marks-of .ensures) (d .is-standard .ensures) (c .before .has .ensures) (c .has2 .ensures)
+    absorbed v (a .args .queued) (targetQueue (a .args .process) (a .args .thread)) (a .args .signal)
+    (record { low = a .pre .1 .1 .0; high = a .pre .1 .1 .1 })
+    (e .pending-of .result) (d .before .marks-of .result) (d .is-standard .result) (c .before .has .result)
+    (c .has2 .result)
+    (e .pending-of .ensures) (d .before .marks-of .ensures) (d .is-standard .ensures) (c .before .has .ensures)
+    (c .has2 .ensures)
 
 pub is-absorbed-spec : {M : Type 1} → statement M
 is-absorbed-spec =

@@ -28,7 +28,8 @@ unfolding liveProcess view decoded
 returns-2 c =
     let d = c .before .before in
     let a = d .before .before .before .before .before in
-    process-itself (viewOf (given (a .args .ps) (a .args .ts) (a .args .tb) (a .args .pb))) (a .args .to) (a .args .thread)
+    process-itself (viewOf (given (a .args .ps) (a .args .ts) (a .args .tb) (a .args .pb))) (a .args .to)
+    (a .args .thread)
     (sym (d .is-process .ensures) ∙ not-false (d .is-process .result) (c .before .if1 .left)) (c .if2 .taken)
 
 is-thread-requires : tie.Need-is-thread-requires
@@ -42,7 +43,8 @@ returns-3 c =
     let d = c .before .before .before .before in
     let a = d .before .before .before .before .before in
     no-thread (viewOf (given (a .args .ps) (a .args .ts) (a .args .tb) (a .args .pb))) (a .args .to) (a .args .thread)
-    (sym (d .is-process .ensures) ∙ not-false (d .is-process .result) (c .before .before .before .if1 .left)) (c .before .before .if2 .left)
+    (sym (d .is-process .ensures) ∙ not-false (d .is-process .result) (c .before .before .before .if1 .left))
+    (c .before .before .if2 .left)
     (sym (c .before .is-thread .ensures) ∙ not-true (c .before .is-thread .result) (c .if3 .taken))
 
 process-of-requires : tie.Need-process-of-requires
@@ -60,9 +62,12 @@ returns-4 c =
     let t = c .before in
     let d = t .before .before .before .before in
     let a = d .before .before .before .before .before in
-    whose-thread (viewOf (given (a .args .ps) (a .args .ts) (a .args .tb) (a .args .pb))) (a .args .to) (a .args .thread)
-    (sym (d .is-process .ensures) ∙ not-false (d .is-process .result) (t .before .before .before .if1 .left)) (t .before .before .if2 .left) (c .process-of .result)
-    (sym (t .before .is-thread .ensures) ∙ not-false (t .before .is-thread .result) (t .if3 .left)) (c .process-of .ensures)
+    whose-thread (viewOf (given (a .args .ps) (a .args .ts) (a .args .tb) (a .args .pb))) (a .args .to)
+    (a .args .thread)
+    (sym (d .is-process .ensures) ∙ not-false (d .is-process .result) (t .before .before .before .if1 .left))
+    (t .before .before .if2 .left) (c .process-of .result)
+    (sym (t .before .is-thread .ensures) ∙ not-false (t .before .is-thread .result) (t .if3 .left))
+    (c .process-of .ensures)
 
 pub is-bad-target-spec : {M : Type 1} → statement M
 is-bad-target-spec =

@@ -30,18 +30,23 @@ discard-requires r κs =
 
 set-stopped-requires : tie.Need-set-stopped-requires
 set-stopped-requires c κs =
-    let r = c .before .before .before .before .before .before .before .before .before .before .before .before .before .before in
+    let r =
+    c .before .before .before .before .before .before .before .before .before .before .before .before .before .before in
     let g = r .before .before .before .before .before in
     let a = g .before .before .before .before .before .before in
     let p = a .args .process in
     let s = a .args .signal in
     let k = sym (g .before .is-job-control .ensures) ∙ not-false (g .before .is-job-control .result) (g .if1 .left) in
     let x = r .discarded-by .result in
-    let d = c .before .before .before .before .before .before .before .before .before .before .before .before .before .discard in
-    ready-last (a .pre) (d .ensures) (discards-then-sets p s k x (r .discarded-by .ensures) (c .before .before .before .before .if2 .taken))
+    let d = c .before .before .before .before .before .before .before .before .before .before .before .before
+    .before .discard in
+    ready-last (a .pre) (d .ensures)
+    (discards-then-sets p s k x (r .discarded-by .ensures) (c .before .before .before .before .if2 .taken))
 
 abbrev state-set : tie.After-slice-known9 → tie.After-discard
-state-set c = c .before .before .before .before .before .before .before .before .before .before .before .before .before .before .before .before
+state-set c =
+    c .before .before .before .before .before .before .before .before .before .before .before .before .before .before
+    .before .before
 
 returns-2 : tie.Need-returns-2
 returns-2 c =
@@ -54,7 +59,8 @@ returns-2 c =
     let k = sym (g .before .is-job-control .ensures) ∙ not-false (g .before .is-job-control .result) (g .if1 .left) in
     let x = r .discarded-by .result in
     let d = state-set c .discard in
-    made-last (d .ensures) (w .set-stopped .ensures) (discards-then-sets p s k x (r .discarded-by .ensures) (w .before .before .before .before .before .if2 .taken))
+    made-last (d .ensures) (w .set-stopped .ensures)
+    (discards-then-sets p s k x (r .discarded-by .ensures) (w .before .before .before .before .before .if2 .taken))
 
 -- ---- the discard alone
 

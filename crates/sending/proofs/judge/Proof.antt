@@ -16,8 +16,11 @@ returns c =
     let k = c .before .kill-refusal in
     let a = c .before .before .before .before .before .before in
     let l = given (a .args .ps) (a .args .ts) (a .args .tb) (a .args .pb) in
-    let x = a .args in
-    (send-refused l (x .by) (x .to) (x .thread) (x .signal) (x .value) (x .queued) (k .result) (k .ensures) (c .if1 .taken), c .if1 .taken)
+    let x = a .args in (
+      send-refused l (x .by) (x .to) (x .thread) (x .signal) (x .value) (x .queued) (k .result) (k .ensures)
+          (c .if1 .taken),
+      c .if1 .taken,
+    )
 
 generation-of-requires : tie.Need-generation-of-requires
 generation-of-requires c κs =
@@ -47,8 +50,11 @@ returns-2 c =
     let a = g .before .before .before .before .before .before in
     let l = given (a .args .ps) (a .args .ts) (a .args .tb) (a .args .pb) in
     let x = a .args in
-    let e = sym (k .ensures) ∙ g .if1 .left in
-    (send-full l (x .by) (x .to) (x .thread) (x .signal) (x .value) e (generationOf (f .result)) (h .result) (h .ensures) (x .queued) (f .ensures) (c .if2 .taken), λ z. omega arith)
+    let e = sym (k .ensures) ∙ g .if1 .left in (
+      send-full l (x .by) (x .to) (x .thread) (x .signal) (x .value) e (generationOf (f .result)) (h .result)
+          (h .ensures) (x .queued) (f .ensures) (c .if2 .taken),
+      λ z. omega arith,
+    )
 
 info-requires : tie.Need-info-requires
 info-requires c κs =
@@ -71,7 +77,8 @@ returns-3 c =
     let l = given (a .args .ps) (a .args .ts) (a .args .tb) (a .args .pb) in
     let x = a .args in
     let e = sym (k .ensures) ∙ g .if1 .left in (
-      send-passes l (x .by) (x .to) (x .thread) (x .signal) (x .value) e (generationOf (f .result)) (h .result) (h .ensures) (x .queued) (f .ensures) (c .before .if2 .left),
+      send-passes l (x .by) (x .to) (x .thread) (x .signal) (x .value) e (generationOf (f .result)) (h .result)
+          (h .ensures) (x .queued) (f .ensures) (c .before .if2 .left),
       (f .ensures, c .info .ensures),
     )
 

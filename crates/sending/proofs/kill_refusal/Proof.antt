@@ -10,7 +10,8 @@ use Rattle.rules.specs.Store.{view}
 use Rattle.rules.proofs.Queues.{target-process}
 use Rattle.sound.specs.Lent.{decoded, viewOf, given}
 use Rattle.sound.proofs.Facts.{processes-long}
-use Rattle.sending.proofs.Refused.{nobody-read, may-read, kill-fault, kill-over, kill-nobody, kill-barred, kill-passes}
+use Rattle.sending.proofs.Refused.{nobody-read, may-read, kill-fault, kill-over, kill-nobody, kill-barred}
+use Rattle.sending.proofs.Refused.{kill-passes}
 use Rattle.sending.proofs.kill_refusal.Statement.{statement}
 use Rattle.sending.proofs.kill_refusal.Tie as tie
 
@@ -18,24 +19,29 @@ returns : tie.Need-returns
 returns c =
     let d = c .before in
     let a = d .before .before .before .before .before in
-    kill-fault (given (a .args .ps) (a .args .ts) (a .args .tb) (a .args .pb)) (a .args .by) (a .args .to) (a .args .thread) (a .args .signal)
+    kill-fault (given (a .args .ps) (a .args .ts) (a .args .tb) (a .args .pb)) (a .args .by) (a .args .to)
+    (a .args .thread) (a .args .signal)
     (sym (d .sound .ensures) ∙ not-true (d .sound .result) (c .if1 .taken))
 
 returns-2 : tie.Need-returns-2
 returns-2 c =
     let d = c .before .before in
     let a = d .before .before .before .before .before in
-    kill-over (given (a .args .ps) (a .args .ts) (a .args .tb) (a .args .pb)) (a .args .by) (a .args .to) (a .args .thread) (a .args .signal)
+    kill-over (given (a .args .ps) (a .args .ts) (a .args .tb) (a .args .pb)) (a .args .by) (a .args .to)
+    (a .args .thread) (a .args .signal)
     (sym (d .sound .ensures) ∙ not-false (d .sound .result) (c .before .if1 .left)) (omega (arith, c .if2 .taken))
 
 is-process-requires : tie.Need-is-process-requires
 is-process-requires c κs =
     let d = c .before .before in
     let a = d .before .before .before .before .before in
-    processes-long (given (a .args .ps) (a .args .ts) (a .args .tb) (a .args .pb)) (sym (d .sound .ensures) ∙ not-false (d .sound .result) (c .before .if1 .left))
+    processes-long (given (a .args .ps) (a .args .ts) (a .args .tb) (a .args .pb))
+    (sym (d .sound .ensures) ∙ not-false (d .sound .result) (c .before .if1 .left))
 
 is-bad-target-requires : tie.Need-is-bad-target-requires
-is-bad-target-requires c κs = let d = c .before .before .before in sym (d .sound .ensures) ∙ not-false (d .sound .result) (c .before .before .if1 .left)
+is-bad-target-requires c κs =
+    let d = c .before .before .before in
+    sym (d .sound .ensures) ∙ not-false (d .sound .result) (c .before .before .if1 .left)
 
 returns-3 : tie.Need-returns-3
 returns-3 c =
@@ -49,7 +55,8 @@ returns-3 c =
     let to = a .args .to in
     let t = a .args .thread in
     let s = a .args .signal in
-    kill-nobody l by to t s (sym (d .sound .ensures) ∙ not-false (d .sound .result) (g .before .if1 .left)) (omega (arith, g .if2 .left))
+    kill-nobody l by to t s (sym (d .sound .ensures) ∙ not-false (d .sound .result) (g .before .if1 .left))
+    (omega (arith, g .if2 .left))
     (sym (nobody-read l by to t s (i .result) (b .result) (i .ensures) (b .ensures)) ∙ c .if3 .taken)
 
 may-signal-requires : tie.Need-may-signal-requires
@@ -62,7 +69,8 @@ may-signal-requires c κs =
     let l = given (a .args .ps) (a .args .ts) (a .args .tb) (a .args .pb) in
     let to = a .args .to in
     let t = a .args .thread in (
-      processes-long l (sym (d .sound .ensures) ∙ not-false (d .sound .result) (c .before .before .before .before .if1 .left)),
+      processes-long l
+          (sym (d .sound .ensures) ∙ not-false (d .sound .result) (c .before .before .before .before .if1 .left)),
       (
         sym (i .ensures) ∙ not-false (i .result) (or-fst-false (not (i .result)) (b .result) (c .if3 .left)),
         target-process (viewOf l) to t (sym (b .ensures) ∙ or-snd-false (not (i .result)) (b .result) (c .if3 .left)),
@@ -83,7 +91,8 @@ returns-4 c =
     let to = a .args .to in
     let t = a .args .thread in
     let s = a .args .signal in
-    kill-barred l by to t s (sym (d .sound .ensures) ∙ not-false (d .sound .result) (g .before .if1 .left)) (omega (arith, g .if2 .left))
+    kill-barred l by to t s (sym (d .sound .ensures) ∙ not-false (d .sound .result) (g .before .if1 .left))
+    (omega (arith, g .if2 .left))
     (sym (nobody-read l by to t s (i .result) (b .result) (i .ensures) (b .ensures)) ∙ n .if3 .left)
     (sym (may-read l by to t s (m .result) (m .ensures)) ∙ c .if4 .taken)
 
@@ -101,7 +110,8 @@ returns-5 c =
     let to = a .args .to in
     let t = a .args .thread in
     let s = a .args .signal in
-    kill-passes l by to t s (sym (d .sound .ensures) ∙ not-false (d .sound .result) (g .before .if1 .left)) (omega (arith, g .if2 .left))
+    kill-passes l by to t s (sym (d .sound .ensures) ∙ not-false (d .sound .result) (g .before .if1 .left))
+    (omega (arith, g .if2 .left))
     (sym (nobody-read l by to t s (i .result) (b .result) (i .ensures) (b .ensures)) ∙ n .if3 .left)
     (sym (may-read l by to t s (m .result) (m .ensures)) ∙ c .if4 .left)
 

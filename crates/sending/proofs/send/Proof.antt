@@ -18,13 +18,16 @@ generate-requires : tie.Need-generate-requires
 generate-requires c κs =
     let d = c .before .before .before .before .before .decision2 .given in
     let j = c .before .before .before .before .before .before .before .judge in
-    let a = c .before .before .before .before .before .before .before .before .before .before .before .before .before .before .before .before in
+    let a = c .before .before .before .before .before .before .before .before .before .before .before .before .before
+    .before .before .before in
     let l = given (a .args .ps) (a .args .ts) (a .args .tb) (a .args .pb) in
     let x = a .args in
     let f = d .0 .0 in
     let r = d .0 .1 .0 in
-    let y = when-allowed l (x .queued) (x .by) (x .to) (x .thread) (x .signal) (x .value) (j .result) (j .ensures) f r (d .1) in
-    allowed-ready l (x .by) (x .to) (x .thread) (x .signal) (x .value) (x .queued) (y .0) (generationOf f) r (y .1 .0) (y .1 .1)
+    let y =
+    when-allowed l (x .queued) (x .by) (x .to) (x .thread) (x .signal) (x .value) (j .result) (j .ensures) f r (d .1) in
+    allowed-ready l (x .by) (x .to) (x .thread) (x .signal) (x .value) (x .queued) (y .0) (generationOf f) r
+    (y .1 .0) (y .1 .1)
 
 returns : tie.Need-returns
 returns c =
@@ -33,7 +36,9 @@ returns c =
     let a = c .before .before .before .before .before .before .before .before .before .before .before .before in
     let l = given (a .args .ps) (a .args .ts) (a .args .tb) (a .args .pb) in
     let x = a .args in
-    let y = when-refused l (x .queued) (x .by) (x .to) (x .thread) (x .signal) (x .value) (j .result) (j .ensures) (d .0 .0) (d .1) in
+    let y =
+    when-refused l (x .queued) (x .by) (x .to) (x .thread) (x .signal) (x .value) (j .result) (j .ensures)
+    (d .0 .0) (d .1) in
     refused-ends (sendCall (x .queued) (x .by) (x .to) (x .thread) (x .signal) (x .value)) l (d .0 .0) (y .0) (y .1)
 
 abbrev carried : tie.After-sent → tie.After-generate
@@ -44,22 +49,32 @@ returns-2 c =
     let w = carried c in
     let d = w .before .before .before .before .before .before .decision2 .given in
     let j = w .before .before .before .before .before .before .before .before .judge in
-    let a = w .before .before .before .before .before .before .before .before .before .before .before .before .before .before .before .before .before in
+    let a = w .before .before .before .before .before .before .before .before .before .before .before .before .before
+    .before .before .before .before in
     let l = given (a .args .ps) (a .args .ts) (a .args .tb) (a .args .pb) in
     let x = a .args in
     let f = d .0 .0 in
     let r = d .0 .1 .0 in
-    let y = when-allowed l (x .queued) (x .by) (x .to) (x .thread) (x .signal) (x .value) (j .result) (j .ensures) f r (d .1) in
+    let y =
+    when-allowed l (x .queued) (x .by) (x .to) (x .thread) (x .signal) (x .value) (j .result) (j .ensures) f r (d .1) in
     let k = w .generate in
     let m = lent (k .last .0) (k .last .1 .0) (k .last .1 .1 .0) (k .last .1 .1 .1 .0) in
     let call = sendCall (x .queued) (x .by) (x .to) (x .thread) (x .signal) (x .value) in
     let v = viewOf l in
     accepted-ends call l (y .0) (Sent (c .sent .result))
-    (ap Sent (c .sent .ensures) ∙ send-answers v (x .by) (x .to) (x .thread) (x .signal) (x .value) (x .queued) (generationOf f) (y .1 .0)) m
-    (record { processes = k .kept .0; threads = k .kept .1 .0; threadBuffer = k .kept .1 .1 .0; processBuffer = k .kept .1 .1 .1 .0 })
+    (ap Sent (c .sent .ensures)
+    ∙ send-answers v (x .by) (x .to) (x .thread) (x .signal) (x .value) (x .queued) (generationOf f) (y .1 .0)) m
+    (record {
+      processes = k .kept .0;
+      threads = k .kept .1 .0;
+      threadBuffer = k .kept .1 .1 .0;
+      processBuffer = k .kept .1 .1 .1 .0;
+    })
     (bytes-each (m .threadBuffer) (λ i. omega (arith, c .before .before .before .slice-known7 .given i)))
     (bytes-each (m .processBuffer) (λ i. omega (arith, c .before .slice-known8 .given i)))
-    (made-as (k .ensures) (send-makes v (x .by) (x .to) (x .thread) (x .signal) (x .value) (x .queued) (a .pre) (generationOf f) r (y .1 .0) (y .1 .1)) .store)
+    (made-as (k .ensures)
+    (send-makes v (x .by) (x .to) (x .thread) (x .signal) (x .value) (x .queued) (a .pre) (generationOf f) r (y .1 .0)
+    (y .1 .1)) .store)
 
 pub send-spec : {M : Type 1} → statement M
 send-spec =

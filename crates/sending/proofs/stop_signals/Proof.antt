@@ -10,7 +10,8 @@ returns : tie.Need-returns
 returns c =
     let d = c .before .before in
     c .union2 .ensures
-    ∙ ap₂ union (c .before .of-signal3 .ensures) (d .union .ensures ∙ ap₂ union (d .before .before .of-signal .ensures) (d .before .of-signal2 .ensures))
+    ∙ ap₂ union (c .before .of-signal3 .ensures)
+    (d .union .ensures ∙ ap₂ union (d .before .before .of-signal .ensures) (d .before .of-signal2 .ensures))
     ∙ stops
 
 pub stop-signals-spec : {M : Type 1} → statement M

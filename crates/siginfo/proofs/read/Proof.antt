@@ -14,7 +14,8 @@ returns c =
     let c₂ = c₃ .before in
     let c₁ = c₂ .before in
     let s = c₁ .before .before in
-    read-slot (now (s .args .b)) (s .args .slot) _ _ _ _ _ _ _ (c₁ .read-u32 .ensures) (c₂ .read-u322 .ensures) (c₃ .read-u323 .ensures)
+    read-slot (now (s .args .b)) (s .args .slot) _ _ _ _ _ _ _ (c₁ .read-u32 .ensures) (c₂ .read-u322 .ensures)
+    (c₃ .read-u323 .ensures)
     (c₄ .read-u324 .ensures) (c₅ .read-u325 .ensures) (c₆ .read-u326 .ensures) (c .read-u64 .ensures)
 
 pub read-spec : {M : Type 1} → statement M

@@ -11,7 +11,8 @@ returns c =
     let c₂ = c₃ .before .before in
     let c₁ = c₂ .before .before in
     let s = c₁ .before .before .before in
-    read-bytes (now (s .args .b)) (s .args .at) _ _ _ _ (s .pre) (c₁ .wide .ensures .0) (c₂ .wide2 .ensures .0) (c₃ .wide3 .ensures .0)
+    read-bytes (now (s .args .b)) (s .args .at) _ _ _ _ (s .pre) (c₁ .wide .ensures .0) (c₂ .wide2 .ensures .0)
+    (c₃ .wide3 .ensures .0)
     (c .wide4 .ensures .0)
 
 pub read-u32-spec : {M : Type 1} → statement M

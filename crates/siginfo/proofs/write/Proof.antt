@@ -17,8 +17,10 @@ returns c =
     let c₂ = c₃ .before .before .before .before in
     let c₁ = c₂ .before .before .before .before in
     let s = c₁ .before .before .before in
-    write-slot (now (s .args .b)) (s .args .slot * recordBytes) (s .args .r) (c₁ .write-u32 .ensures) (c₂ .write-u322 .ensures)
-    (c₃ .write-u323 .ensures) (c₄ .write-u324 .ensures) (c₅ .write-u325 .ensures) (c₆ .write-u326 .ensures) (c₇ .write-u64 .ensures)
+    write-slot (now (s .args .b)) (s .args .slot * recordBytes) (s .args .r) (c₁ .write-u32 .ensures)
+    (c₂ .write-u322 .ensures)
+    (c₃ .write-u323 .ensures) (c₄ .write-u324 .ensures) (c₅ .write-u325 .ensures) (c₆ .write-u326 .ensures)
+    (c₇ .write-u64 .ensures)
 
 pub write-spec : {M : Type 1} → statement M
 write-spec =

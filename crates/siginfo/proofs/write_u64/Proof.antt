@@ -18,7 +18,8 @@ returns c =
     let at = s .args .at in
     let x = s .args .x in
     let low = encode u32Bytes (x % 256 ^ u32Bytes) in
-    then-sets low (encode u32Bytes (x / 256 ^ u32Bytes)) b at (at + u32Bytes) (ap (λ n. at + n) (sym (length-encode u32Bytes (x % 256 ^ u32Bytes))))
+    then-sets low (encode u32Bytes (x / 256 ^ u32Bytes)) b at (at + u32Bytes)
+    (ap (λ n. at + n) (sym (length-encode u32Bytes (x % 256 ^ u32Bytes))))
     (c₁ .write-u32 .ensures) (c₂ .write-u322 .ensures)
     ∙ ap (sets b at) (encode-halves u32Bytes u32Bytes x)
 

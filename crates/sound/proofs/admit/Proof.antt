@@ -10,8 +10,11 @@ use Rattle.sound.proofs.admit.Tie as tie
 
 returns : tie.Need-returns
 returns c =
-    let a = c .before .before .before .before .before .before in
-    (stale (a .args .seen .now) (a .args .queue) (a .args .s) (c .before .before .is-standard .ensures) (c .before .has .ensures) (c .if1 .taken), (refl, refl))
+    let a = c .before .before .before .before .before .before in (
+      stale (a .args .seen .now) (a .args .queue) (a .args .s) (c .before .before .is-standard .ensures)
+          (c .before .has .ensures) (c .if1 .taken),
+      (refl, refl),
+    )
 
 returns-2 : tie.Need-returns-2
 unfolding bumped noted
@@ -19,8 +22,10 @@ returns-2 c =
     let d = c .before .before .before .before in
     let a = d .before .before .before .before .before in
     let e : c .union .result ≡ union (bits (getD (a .args .seen .now) (a .args .queue) 0)) (ofSignal (a .args .s)) =
-    c .union .ensures ∙ ap (union (bits (getD (a .args .seen .now) (a .args .queue) 0))) (c .before .of-signal .ensures) in (
-      fresh (a .args .seen .now) (a .args .queue) (a .args .s) (d .before .is-standard .ensures) (d .has .ensures) (c .before .before .before .if1 .left),
+    c .union .ensures
+    ∙ ap (union (bits (getD (a .args .seen .now) (a .args .queue) 0))) (c .before .of-signal .ensures) in (
+      fresh (a .args .seen .now) (a .args .queue) (a .args .s) (d .before .is-standard .ensures) (d .has .ensures)
+          (c .before .before .before .if1 .left),
       (refl, ap (λ (u : SigSet). set (a .args .seen .now) (a .args .queue) (u .0)) e),
     )
 

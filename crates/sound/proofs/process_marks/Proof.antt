@@ -15,7 +15,9 @@ use Rattle.sound.proofs.process_marks.Statement.{statement}
 use Rattle.sound.proofs.process_marks.Tie as tie
 
 abbrev Inv-loop : tie.InvT-loop
-Inv-loop ps seen₀ i₀ seen i = (i ≤ processPlaces) × ((length seen ≡ processPlaces) × (seen ≡ filled (seenBy ownQueue []) i (processesOf ps) seen₀))
+Inv-loop ps seen₀ i₀ seen i =
+    (i ≤ processPlaces)
+    × ((length seen ≡ processPlaces) × (seen ≡ filled (seenBy ownQueue []) i (processesOf ps) seen₀))
 
 abbrev μ-loop : tie.MeasureT-loop
 μ-loop ps seen₀ i₀ seen i = processPlaces - i
@@ -36,7 +38,8 @@ loop-again c =
       omega arith,
       (
         length-set (l .loop .seen) (l .loop .i) (c .field-at .result) ∙ l .loop .inv .1 .0,
-        marks-more ownQueue xs (a .args .seen .now) freeProcess (a .pre .1 ∙ sym n) (l .loop .seen) (l .loop .i) (c .field-at .result) h (l .loop .inv .1 .1)
+        marks-more ownQueue xs (a .args .seen .now) freeProcess (a .pre .1 ∙ sym n) (l .loop .seen) (l .loop .i)
+            (c .field-at .result) h (l .loop .inv .1 .1)
             (c .field-at .ensures) (omega arith),
       ),
     )
@@ -46,7 +49,8 @@ returns c =
     let a = c .before .before .before .before in
     let n = length-processesOf (a .args .ps .now) in
     c .before .loop .inv .1 .1
-    ∙ marks-done ownQueue (processesOf (a .args .ps .now)) (a .args .seen .now) freeProcess (a .pre .1 ∙ sym n) (c .before .loop .i) (rw n (omega arith))
+    ∙ marks-done ownQueue (processesOf (a .args .ps .now)) (a .args .seen .now) freeProcess (a .pre .1 ∙ sym n)
+    (c .before .loop .i) (rw n (omega arith))
 
 pub process-marks-spec : {M : Type 1} → statement M
 process-marks-spec =

@@ -12,13 +12,19 @@ unfolding processPlace
 process-record-ok-requires c κs = (c .before .before .before .before .before .pre .0, c .find-process .ensures)
 
 returns : tie.Need-returns
-returns c = (sym (and-left _ (sym (c .before .process-record-ok .ensures) ∙ not-true (c .before .process-record-ok .result) (c .if1 .taken))), (refl, refl))
+returns c = (
+  sym (and-left _ (sym (c .before .process-record-ok .ensures)
+      ∙ not-true (c .before .process-record-ok .result) (c .if1 .taken))),
+  (refl, refl),
+)
 
 admit-requires : tie.Need-admit-requires
 unfolding processPlace
 admit-requires c κs =
     let a = c .before .before .before .before .before .before .before .before .before in
-    let ok = sym (c .before .before .before .process-record-ok .ensures) ∙ not-false (c .before .before .before .process-record-ok .result) (c .before .before .if1 .left) in
+    let ok =
+    sym (c .before .before .before .process-record-ok .ensures)
+    ∙ not-false (c .before .before .before .process-record-ok .result) (c .before .before .if1 .left) in
     let p = process-counted (a .args .ps .now) (a .args .r) ok in
     let ep = c .before .before .before .before .find-process .ensures in (
       (rw (ep, a .pre .1 .0 .0) p, rw (ep, a .pre .1 .0 .1) p),
@@ -29,9 +35,12 @@ returns-2 : tie.Need-returns-2
 unfolding processPlace
 returns-2 c =
     let d = c .before .before .before .before in
-    let ok = sym (d .before .before .before .before .process-record-ok .ensures) ∙ not-false (d .before .before .before .before .process-record-ok .result) (d .before .before .before .if1 .left) in
+    let ok =
+    sym (d .before .before .before .before .process-record-ok .ensures)
+    ∙ not-false (d .before .before .before .before .process-record-ok .result) (d .before .before .before .if1 .left) in
     let ep = d .before .before .before .before .before .find-process .ensures in
-    let a = c .before .before .before .before .before .before .before .before .before .before .before .before .before .before in
+    let a =
+    c .before .before .before .before .before .before .before .before .before .before .before .before .before .before in
     admitted (a .args .seen .now) (a .args .counts .now) (a .args .r .signal) ok ep ep (d .admit .ensures)
 
 pub process-record-spec : {M : Type 1} → statement M

@@ -16,7 +16,8 @@ record-not-ignored-requires c κs =
 returns-2 : tie.Need-returns-2
 returns-2 c =
     let a = c .before .before .before .before in
-    c .record-not-ignored .ensures ∙ process-not-ignored (a .args .ps .now) (a .args .r) (a .args .place) (a .pre .1) refl (c .before .if1 .left)
+    c .record-not-ignored .ensures
+    ∙ process-not-ignored (a .args .ps .now) (a .args .r) (a .args .place) (a .pre .1) refl (c .before .if1 .left)
 
 pub process-record-ok-spec : {M : Type 1} → statement M
 process-record-ok-spec = tie.close (tie.spec returns record-not-ignored-requires returns-2)

@@ -28,7 +28,8 @@ returns-2 c =
     let p = processAt (a .args .ps .now) (a .args .place) .holds in
     delivered p (a .args .r)
     (sym (d .is-nameable .ensures) ∙ not-false (d .is-nameable .result) (c .before .before .before .if1 .left))
-    (c .before .is-ignored .ensures ∙ ap (λ (x : Action). ignored x (a .args .r .signal)) (c .before .before .action-at .ensures))
+    (c .before .is-ignored .ensures
+    ∙ ap (λ (x : Action). ignored x (a .args .r .signal)) (c .before .before .action-at .ensures))
 
 pub record-not-ignored-spec : {M : Type 1} → statement M
 record-not-ignored-spec =

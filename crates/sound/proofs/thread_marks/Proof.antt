@@ -16,7 +16,8 @@ use Rattle.sound.proofs.thread_marks.Statement.{statement}
 use Rattle.sound.proofs.thread_marks.Tie as tie
 
 abbrev Inv-loop : tie.InvT-loop
-Inv-loop ts seen₀ i₀ seen i = (i ≤ threadPlaces) × ((length seen ≡ threadPlaces) × (seen ≡ filled (seenBy threadQueue []) i (threadsOf ts) seen₀))
+Inv-loop ts seen₀ i₀ seen i =
+    (i ≤ threadPlaces) × ((length seen ≡ threadPlaces) × (seen ≡ filled (seenBy threadQueue []) i (threadsOf ts) seen₀))
 
 abbrev μ-loop : tie.MeasureT-loop
 μ-loop ts seen₀ i₀ seen i = threadPlaces - i
@@ -37,7 +38,8 @@ loop-again c =
       omega arith,
       (
         length-set (l .loop .seen) (l .loop .i) (c .thread-field-at .result) ∙ l .loop .inv .1 .0,
-        marks-more threadQueue xs (a .args .seen .now) freeThread (a .pre .1 ∙ sym n) (l .loop .seen) (l .loop .i) (c .thread-field-at .result) h (l .loop .inv .1 .1)
+        marks-more threadQueue xs (a .args .seen .now) freeThread (a .pre .1 ∙ sym n) (l .loop .seen) (l .loop .i)
+            (c .thread-field-at .result) h (l .loop .inv .1 .1)
             (c .thread-field-at .ensures) (omega arith),
       ),
     )
@@ -47,7 +49,8 @@ returns c =
     let a = c .before .before .before .before in
     let n = length-threadsOf (a .args .ts .now) in
     c .before .loop .inv .1 .1
-    ∙ marks-done threadQueue (threadsOf (a .args .ts .now)) (a .args .seen .now) freeThread (a .pre .1 ∙ sym n) (c .before .loop .i) (rw n (omega arith))
+    ∙ marks-done threadQueue (threadsOf (a .args .ts .now)) (a .args .seen .now) freeThread (a .pre .1 ∙ sym n)
+    (c .before .loop .i) (rw n (omega arith))
 
 pub thread-marks-spec : {M : Type 1} → statement M
 thread-marks-spec =

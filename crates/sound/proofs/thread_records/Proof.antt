@@ -19,8 +19,17 @@ abbrev μ-loop : tie.MeasureT-loop
 
 loop-holds : tie.Need-loop-holds Inv-loop μ-loop
 loop-holds c =
-    let a = c .before .before .before .before .before .before in
-    (search needs, (refl, (refl, thread-start (a .args .ps .now) (a .args .ts .now) (a .args .b .now) (a .args .counts .now) (a .args .seen .now) (a .pre .1 .1 .0) (a .pre .1 .1 .1))))
+    let a = c .before .before .before .before .before .before in (
+      search needs,
+      (
+        refl,
+        (
+          refl,
+          thread-start (a .args .ps .now) (a .args .ts .now) (a .args .b .now) (a .args .counts .now)
+              (a .args .seen .now) (a .pre .1 .1 .0) (a .pre .1 .1 .1),
+        ),
+      ),
+    )
 
 read-requires : tie.Need-read-requires Inv-loop μ-loop
 read-requires c κs =
@@ -32,33 +41,45 @@ thread-record-requires : tie.Need-thread-record-requires Inv-loop μ-loop
 thread-record-requires c κs =
     let l = c .before .before .before .before in
     let a = l .before .before .before .before .before .before .before in
-    let inside : l .loop .i < length (recordsOf (a .args .b .now)) = rw (← l .before .used .ensures) (omega arith) in
-    ((a .pre .0 .0, a .pre .0 .1 .0), thread-ready (a .args .ps .now) (a .args .ts .now) (a .args .b .now) (l .loop .counts) (l .loop .seen) (l .loop .i) (l .loop .inv .1 .1 .1) inside)
+    let inside : l .loop .i < length (recordsOf (a .args .b .now)) = rw (← l .before .used .ensures) (omega arith) in (
+      (a .pre .0 .0, a .pre .0 .1 .0),
+      thread-ready (a .args .ps .now) (a .args .ts .now) (a .args .b .now) (l .loop .counts) (l .loop .seen)
+          (l .loop .i) (l .loop .inv .1 .1 .1) inside,
+    )
 
 returns : tie.Need-returns Inv-loop μ-loop
 returns c =
-    let a = c .before .before .before .before .before .before .before .before .before .before .before .before .before .before .before .before .before in
+    let a = c .before .before .before .before .before .before .before .before .before .before .before .before .before
+    .before .before .before .before in
     let l = c .before .before .before .before .before .before .before .before .before .before in
     let m = c .before .before .before .before .before in
     let inside : l .loop .i < length (recordsOf (a .args .b .now)) = rw (← l .before .used .ensures) (omega arith) in
-    thread-fails (a .args .ps .now) (a .args .ts .now) (a .args .b .now) (l .loop .counts) (l .loop .seen) (l .loop .i) (l .loop .inv .1 .1 .1) inside (m .before .before .before .read .result)
-    (m .before .before .before .read .ensures) (m .thread-record .ensures .0) (not-true (m .thread-record .result) (c .if1 .taken))
+    thread-fails (a .args .ps .now) (a .args .ts .now) (a .args .b .now) (l .loop .counts) (l .loop .seen) (l .loop .i)
+    (l .loop .inv .1 .1 .1) inside (m .before .before .before .read .result)
+    (m .before .before .before .read .ensures) (m .thread-record .ensures .0)
+    (not-true (m .thread-record .result) (c .if1 .taken))
 
 loop-again : tie.Need-loop-again Inv-loop μ-loop
 loop-again c =
-    let a = c .before .before .before .before .before .before .before .before .before .before .before .before .before .before .before .before .before in
+    let a = c .before .before .before .before .before .before .before .before .before .before .before .before .before
+    .before .before .before .before in
     let l = c .before .before .before .before .before .before .before .before .before .before in
     let m = c .before .before .before .before .before in
     let inside : l .loop .i < length (recordsOf (a .args .b .now)) = rw (← l .before .used .ensures) (omega arith) in
-    let next = thread-next (a .args .ps .now) (a .args .ts .now) (a .args .b .now) (l .loop .counts) (l .loop .seen) (l .loop .i) (l .loop .inv .1 .1 .1) inside (m .before .before .before .read .result)
+    let next =
+    thread-next (a .args .ps .now) (a .args .ts .now) (a .args .b .now) (l .loop .counts) (l .loop .seen) (l .loop .i)
+    (l .loop .inv .1 .1 .1) inside (m .before .before .before .read .result)
     (m .before .before .before .read .ensures) (m .thread-record .ensures .0)
-    (m .thread-record .last .1 .1 .1 .0) (m .thread-record .last .1 .1 .1 .1 .0) (a .pre .1 .0) (not-false (m .thread-record .result) (c .if1 .left)) (m .thread-record .ensures .1 .0) (m .thread-record .ensures .1 .1) in
+    (m .thread-record .last .1 .1 .1 .0) (m .thread-record .last .1 .1 .1 .1 .0) (a .pre .1 .0)
+    (not-false (m .thread-record .result) (c .if1 .left)) (m .thread-record .ensures .1 .0)
+    (m .thread-record .ensures .1 .1) in
     (search needs, (search needs, (search needs, next)))
 
 returns-2 : tie.Need-returns-2 Inv-loop μ-loop
 returns-2 c =
     let a = c .before .before .before .before .before .before .before .before in
-    thread-end (a .args .ps .now) (a .args .ts .now) (a .args .b .now) (c .before .loop .counts) (c .before .loop .seen) (c .before .loop .i) (rw (← c .before .before .used .ensures) (omega arith)) (c .before .loop .inv .1 .1 .1)
+    thread-end (a .args .ps .now) (a .args .ts .now) (a .args .b .now) (c .before .loop .counts) (c .before .loop .seen)
+    (c .before .loop .i) (rw (← c .before .before .used .ensures) (omega arith)) (c .before .loop .inv .1 .1 .1)
 
 pub thread-records-spec : {M : Type 1} → statement M
 thread-records-spec =

@@ -4,7 +4,9 @@ use Rattle.sound.proofs.within_at.Statement.{statement}
 use Rattle.sound.proofs.within_at.Tie as tie
 
 returns : tie.Need-returns
-returns c = over (c .before .before .args .cs .now) (c .before .before .args .ds .now) (c .before .before .args .i) (c .if1 .taken)
+returns c =
+    over (c .before .before .args .cs .now) (c .before .before .args .ds .now) (c .before .before .args .i)
+    (c .if1 .taken)
 
 returns-2 : tie.Need-returns-2
 returns-2 c =

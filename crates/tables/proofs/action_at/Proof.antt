@@ -11,7 +11,8 @@ unfolding actionFrom
 returns c =
     let b = c .before .before .before in
     let a = b .before .before in
-    sym (action-words (a .args .ps .now) (a .pre .0) (a .args .place) (a .pre .1 .0) (a .args .signal) (b .action-base .result) (a .pre .1 .1 .0) (a .pre .1 .1 .1) (b .action-base .ensures))
+    sym (action-words (a .args .ps .now) (a .pre .0) (a .args .place) (a .pre .1 .0) (a .args .signal)
+    (b .action-base .result) (a .pre .1 .1 .0) (a .pre .1 .1 .1) (b .action-base .ensures))
 
 pub action-at-spec : {M : Type 1} → statement M
 action-at-spec =

@@ -21,18 +21,26 @@ loop-holds c = (omega arith, refl)
 slice-write-ws : tie.Need-slice-write-ws Inv-loop μ-loop
 slice-write-ws c =
     let a = c .before .before in
-    omega (arith, ap length (c .before .loop .inv .1), length-sets (a .args .ws .now) (a .args .from) (replicate (c .before .loop .i) 0))
+    omega (
+      arith,
+      ap length (c .before .loop .inv .1),
+      length-sets (a .args .ws .now) (a .args .from) (replicate (c .before .loop .i) 0),
+    )
 
 loop-again : tie.Need-loop-again Inv-loop μ-loop
 loop-again c =
     let a = c .before .before in
-    let i = c .before .loop .i in
-    (omega arith, ap (λ l. set l (a .args .from + i) 0) (c .before .loop .inv .1) ∙ sets-more (a .args .ws .now) (a .args .from) i 0)
+    let i = c .before .loop .i in (
+      omega arith,
+      ap (λ l. set l (a .args .from + i) 0) (c .before .loop .inv .1)
+          ∙ sets-more (a .args .ws .now) (a .args .from) i 0,
+    )
 
 same-length : tie.Need-same-length Inv-loop μ-loop
 same-length c =
     let a = c .before .before in
-    ap length (c .before .loop .inv .1) ∙ length-sets (a .args .ws .now) (a .args .from) (replicate (c .before .loop .i) 0)
+    ap length (c .before .loop .inv .1)
+    ∙ length-sets (a .args .ws .now) (a .args .from) (replicate (c .before .loop .i) 0)
 
 returns : tie.Need-returns Inv-loop μ-loop
 returns c =

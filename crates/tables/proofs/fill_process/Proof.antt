@@ -17,7 +17,8 @@ returns c =
     let a = p₀ .before .before .before .before .before .before .before .before in
     process-filled (processesOf (a .args .ps .now)) _ _ _ _ _ _ (a .args .place) (a .args .new)
     (rw length-processesOf (a .pre .1))
-    (p₀ .clear-process .ensures) (p₁ .put-field .ensures) (p₂ .put-field2 .ensures) (p₃ .put-field3 .ensures) (p₄ .put-field4 .ensures) (p₅ .put-field5 .ensures)
+    (p₀ .clear-process .ensures) (p₁ .put-field .ensures) (p₂ .put-field2 .ensures) (p₃ .put-field3 .ensures)
+    (p₄ .put-field4 .ensures) (p₅ .put-field5 .ensures)
 
 pub fill-process-spec : {M : Type 1} → statement M
 fill-process-spec =

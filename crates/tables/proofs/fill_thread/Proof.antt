@@ -13,9 +13,11 @@ returns c =
     let p₁ = p₂ .before .before .before .before in
     let p₀ = p₁ .before .before .before .before in
     let a = p₀ .before .before .before in
-    thread-filled (threadsOf (a .args .ts .now)) _ _ _ _ (a .args .place) (a .args .id) (a .args .process) (a .args .mask)
+    thread-filled (threadsOf (a .args .ts .now)) _ _ _ _ (a .args .place) (a .args .id) (a .args .process)
+    (a .args .mask)
     (rw length-threadsOf (a .pre .1))
-    (p₀ .clear-thread .ensures) (p₁ .put-thread-field .ensures) (p₂ .put-thread-field2 .ensures) (p₃ .put-thread-field3 .ensures)
+    (p₀ .clear-thread .ensures) (p₁ .put-thread-field .ensures) (p₂ .put-thread-field2 .ensures)
+    (p₃ .put-thread-field3 .ensures)
 
 pub fill-thread-spec : {M : Type 1} → statement M
 fill-thread-spec =

@@ -16,21 +16,27 @@ use Rattle.tables.proofs.process_place.Statement.{statement}
 use Rattle.tables.proofs.process_place.Tie as tie
 
 abbrev Inv-loop : tie.InvT-loop
-Inv-loop ps id i₀ i = (i ≤ processPlaces) × (find (hasProcessId id) (heldProcesses ps) ≡ i + find (hasProcessId id) (drop i (heldProcesses ps)))
+Inv-loop ps id i₀ i =
+    (i ≤ processPlaces)
+    × (find (hasProcessId id) (heldProcesses ps) ≡ i + find (hasProcessId id) (drop i (heldProcesses ps)))
 
 abbrev μ-loop : tie.MeasureT-loop
 μ-loop ps id i₀ i = processPlaces - i
 
 loop-holds : tie.Need-loop-holds Inv-loop μ-loop
-loop-holds c = let a = c .before in (omega arith, find-none (hasProcessId (a .args .id)) noProcess (heldProcesses (a .args .ps .now)))
+loop-holds c =
+    let a = c .before in
+    (omega arith, find-none (hasProcessId (a .args .id)) noProcess (heldProcesses (a .args .ps .now)))
 
 returns : tie.Need-returns Inv-loop μ-loop
 returns c =
     let l = c .before .before .before in
     let a = l .before .before in
     let w = c .before .field-at .result in
-    sym (find-here (hasProcessId (a .args .id)) noProcess (heldProcesses (a .args .ps .now)) (l .loop .i) (rw length-heldProcesses (omega arith)) (l .loop .inv .1)
-    (process-test (a .args .ps .now) (l .loop .i) (a .args .id) w (c .before .field-at .ensures) ∙ eq-eqb w (a .args .id) (c .if1 .taken)))
+    sym (find-here (hasProcessId (a .args .id)) noProcess (heldProcesses (a .args .ps .now)) (l .loop .i)
+    (rw length-heldProcesses (omega arith)) (l .loop .inv .1)
+    (process-test (a .args .ps .now) (l .loop .i) (a .args .id) w (c .before .field-at .ensures)
+    ∙ eq-eqb w (a .args .id) (c .if1 .taken)))
 
 loop-again : tie.Need-loop-again Inv-loop μ-loop
 loop-again c =
@@ -38,14 +44,17 @@ loop-again c =
     let a = l .before .before in
     let w = c .before .field-at .result in (
       omega arith,
-      find-more (hasProcessId (a .args .id)) noProcess (heldProcesses (a .args .ps .now)) (l .loop .i) (rw length-heldProcesses (omega arith)) (l .loop .inv .1)
-          (process-test (a .args .ps .now) (l .loop .i) (a .args .id) w (c .before .field-at .ensures) ∙ ne-eqb w (a .args .id) (c .if1 .left)),
+      find-more (hasProcessId (a .args .id)) noProcess (heldProcesses (a .args .ps .now)) (l .loop .i)
+          (rw length-heldProcesses (omega arith)) (l .loop .inv .1)
+          (process-test (a .args .ps .now) (l .loop .i) (a .args .id) w (c .before .field-at .ensures)
+          ∙ ne-eqb w (a .args .id) (c .if1 .left)),
     )
 
 returns-2 : tie.Need-returns-2 Inv-loop μ-loop
 returns-2 c =
     let a = c .before .before .before in
-    sym (find-done (hasProcessId (a .args .id)) noProcess (heldProcesses (a .args .ps .now)) (c .before .loop .i) (rw length-heldProcesses (omega arith)) (c .before .loop .inv .1))
+    sym (find-done (hasProcessId (a .args .id)) noProcess (heldProcesses (a .args .ps .now)) (c .before .loop .i)
+    (rw length-heldProcesses (omega arith)) (c .before .loop .inv .1))
 
 pub process-place-spec : {M : Type 1} → statement M
 process-place-spec =

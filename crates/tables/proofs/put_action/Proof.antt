@@ -18,7 +18,8 @@ unfolding actionTo
 returns c =
     let b = c .before in
     let a = b .before .before in
-    action-put (a .args .ps .now) (a .pre .0) (a .args .place) (a .pre .1 .0) (a .args .signal) (b .action-base .result) (a .args .a) (a .pre .1 .1 .0) (a .pre .1 .1 .1) (b .action-base .ensures)
+    action-put (a .args .ps .now) (a .pre .0) (a .args .place) (a .pre .1 .0) (a .args .signal) (b .action-base .result)
+    (a .args .a) (a .pre .1 .1 .0) (a .pre .1 .1 .1) (b .action-base .ensures)
 
 pub put-action-spec : {M : Type 1} → statement M
 put-action-spec =

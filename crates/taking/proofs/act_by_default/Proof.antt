@@ -37,7 +37,9 @@ unfolding outcomeOf outcomeChanges
 returns-2 c =
     let a = c .before .before .before .before .before .before .before .before .before .before .before .before .before in
     let p = a .args .process in
-    let e = ap (λ o. outcomeChanges (outcomeOf o) p) (c .before .before .before .before .before .before .before .enum-told2 .given .1) in
+    let e =
+    ap (λ o. outcomeChanges (outcomeOf o) p)
+    (c .before .before .before .before .before .before .before .enum-told2 .given .1) in
     let w = c .before .before .set-stopped in
     made-as (w .ensures) e
 
@@ -52,9 +54,13 @@ returns-3 c =
 returns-4 : tie.Need-returns-4
 unfolding outcomeOf outcomeChanges
 returns-4 c =
-    let a = c .before .before .before .before .before .before .before .before .before .before .before .before .before .before .before .before .before .before .before in
+    let a = c .before .before .before .before .before .before .before .before .before .before .before .before .before
+    .before .before .before .before .before .before in
     let p = a .args .process in
-    let e = ap (λ o. outcomeChanges (outcomeOf o) p) (c .before .before .before .before .before .before .before .before .before .before .before .before .before .enum-told4 .given .1) in
+    let e =
+    ap (λ o. outcomeChanges (outcomeOf o) p)
+    (c .before .before .before .before .before .before .before .before .before .before .before .before .before
+    .enum-told4 .given .1) in
     let w = c .before .before .before .before .before .before .before .before .remove-process in
     made-as (w .ensures) e
 

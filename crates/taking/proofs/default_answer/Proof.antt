@@ -25,4 +25,5 @@ returns-4 c = ap (λ o. outcomeAnswer (outcomeOf o) (c .before .before .args .si
 pub default-answer-spec : {M : Type 1} → statement M
 default-answer-spec =
     tie.close
-    (tie.spec (λ c. search needs) (λ c. search needs) (λ c. search needs) (λ c. search needs) returns returns-2 returns-3 returns-4)
+    (tie.spec (λ c. search needs) (λ c. search needs) (λ c. search needs)
+    (λ c. search needs) returns returns-2 returns-3 returns-4)

@@ -15,7 +15,10 @@ act-by-default-requires c κs =
     let t = threadOf (a .args .thread) (a .args .process) (a .args .mask) in
     let s = a .args .signal in
     let o = c .outcome-of in
-    let e = by-default t (a .args .a) s (eq-eqb (a .args .a .handler) sigDfl (c .before .before .before .before .before .if1 .taken)) (outcomeOf (o .result)) (o .ensures) in
+    let e =
+    by-default t (a .args .a) s
+    (eq-eqb (a .args .a .handler) sigDfl (c .before .before .before .before .before .if1 .taken))
+    (outcomeOf (o .result)) (o .ensures) in
     ready-as (a .pre) e
 
 start-handler-requires : tie.Need-start-handler-requires
@@ -23,25 +26,33 @@ start-handler-requires c κs =
     let a = c .before .before .before .before .before .before .before .before .before .before in
     let t = threadOf (a .args .thread) (a .args .process) (a .args .mask) in
     let s = a .args .signal in
-    let e = by-handler t (a .args .a) s (ne-eqb (a .args .a .handler) sigDfl (c .before .before .before .before .if1 .left)) in
+    let e =
+    by-handler t (a .args .a) s (ne-eqb (a .args .a .handler) sigDfl (c .before .before .before .before .if1 .left)) in
     ready-as (a .pre) e
 
 returns : tie.Need-returns
 returns c =
-    let a = c .before .before .before .before .before .before .before .before .before .before .before .before .before .before .before .before .before .before .before .before in
+    let a = c .before .before .before .before .before .before .before .before .before .before .before .before .before
+    .before .before .before .before .before .before .before in
     let t = threadOf (a .args .thread) (a .args .process) (a .args .mask) in
     let s = a .args .signal in
     let o = c .before .before .before .before .before .before .before .before .before .outcome-of in
-    let e = by-default t (a .args .a) s (eq-eqb (a .args .a .handler) sigDfl (c .before .before .before .before .before .before .before .before .before .before .before .before .before .before .if1 .taken)) (outcomeOf (o .result)) (o .ensures) in
+    let e =
+    by-default t (a .args .a) s (eq-eqb (a .args .a .handler) sigDfl (c .before .before .before .before
+    .before .before .before .before .before .before .before .before .before .before .if1 .taken))
+    (outcomeOf (o .result)) (o .ensures) in
     let w = c .before .before .before .before .before .before .before .before .act-by-default in
     made-as (w .ensures) e
 
 returns-2 : tie.Need-returns-2
 returns-2 c =
-    let a = c .before .before .before .before .before .before .before .before .before .before .before .before .before .before .before .before .before .before .before in
+    let a = c .before .before .before .before .before .before .before .before .before .before .before .before .before
+    .before .before .before .before .before .before in
     let t = threadOf (a .args .thread) (a .args .process) (a .args .mask) in
     let s = a .args .signal in
-    let e = by-handler t (a .args .a) s (ne-eqb (a .args .a .handler) sigDfl (c .before .before .before .before .before .before .before .before .before .before .before .before .before .if1 .left)) in
+    let e =
+    by-handler t (a .args .a) s (ne-eqb (a .args .a .handler) sigDfl (c .before .before .before .before .before .before
+    .before .before .before .before .before .before .before .if1 .left)) in
     let w = c .before .before .before .before .before .before .before .before .start-handler in
     made-as (w .ensures) e
 

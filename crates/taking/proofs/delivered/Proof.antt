@@ -12,7 +12,9 @@ returns : tie.Need-returns
 returns c =
     let a = c .before .before .before .before .args in
     let o = c .before .outcome-of in
-    answers-default (threadOf 0 0 (a .mask)) (a .a) (a .r) (eq-eqb (a .a .handler) sigDfl (c .before .before .if1 .taken)) (outcomeOf (o .result)) (o .ensures) (c .default-answer .result) (c .default-answer .ensures)
+    answers-default (threadOf 0 0 (a .mask)) (a .a) (a .r)
+    (eq-eqb (a .a .handler) sigDfl (c .before .before .if1 .taken)) (outcomeOf (o .result)) (o .ensures)
+    (c .default-answer .result) (c .default-answer .ensures)
 
 returns-2 : tie.Need-returns-2
 returns-2 c =

@@ -32,14 +32,18 @@ returns c =
 returns-2 : tie.Need-returns-2
 unfolding dequeueChanges nextOf
 returns-2 c =
-    let e = ap (λ n. dequeueChanges (nextOf n)) (c .before .before .before .before .before .before .before .before .before .before .next .given .1) in
+    let e =
+    ap (λ n. dequeueChanges (nextOf n))
+    (c .before .before .before .before .before .before .before .before .before .before .next .given .1) in
     let w = c .before .before .before .before .clear-mark in
     made-as (w .ensures) e
 
 returns-3 : tie.Need-returns-3
 unfolding dequeueChanges nextOf
 returns-3 c =
-    let e = ap (λ n. dequeueChanges (nextOf n)) (c .before .before .before .before .before .before .before .before .before .before .next2 .given .1) in
+    let e =
+    ap (λ n. dequeueChanges (nextOf n))
+    (c .before .before .before .before .before .before .before .before .before .before .next2 .given .1) in
     let w = c .before .before .before .before .drop-oldest in
     made-as (w .ensures) e
 

@@ -9,7 +9,8 @@ returns c =
     let a = c .before .before .before .before .before .args in
     let both = c .before .before .before .before .union in
     let all = c .before .union2 in
-    mask-bare (a .old) (a .a) (a .signal) (both .result) (both .ensures) (all .result) (c .maskable .result) (c .maskable .ensures) (c .before .before .if1 .taken) (all .ensures)
+    mask-bare (a .old) (a .a) (a .signal) (both .result) (both .ensures) (all .result) (c .maskable .result)
+    (c .maskable .ensures) (c .before .before .if1 .taken) (all .ensures)
 
 returns-2 : tie.Need-returns-2
 returns-2 c =
@@ -17,7 +18,8 @@ returns-2 c =
     let both = c .before .before .before .before .before .union in
     let all = c .before .union3 in
     let one = c .before .before .of-signal in
-    mask-blocking (a .old) (a .a) (a .signal) (both .result) (both .ensures) (all .result) (c .maskable2 .result) (c .maskable2 .ensures) (c .before .before .before .if1 .left) (one .result) (one .ensures) (all .ensures)
+    mask-blocking (a .old) (a .a) (a .signal) (both .result) (both .ensures) (all .result) (c .maskable2 .result)
+    (c .maskable2 .ensures) (c .before .before .before .if1 .left) (one .result) (one .ensures) (all .ensures)
 
 pub handler-mask-spec : {M : Type 1} → statement M
 handler-mask-spec =

@@ -15,27 +15,40 @@ set-mask-requires c κs =
 
 store-action-requires : tie.Need-store-action-requires
 store-action-requires c κs =
-    let a = c .before .before .before .before .before .before .before .before .before .before .before .before .before .before .before .before .before .before .before in
+    let a = c .before .before .before .before .before .before .before .before .before .before .before .before .before
+    .before .before .before .before .before .before in
     let t = threadOf (a .args .thread) (a .args .process) (a .args .mask) in
     let m = c .before .before .before .before .before .before .before .before .before .before .handler-mask in
     let w = c .before .before .before .before .before .before .before .before .before .set-mask in
-    let r = sym (c .before .before .before .before .before .before .is-reset .ensures) ∙ c .before .before .before .before .before .if1 .taken in
-    ready-last (a .pre) (w .ensures) (resetting t (a .args .a) (a .args .signal) (m .result) (m .ensures) r (c .reset-of .result) (c .reset-of .ensures))
+    let r =
+    sym (c .before .before .before .before .before .before .is-reset .ensures)
+    ∙ c .before .before .before .before .before .if1 .taken in
+    ready-last (a .pre) (w .ensures)
+    (resetting t (a .args .a) (a .args .signal) (m .result) (m .ensures) r (c .reset-of .result) (c .reset-of .ensures))
 
 returns : tie.Need-returns
 returns c =
-    let a = c .before .before .before .before .before .before .before .before .before .before .before .before .before .before .before .before .before .before .before .before .before .before .before .before .before .before .before .before in
+    let a =
+    c .before .before .before .before .before .before .before .before .before .before .before .before .before .before
+    .before .before .before .before .before .before .before .before .before .before .before .before .before .before in
     let t = threadOf (a .args .thread) (a .args .process) (a .args .mask) in
-    let m = c .before .before .before .before .before .before .before .before .before .before .before .before .before .before .before .before .before .before .before .handler-mask in
-    let w = c .before .before .before .before .before .before .before .before .before .before .before .before .before .before .before .before .before .before .set-mask in
-    let r = sym (c .before .before .before .before .before .before .before .before .before .before .before .before .before .before .before .is-reset .ensures) ∙ c .before .before .before .before .before .before .before .before .before .before .before .before .before .before .if1 .taken in
+    let m = c .before .before .before .before .before .before .before .before .before .before .before .before .before
+    .before .before .before .before .before .before .handler-mask in
+    let w = c .before .before .before .before .before .before .before .before .before .before .before .before .before
+    .before .before .before .before .before .set-mask in
+    let r = sym (c .before .before .before .before .before .before .before .before
+    .before .before .before .before .before .before .before .is-reset .ensures)
+    ∙ c .before .before .before .before .before .before .before .before .before .before .before .before .before .before
+    .if1 .taken in
     let n = c .before .before .before .before .before .before .before .before .before .reset-of in
     let x = c .before .before .before .before .before .before .before .before .store-action in
-    made-last (w .ensures) (x .ensures) (resetting t (a .args .a) (a .args .signal) (m .result) (m .ensures) r (n .result) (n .ensures))
+    made-last (w .ensures) (x .ensures)
+    (resetting t (a .args .a) (a .args .signal) (m .result) (m .ensures) r (n .result) (n .ensures))
 
 returns-2 : tie.Need-returns-2
 returns-2 c =
-    let a = c .before .before .before .before .before .before .before .before .before .before .before .before .before .before in
+    let a =
+    c .before .before .before .before .before .before .before .before .before .before .before .before .before .before in
     let t = threadOf (a .args .thread) (a .args .process) (a .args .mask) in
     let m = c .before .before .before .before .before .handler-mask in
     let w = c .before .before .before .before .set-mask in

@@ -16,7 +16,8 @@ returns c =
 
 next-of-requires : tie.Need-next-of-requires
 next-of-requires c κs =
-    let a = c .before .before .before .before .before .before .before .before .before .before .before .before .before .before in
+    let a =
+    c .before .before .before .before .before .before .before .before .before .before .before .before .before .before in
     let l = given (a .args .ps) (a .args .ts) (a .args .tb) (a .args .pb) in
     let t = a .args .thread in
     let n = c .before .before .before .before .before .thread-refusal in
@@ -25,34 +26,57 @@ next-of-requires c κs =
 
 returns-2 : tie.Need-returns-2
 returns-2 c =
-    let a = c .before .before .before .before .before .before .before .before .before .before .before .before .before .before .before .before .before in
+    let a = c .before .before .before .before .before .before .before .before .before .before .before .before .before
+    .before .before .before .before in
     let l = given (a .args .ps) (a .args .ts) (a .args .tb) (a .args .pb) in
     let t = a .args .thread in
     let n = c .before .before .before .before .before .before .before .before .thread-refusal in
     let x = c .before .before .next-of in
-    take-nothing l t (n .result) (n .ensures) (c .before .before .before .before .before .before .before .if1 .left) (x .result) (x .ensures) (c .enum-told .given .1)
-    (λ i. omega (arith, c .before .before .before .before .before .before .before .before .before .before .before .before .before .before .slice-known3 .given i))
-    (λ i. omega (arith, c .before .before .before .before .before .before .before .before .before .before .before .before .before .slice-known4 .given i))
+    take-nothing l t (n .result) (n .ensures) (c .before .before .before .before .before .before .before .if1 .left)
+    (x .result) (x .ensures) (c .enum-told .given .1)
+    (λ i. omega (
+      arith,
+      c .before .before .before .before .before .before .before .before .before .before .before .before .before .before
+          .slice-known3 .given i,
+    ))
+    (λ i. omega (
+      arith,
+      c .before .before .before .before .before .before .before .before .before .before .before .before .before
+          .slice-known4 .given i,
+    ))
 
 take-next-requires : tie.Need-take-next-requires
 take-next-requires c κs =
-    let a = c .before .before .before .before .before .before .before .before .before .before .before .before .before .before .before .before .before .before .before .before in
+    let a = c .before .before .before .before .before .before .before .before .before .before .before .before .before
+    .before .before .before .before .before .before .before in
     let l = given (a .args .ps) (a .args .ts) (a .args .tb) (a .args .pb) in
     let t = a .args .thread in
     let n = c .before .before .before .before .before .before .before .before .before .before .before .thread-refusal in
     let z = c .before .before .before .before .before .before .before .before .before .before .if1 .left in
     let x = c .before .before .before .before .before .next-of in
-    record { sound = taker-sound l t (n .result) (n .ensures) z; live = taker-live l t (n .result) (n .ensures) z; next = x .ensures; something = something (x .result) (c .before .before .before .before .match .keys2) }
+    record {
+      sound = taker-sound l t (n .result) (n .ensures) z;
+      live = taker-live l t (n .result) (n .ensures) z;
+      next = x .ensures;
+      something = something (x .result) (c .before .before .before .before .match .keys2);
+    }
 
 returns-3 : tie.Need-returns-3
 returns-3 c =
-    let a = c .before .before .before .before .before .before .before .before .before .before .before .before .before .before .before .before .before .before .before .before .before .before .before .before .before .before .before .before .before in
+    let a = c .before .before .before .before .before .before .before .before .before .before .before .before .before
+    .before .before .before .before .before .before .before .before .before .before .before .before .before .before
+    .before .before in
     let l = given (a .args .ps) (a .args .ts) (a .args .tb) (a .args .pb) in
     let t = a .args .thread in
-    let n = c .before .before .before .before .before .before .before .before .before .before .before .before .before .before .before .before .before .before .before .before .thread-refusal in
-    let x = c .before .before .before .before .before .before .before .before .before .before .before .before .before .before .next-of in
+    let n = c .before .before .before .before .before .before .before .before .before .before .before .before .before
+    .before .before .before .before .before .before .before .thread-refusal in
+    let x = c .before .before .before .before .before .before .before .before .before .before .before .before .before
+    .before .next-of in
     let w = c .before .before .before .before .before .before .before .before .take-next in
-    take-made l t (n .result) (n .ensures) (c .before .before .before .before .before .before .before .before .before .before .before .before .before .before .before .before .before .before .before .if1 .left) (x .result) (x .ensures) (lent (w .last .0) (w .last .1 .0) (w .last .1 .1 .0) (w .last .1 .1 .1 .0))
+    take-made l t (n .result) (n .ensures)
+    (c .before .before .before .before .before .before .before .before .before .before
+    .before .before .before .before .before .before .before .before .before .if1 .left)
+    (x .result) (x .ensures) (lent (w .last .0) (w .last .1 .0) (w .last .1 .1 .0) (w .last .1 .1 .1 .0))
     (search needs) (search needs) (search needs) (search needs)
     (λ i. omega (arith, c .before .before .slice-known7 .given i))
     (λ i. omega (arith, c .slice-known8 .given i))

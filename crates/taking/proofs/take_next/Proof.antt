@@ -30,47 +30,81 @@ action-of-requires c κs =
     let l = given (a .args .ps) (a .args .ts) (a .args .tb) (a .args .pb) in
     let t = a .args .thread in
     let r = c .before .before .before .before .before .info-of in
-    let p = c .before .before .before .process-of in
-    (processes-long l (a .pre .sound), (process-held l (a .pre .sound) t (a .pre .live) (p .result) (p .ensures), signal-named l (a .pre .sound) t (a .pre .live) (a .args .next) (a .pre .next) (a .pre .something) (r .result) (r .ensures)))
+    let p = c .before .before .before .process-of in (
+      processes-long l (a .pre .sound),
+      (
+        process-held l (a .pre .sound) t (a .pre .live) (p .result) (p .ensures),
+        signal-named l (a .pre .sound) t (a .pre .live) (a .args .next) (a .pre .next) (a .pre .something) (r .result)
+            (r .ensures),
+      ),
+    )
 
 dequeue-requires : tie.Need-dequeue-requires
 dequeue-requires c κs =
-    let a = c .before .before .before .before .before .before .before .before .before .before .before .before .before .before .before in
+    let a = c .before .before .before .before .before .before .before .before .before .before .before .before .before
+    .before .before in
     let l = given (a .args .ps) (a .args .ts) (a .args .tb) (a .args .pb) in
     let t = a .args .thread in
     let r = c .before .before .before .before .before .before .before .before .before .before .info-of in
     let p = c .before .before .before .before .before .before .before .before .process-of in
     let m = c .before .before .before .before .before .before .mask-of in
     let b = c .before .before .before .before .action-of in
-    let d = known l (a .pre .sound) t (a .pre .live) (a .args .next) (a .pre .next) (a .pre .something) (r .result) (r .ensures) (p .result) (p .ensures) (m .result) (m .ensures) (b .result) (b .ensures) in
+    let d =
+    known l (a .pre .sound) t (a .pre .live) (a .args .next) (a .pre .next) (a .pre .something) (r .result) (r .ensures)
+    (p .result) (p .ensures) (m .result) (m .ensures) (b .result) (b .ensures) in
     ready-part (deliver (threadOf t (p .result) (m .result)) (b .result) (r .result .signal)) (d .ready) (d .parts)
 
 deliver-requires : tie.Need-deliver-requires
 deliver-requires c κs =
-    let a = c .before .before .before .before .before .before .before .before .before .before .before .before .before .before .before .before .before .before .before .before .before .before .before .before .before .before .before .before in
+    let a =
+    c .before .before .before .before .before .before .before .before .before .before .before .before .before .before
+    .before .before .before .before .before .before .before .before .before .before .before .before .before .before in
     let l = given (a .args .ps) (a .args .ts) (a .args .tb) (a .args .pb) in
     let t = a .args .thread in
-    let r = c .before .before .before .before .before .before .before .before .before .before .before .before .before .before .before .before .before .before .before .before .before .before .before .info-of in
-    let p = c .before .before .before .before .before .before .before .before .before .before .before .before .before .before .before .before .before .before .before .before .before .process-of in
-    let m = c .before .before .before .before .before .before .before .before .before .before .before .before .before .before .before .before .before .before .before .mask-of in
-    let b = c .before .before .before .before .before .before .before .before .before .before .before .before .before .before .before .before .before .action-of in
-    let d = known l (a .pre .sound) t (a .pre .live) (a .args .next) (a .pre .next) (a .pre .something) (r .result) (r .ensures) (p .result) (p .ensures) (m .result) (m .ensures) (b .result) (b .ensures) in
-    let w = c .before .before .before .before .before .before .before .before .before .before .before .before .dequeue in
+    let r = c .before .before .before .before .before .before .before .before .before .before .before .before .before
+    .before .before .before .before .before .before .before .before .before .before .info-of in
+    let p = c .before .before .before .before .before .before .before .before .before .before .before .before .before
+    .before .before .before .before .before .before .before .before .process-of in
+    let m = c .before .before .before .before .before .before .before .before .before .before .before .before .before
+    .before .before .before .before .before .before .mask-of in
+    let b = c .before .before .before .before .before .before .before .before .before .before .before .before .before
+    .before .before .before .before .action-of in
+    let d =
+    known l (a .pre .sound) t (a .pre .live) (a .args .next) (a .pre .next) (a .pre .something) (r .result) (r .ensures)
+    (p .result) (p .ensures) (m .result) (m .ensures) (b .result) (b .ensures) in
+    let w =
+    c .before .before .before .before .before .before .before .before .before .before .before .before .dequeue in
     ready-last (d .ready) (w .ensures) (d .parts)
 
 returns : tie.Need-returns
 returns c =
-    let a = c .before .before .before .before .before .before .before .before .before .before .before .before .before .before .before .before .before .before .before .before .before .before .before .before .before .before .before .before .before .before .before .before .before .before .before .before .before .before in
+    let a = c .before .before .before .before .before .before .before .before .before .before .before .before .before
+    .before .before .before .before .before .before .before .before .before .before .before .before .before .before
+    .before .before .before .before .before .before .before .before .before .before .before in
     let l = given (a .args .ps) (a .args .ts) (a .args .tb) (a .args .pb) in
     let t = a .args .thread in
-    let r = c .before .before .before .before .before .before .before .before .before .before .before .before .before .before .before .before .before .before .before .before .before .before .before .before .before .before .before .before .before .before .before .before .before .info-of in
-    let p = c .before .before .before .before .before .before .before .before .before .before .before .before .before .before .before .before .before .before .before .before .before .before .before .before .before .before .before .before .before .before .before .process-of in
-    let m = c .before .before .before .before .before .before .before .before .before .before .before .before .before .before .before .before .before .before .before .before .before .before .before .before .before .before .before .before .before .mask-of in
-    let b = c .before .before .before .before .before .before .before .before .before .before .before .before .before .before .before .before .before .before .before .before .before .before .before .before .before .before .before .action-of in
-    let d = known l (a .pre .sound) t (a .pre .live) (a .args .next) (a .pre .next) (a .pre .something) (r .result) (r .ensures) (p .result) (p .ensures) (m .result) (m .ensures) (b .result) (b .ensures) in
-    let w = c .before .before .before .before .before .before .before .before .before .before .before .before .before .before .before .before .before .before .before .before .before .before .dequeue in
+    let r = c .before .before .before .before .before .before .before .before .before .before .before .before .before
+    .before .before .before .before .before .before .before .before .before .before .before .before .before .before
+    .before .before .before .before .before .before .info-of in
+    let p = c .before .before .before .before .before .before .before .before .before .before .before .before .before
+    .before .before .before .before .before .before .before .before .before .before .before .before .before .before
+    .before .before .before .before .process-of in
+    let m = c .before .before .before .before .before .before .before .before .before .before .before .before .before
+    .before .before .before .before .before .before .before .before .before .before .before .before .before .before
+    .before .before .mask-of in
+    let b = c .before .before .before .before .before .before .before .before .before .before .before .before .before
+    .before .before .before .before .before .before .before .before .before .before .before .before .before .before
+    .action-of in
+    let d =
+    known l (a .pre .sound) t (a .pre .live) (a .args .next) (a .pre .next) (a .pre .something) (r .result) (r .ensures)
+    (p .result) (p .ensures) (m .result) (m .ensures) (b .result) (b .ensures) in
+    let w = c .before .before .before .before .before .before .before .before .before .before .before .before .before
+    .before .before .before .before .before .before .before .before .before .dequeue in
     let z = c .before .before .before .before .before .before .before .before .before .deliver in
-    record { answer = answered d (c .delivered .result) (c .delivered .ensures); tables = made-last (w .ensures) (z .ensures) (d .parts) }
+    record {
+      answer = answered d (c .delivered .result) (c .delivered .ensures);
+      tables = made-last (w .ensures) (z .ensures) (d .parts);
+    }
 
 pub take-next-spec : {M : Type 1} → statement M
 take-next-spec =

@@ -23,8 +23,11 @@ loop-again : tie.Need-loop-again Inv-loop μ-loop
 unfolding recordFrom
 loop-again c =
     let l = c .before in
-    let a = l .before in
-    (omega arith, read-suc _ (l .loop .ts) (a .args .t1) (l .loop .i) refl (a .good .0 .1 .0 .1) (c .loop-test .taken) (l .loop .inv .1))
+    let a = l .before in (
+      omega arith,
+      read-suc _ (l .loop .ts) (a .args .t1) (l .loop .i) refl (a .good .0 .1 .0 .1) (c .loop-test .taken)
+          (l .loop .inv .1),
+    )
 
 returns : tie.Need-returns Inv-loop μ-loop
 returns c =

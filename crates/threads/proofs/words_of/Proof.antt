@@ -24,13 +24,17 @@ loop-again : tie.Need-loop-again Inv-loop μ-loop
 unfolding recordTo
 loop-again c =
     let l = c .before .before .before .before in
-    let a = l .before in
-    (omega arith, written-suc _ (l .loop .ws) (a .args .t1) (l .loop .i) (a .good .0 .1 .0 .1) (c .before .before .before .loop-test .taken) (l .loop .inv .1))
+    let a = l .before in (
+      omega arith,
+      written-suc _ (l .loop .ws) (a .args .t1) (l .loop .i) (a .good .0 .1 .0 .1)
+          (c .before .before .before .loop-test .taken) (l .loop .inv .1),
+    )
 
 returns : tie.Need-returns Inv-loop μ-loop
 returns c =
     let l = c .before in
-    written-all _ (l .loop .ws) (l .before .args .t1) (l .loop .i) refl (l .before .good .0 .1 .0 .1) (omega arith) (l .loop .inv .1)
+    written-all _ (l .loop .ws) (l .before .args .t1) (l .loop .i) refl (l .before .good .0 .1 .0 .1) (omega arith)
+    (l .loop .inv .1)
 
 pub words-of-spec : {M : Type 1} → statement M
 words-of-spec =

@@ -8,7 +8,9 @@ use Rattle.tables.specs.Tables.{heldProcesses}
 use Rattle.tables.proofs.Words.{length-heldProcesses}
 
 returns : tie.Need-returns
-returns c = let a = c .before .before .args in found isFreeProcess (heldProcesses (a .ps .now)) processPlaces (c .free-process .result) (length-heldProcesses (a .ps .now)) (c .free-process .ensures)
+returns c =
+    let a = c .before .before .args in found isFreeProcess (heldProcesses (a .ps .now)) processPlaces
+    (c .free-process .result) (length-heldProcesses (a .ps .now)) (c .free-process .ensures)
 
 pub has-process-place-spec : {M : Type 1} → statement M
 has-process-place-spec = tie.close (tie.spec (λ c κs. search needs) returns)

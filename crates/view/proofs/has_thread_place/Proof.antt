@@ -8,7 +8,9 @@ use Rattle.tables.specs.Tables.{heldThreads}
 use Rattle.tables.proofs.Words.{length-heldThreads}
 
 returns : tie.Need-returns
-returns c = let a = c .before .before .args in found isFreeThread (heldThreads (a .ts .now)) threadPlaces (c .free-thread .result) (length-heldThreads (a .ts .now)) (c .free-thread .ensures)
+returns c =
+    let a = c .before .before .args in found isFreeThread (heldThreads (a .ts .now)) threadPlaces
+    (c .free-thread .result) (length-heldThreads (a .ts .now)) (c .free-thread .ensures)
 
 pub has-thread-place-spec : {M : Type 1} → statement M
 has-thread-place-spec = tie.close (tie.spec (λ c κs. search needs) returns)

@@ -8,7 +8,9 @@ use Rattle.tables.specs.Tables.{heldProcesses}
 use Rattle.tables.proofs.Words.{length-heldProcesses}
 
 returns : tie.Need-returns
-returns c = let a = c .before .before .args in found (isProcess (a .id)) (heldProcesses (a .ps .now)) processPlaces (c .find-process .result) (length-heldProcesses (a .ps .now)) (c .find-process .ensures)
+returns c =
+    let a = c .before .before .args in found (isProcess (a .id)) (heldProcesses (a .ps .now)) processPlaces
+    (c .find-process .result) (length-heldProcesses (a .ps .now)) (c .find-process .ensures)
 
 pub is-process-spec : {M : Type 1} → statement M
 is-process-spec = tie.close (tie.spec (λ c κs. search needs) returns)

@@ -15,31 +15,71 @@ use Rattle.sigset.specs.Set.{setOf}
 use Rattle.rules.specs.View.{targetQueue}
 
 find-process-requires : tie.Need-find-process-requires
-find-process-requires c κs = let a = c .before .before .before .before .before in processes-long (given (a .args .ps) (a .args .ts) (a .args .tb) (a .args .pb)) (a .pre .0)
+find-process-requires c κs =
+    let a = c .before .before .before .before .before in
+    processes-long (given (a .args .ps) (a .args .ts) (a .args .tb) (a .args .pb)) (a .pre .0)
 
 field-at-requires : tie.Need-field-at-requires
 unfolding liveProcess view decoded
-field-at-requires c κs = let a = c .before .before .before .before .before .before in
-    (processes-long (given (a .args .ps) (a .args .ts) (a .args .tb) (a .args .pb)) (a .pre .0), (process-place (a .args .ps .now) (a .args .process) (c .find-process .result) (c .find-process .ensures) (target-process (viewOf (given (a .args .ps) (a .args .ts) (a .args .tb) (a .args .pb))) (a .args .process) (a .args .thread) (queue-target (viewOf (given (a .args .ps) (a .args .ts) (a .args .tb) (a .args .pb))) (a .args .process) (a .args .thread) (a .pre .1))), omega arith))
+field-at-requires c κs = let a = c .before .before .before .before .before .before in (
+  processes-long (given (a .args .ps) (a .args .ts) (a .args .tb) (a .args .pb)) (a .pre .0),
+  (
+    process-place (a .args .ps .now) (a .args .process) (c .find-process .result) (c .find-process .ensures)
+        (target-process (viewOf (given (a .args .ps) (a .args .ts) (a .args .tb) (a .args .pb)))
+        (a .args .process) (a .args .thread)
+        (queue-target (viewOf (given (a .args .ps) (a .args .ts) (a .args .tb) (a .args .pb))) (a .args .process)
+        (a .args .thread) (a .pre .1))),
+    omega arith,
+  ),
+)
 
 returns : tie.Need-returns
 returns c = let a = c .before .before .before .before .before .before .before in
     let t = c .before .before .if1 .taken in
-    process-marks-read (given (a .args .ps) (a .args .ts) (a .args .tb) (a .args .pb)) (a .pre .0) (a .args .process) (c .before .find-process .result) (c .field-at .result) (target-process (viewOf (given (a .args .ps) (a .args .ts) (a .args .tb) (a .args .pb))) (a .args .process) (a .args .thread) (queue-target (viewOf (given (a .args .ps) (a .args .ts) (a .args .tb) (a .args .pb))) (a .args .process) (a .args .thread) (a .pre .1))) (c .before .find-process .ensures) (omega (arith, c .field-at .ok)) (c .field-at .ensures)
-    ∙ ap (λ (n : ℕ). setOf ((viewOf (given (a .args .ps) (a .args .ts) (a .args .tb) (a .args .pb))) .marks (targetQueue (a .args .process) n))) (sym t)
+    process-marks-read (given (a .args .ps) (a .args .ts) (a .args .tb) (a .args .pb))
+    (a .pre .0) (a .args .process) (c .before .find-process .result) (c .field-at .result)
+    (target-process (viewOf (given (a .args .ps) (a .args .ts) (a .args .tb) (a .args .pb)))
+    (a .args .process) (a .args .thread)
+    (queue-target (viewOf (given (a .args .ps) (a .args .ts) (a .args .tb) (a .args .pb)))
+    (a .args .process) (a .args .thread) (a .pre .1)))
+    (c .before .find-process .ensures) (omega (arith, c .field-at .ok)) (c .field-at .ensures)
+    ∙ ap (λ (n : ℕ). setOf ((viewOf (given (a .args .ps) (a .args .ts) (a .args .tb) (a .args .pb))) .marks
+    (targetQueue (a .args .process) n))) (sym t)
 
 find-thread-requires : tie.Need-find-thread-requires
-find-thread-requires c κs = let a = c .before .before .before .before .before in threads-long (given (a .args .ps) (a .args .ts) (a .args .tb) (a .args .pb)) (a .pre .0)
+find-thread-requires c κs =
+    let a = c .before .before .before .before .before in
+    threads-long (given (a .args .ps) (a .args .ts) (a .args .tb) (a .args .pb)) (a .pre .0)
 
 thread-field-at-requires : tie.Need-thread-field-at-requires
 unfolding liveThread view decoded
-thread-field-at-requires c κs = let a = c .before .before .before .before .before .before in
-    (threads-long (given (a .args .ps) (a .args .ts) (a .args .tb) (a .args .pb)) (a .pre .0), (thread-place (a .args .ts .now) (a .args .thread) (c .find-thread .result) (c .find-thread .ensures) (target-thread (viewOf (given (a .args .ps) (a .args .ts) (a .args .tb) (a .args .pb))) (a .args .process) (a .args .thread) (queue-target (viewOf (given (a .args .ps) (a .args .ts) (a .args .tb) (a .args .pb))) (a .args .process) (a .args .thread) (a .pre .1)) (ne-eqb (a .args .thread) 0 (c .before .if1 .left))), omega arith))
+thread-field-at-requires c κs = let a = c .before .before .before .before .before .before in (
+  threads-long (given (a .args .ps) (a .args .ts) (a .args .tb) (a .args .pb)) (a .pre .0),
+  (
+    thread-place (a .args .ts .now) (a .args .thread) (c .find-thread .result) (c .find-thread .ensures)
+        (target-thread (viewOf (given (a .args .ps) (a .args .ts) (a .args .tb) (a .args .pb)))
+        (a .args .process) (a .args .thread)
+        (queue-target (viewOf (given (a .args .ps) (a .args .ts) (a .args .tb) (a .args .pb)))
+        (a .args .process) (a .args .thread) (a .pre .1))
+        (ne-eqb (a .args .thread) 0 (c .before .if1 .left))),
+    omega arith,
+  ),
+)
 
 returns-2 : tie.Need-returns-2
 returns-2 c = let a = c .before .before .before .before .before .before .before in
     let n = ne-eqb (a .args .thread) 0 (c .before .before .if1 .left) in
-    thread-marks-read (given (a .args .ps) (a .args .ts) (a .args .tb) (a .args .pb)) (a .pre .0) (a .args .process) (a .args .thread) (c .before .find-thread .result) (c .thread-field-at .result) (target-thread (viewOf (given (a .args .ps) (a .args .ts) (a .args .tb) (a .args .pb))) (a .args .process) (a .args .thread) (queue-target (viewOf (given (a .args .ps) (a .args .ts) (a .args .tb) (a .args .pb))) (a .args .process) (a .args .thread) (a .pre .1)) n) (target-owner (viewOf (given (a .args .ps) (a .args .ts) (a .args .tb) (a .args .pb))) (a .args .process) (a .args .thread) (queue-target (viewOf (given (a .args .ps) (a .args .ts) (a .args .tb) (a .args .pb))) (a .args .process) (a .args .thread) (a .pre .1)) n) (c .before .find-thread .ensures) (omega (arith, c .thread-field-at .ok)) (c .thread-field-at .ensures)
+    thread-marks-read (given (a .args .ps) (a .args .ts) (a .args .tb) (a .args .pb)) (a .pre .0)
+    (a .args .process) (a .args .thread) (c .before .find-thread .result) (c .thread-field-at .result)
+    (target-thread (viewOf (given (a .args .ps) (a .args .ts) (a .args .tb) (a .args .pb)))
+    (a .args .process) (a .args .thread)
+    (queue-target (viewOf (given (a .args .ps) (a .args .ts) (a .args .tb) (a .args .pb)))
+    (a .args .process) (a .args .thread) (a .pre .1)) n)
+    (target-owner (viewOf (given (a .args .ps) (a .args .ts) (a .args .tb) (a .args .pb)))
+    (a .args .process) (a .args .thread)
+    (queue-target (viewOf (given (a .args .ps) (a .args .ts) (a .args .tb) (a .args .pb)))
+    (a .args .process) (a .args .thread) (a .pre .1)) n)
+    (c .before .find-thread .ensures) (omega (arith, c .thread-field-at .ok)) (c .thread-field-at .ensures)
 
 pub marks-of-spec : {M : Type 1} → statement M
 marks-of-spec =

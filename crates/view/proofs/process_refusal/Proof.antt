@@ -17,13 +17,15 @@ returns c =
     let s = c .before in
     let a = s .before .before .before .before .before in
     let l = given (a .args .ps) (a .args .ts) (a .args .tb) (a .args .pb) in
-    rows-fault (esrch (noProcessLive (viewOf l) (a .args .process)) ∷ []) l (sym (s .sound .ensures) ∙ not-true (s .sound .result) (c .if1 .taken))
+    rows-fault (esrch (noProcessLive (viewOf l) (a .args .process)) ∷ []) l
+    (sym (s .sound .ensures) ∙ not-true (s .sound .result) (c .if1 .taken))
 
 is-process-requires : tie.Need-is-process-requires
 is-process-requires c κs =
     let s = c .before in
     let a = s .before .before .before .before .before in
-    processes-long (given (a .args .ps) (a .args .ts) (a .args .tb) (a .args .pb)) (sym (s .sound .ensures) ∙ not-false (s .sound .result) (c .if1 .left))
+    processes-long (given (a .args .ps) (a .args .ts) (a .args .tb) (a .args .pb))
+    (sym (s .sound .ensures) ∙ not-false (s .sound .result) (c .if1 .left))
 
 returns-2 : tie.Need-returns-2
 returns-2 c =
@@ -31,7 +33,8 @@ returns-2 c =
     let s = i .before .before in
     let a = s .before .before .before .before .before in
     let l = given (a .args .ps) (a .args .ts) (a .args .tb) (a .args .pb) in
-    rows-at l (sym (s .sound .ensures) ∙ not-false (s .sound .result) (i .before .if1 .left)) [] (esrch (noProcessLive (viewOf l) (a .args .process))) [] tt
+    rows-at l (sym (s .sound .ensures) ∙ not-false (s .sound .result) (i .before .if1 .left)) []
+    (esrch (noProcessLive (viewOf l) (a .args .process))) [] tt
     (no-process l (a .args .process) (i .is-process .result) (i .is-process .ensures) ∙ c .if2 .taken)
 
 returns-3 : tie.Need-returns-3
@@ -40,7 +43,8 @@ returns-3 c =
     let s = i .before .before in
     let a = s .before .before .before .before .before in
     let l = given (a .args .ps) (a .args .ts) (a .args .tb) (a .args .pb) in
-    rows-none l (sym (s .sound .ensures) ∙ not-false (s .sound .result) (i .before .if1 .left)) (esrch (noProcessLive (viewOf l) (a .args .process)) ∷ [])
+    rows-none l (sym (s .sound .ensures) ∙ not-false (s .sound .result) (i .before .if1 .left))
+    (esrch (noProcessLive (viewOf l) (a .args .process)) ∷ [])
     (no-process l (a .args .process) (i .is-process .result) (i .is-process .ensures) ∙ c .if2 .left, tt)
 
 pub process-refusal-spec : {M : Type 1} → statement M

@@ -17,13 +17,15 @@ returns c =
     let s = c .before in
     let a = s .before .before .before .before .before in
     let l = given (a .args .ps) (a .args .ts) (a .args .tb) (a .args .pb) in
-    rows-fault (esrch (noThreadLive (viewOf l) (a .args .thread)) ∷ []) l (sym (s .sound .ensures) ∙ not-true (s .sound .result) (c .if1 .taken))
+    rows-fault (esrch (noThreadLive (viewOf l) (a .args .thread)) ∷ []) l
+    (sym (s .sound .ensures) ∙ not-true (s .sound .result) (c .if1 .taken))
 
 is-thread-requires : tie.Need-is-thread-requires
 is-thread-requires c κs =
     let s = c .before in
     let a = s .before .before .before .before .before in
-    threads-long (given (a .args .ps) (a .args .ts) (a .args .tb) (a .args .pb)) (sym (s .sound .ensures) ∙ not-false (s .sound .result) (c .if1 .left))
+    threads-long (given (a .args .ps) (a .args .ts) (a .args .tb) (a .args .pb))
+    (sym (s .sound .ensures) ∙ not-false (s .sound .result) (c .if1 .left))
 
 returns-2 : tie.Need-returns-2
 returns-2 c =
@@ -31,7 +33,8 @@ returns-2 c =
     let s = i .before .before in
     let a = s .before .before .before .before .before in
     let l = given (a .args .ps) (a .args .ts) (a .args .tb) (a .args .pb) in
-    rows-at l (sym (s .sound .ensures) ∙ not-false (s .sound .result) (i .before .if1 .left)) [] (esrch (noThreadLive (viewOf l) (a .args .thread))) [] tt
+    rows-at l (sym (s .sound .ensures) ∙ not-false (s .sound .result) (i .before .if1 .left)) []
+    (esrch (noThreadLive (viewOf l) (a .args .thread))) [] tt
     (no-thread l (a .args .thread) (i .is-thread .result) (i .is-thread .ensures) ∙ c .if2 .taken)
 
 returns-3 : tie.Need-returns-3
@@ -40,7 +43,8 @@ returns-3 c =
     let s = i .before .before in
     let a = s .before .before .before .before .before in
     let l = given (a .args .ps) (a .args .ts) (a .args .tb) (a .args .pb) in
-    rows-none l (sym (s .sound .ensures) ∙ not-false (s .sound .result) (i .before .if1 .left)) (esrch (noThreadLive (viewOf l) (a .args .thread)) ∷ [])
+    rows-none l (sym (s .sound .ensures) ∙ not-false (s .sound .result) (i .before .if1 .left))
+    (esrch (noThreadLive (viewOf l) (a .args .thread)) ∷ [])
     (no-thread l (a .args .thread) (i .is-thread .result) (i .is-thread .ensures) ∙ c .if2 .left, tt)
 
 pub thread-refusal-spec : {M : Type 1} → statement M

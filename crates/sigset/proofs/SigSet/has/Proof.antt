@@ -10,7 +10,8 @@ returns : tie.Need-returns
 returns c = sym (has-beyond (c .before .args .a) (c .before .args .s) (omega arith) (λ h. omega arith))
 
 returns-2 : tie.Need-returns-2
-returns-2 c = sym (has-beyond (c .before .before .args .a) (c .before .before .args .s) (omega arith) (λ h. omega arith))
+returns-2 c =
+    sym (has-beyond (c .before .before .args .a) (c .before .before .args .s) (omega arith) (λ h. omega arith))
 
 returns-3 : tie.Need-returns-3
 returns-3 c = sym (has-at (c .before .before .before .args .a) (c .before .before .before .args .s) (omega arith))

@@ -25,4 +25,5 @@ returns-3 c =
     ap bits (mod-eq-of-lt fits ∙ one) ∙ sym (of-is s (record { low = omega arith; high = omega arith }))
 
 pub of-signal-spec : {M : Type 1} → statement M
-of-signal-spec = tie.close (tie.spec returns returns-2 (λ c. search needs) (λ c. search needs) (λ c. search needs) returns-3)
+of-signal-spec =
+    tie.close (tie.spec returns returns-2 (λ c. search needs) (λ c. search needs) (λ c. search needs) returns-3)
