@@ -12,7 +12,7 @@ use Rattle.rules.specs.Types.{Call, endProcess, endThread}
 use Rattle.rules.specs.View.{liveProcess, liveThread}
 use Rattle.rules.specs.Refusals.{Row, refusal, rows, isClear, esrch, noProcessLive, noThreadLive}
 use Rattle.rules.proofs.RefusalTable.{Off, first-given, none-given}
-use Rattle.sound.specs.Lent.{Lent, viewOf, soundTables}
+use Rattle.sound.specs.Lent.{Lent, viewOf, soundTables, WithThread, WithProcess}
 use Rattle.answers.specs.Step.{refusalOn, rowsOn}
 use Rattle.answers.proofs.Endings.{rows-fault, rows-sound, rows-given, accepted-tables-sound, accepted-rows}
 
@@ -63,19 +63,21 @@ module _ (c : Call) (l : Lent) (k : isClear c ≡ false) where
 
 module _ (l : Lent) (id n : ℕ) where
   pub live-process : n ≡ rowsOn (esrch (noProcessLive (viewOf l) id) ∷ []) l → n ≡ 0
-      → (soundTables l ≡ true) × (liveProcess (viewOf l) id ≡ true)
+      → WithProcess id l
   unfolding rows isClear noProcessLive
   live-process e z =
-      let k : refusalOn (endProcess id) l ≡ 0 = rows-given (endProcess id) l refl ∙ sym e ∙ z in (
-        accepted-tables-sound (endProcess id) l refl k,
-        not-false (liveProcess (viewOf l) id) (accepted-rows (endProcess id) l k .0),
-      )
+      let k : refusalOn (endProcess id) l ≡ 0 = rows-given (endProcess id) l refl ∙ sym e ∙ z in
+      record {
+        sound = accepted-tables-sound (endProcess id) l refl k;
+        live = not-false (liveProcess (viewOf l) id) (accepted-rows (endProcess id) l k .0);
+      }
 
   pub live-thread : n ≡ rowsOn (esrch (noThreadLive (viewOf l) id) ∷ []) l → n ≡ 0
-      → (soundTables l ≡ true) × (liveThread (viewOf l) id ≡ true)
+      → WithThread id l
   unfolding rows isClear noThreadLive
   live-thread e z =
-      let k : refusalOn (endThread id) l ≡ 0 = rows-given (endThread id) l refl ∙ sym e ∙ z in (
-        accepted-tables-sound (endThread id) l refl k,
-        not-false (liveThread (viewOf l) id) (accepted-rows (endThread id) l k .0),
-      )
+      let k : refusalOn (endThread id) l ≡ 0 = rows-given (endThread id) l refl ∙ sym e ∙ z in
+      record {
+        sound = accepted-tables-sound (endThread id) l refl k;
+        live = not-false (liveThread (viewOf l) id) (accepted-rows (endThread id) l k .0);
+      }

@@ -16,7 +16,7 @@ use Rattle.rules.specs.Fitting.{fits, fitsAll}
 use Rattle.rules.proofs.Marks.{the-thread-id}
 use Rattle.rules.proofs.TakeFits.{end-thread-fits}
 use Rattle.tables.specs.Tables.{heldThreads}
-use Rattle.sound.specs.Lent.{Lent, decoded, viewOf, soundTables}
+use Rattle.sound.specs.Lent.{Lent, decoded, viewOf, soundTables, WithThread}
 use Rattle.sound.proofs.Facts.{store-sound}
 use Rattle.effects.specs.Changes.{Ready, Changed}
 use Rattle.effects.proofs.Makes.{ready-as, made-as}
@@ -46,7 +46,7 @@ module _ (l : Lent) (id n : ℕ) (r : n ≡ rowsOn (esrch (noProcessLive (viewOf
     unfolding fits fitsAll
     process-can-end =
         let h = live-process l id n r z in
-        record { sound = h .0; fit = and-both (h .1) refl }
+        record { sound = h .sound; fit = and-both (h .live) refl }
 
     pub process-ended : (m : Lent) → AsLong l m → Bytes (m .threadBuffer) → Bytes (m .processBuffer)
         → Changed (removeProcess id ∷ []) l m → (m, Accepted Done) ≡ stepOn (endProcess id) l
@@ -111,7 +111,7 @@ module _ (l : Lent) (id n : ℕ) (r : n ≡ rowsOn (esrch (noThreadLive (viewOf 
   thread-kept = refused-ends (endThread id) l n thread-number
 
   module _ (z : n ≡ 0) where
-    pub thread-can-end : (soundTables l ≡ true) × (liveThread (viewOf l) id ≡ true)
+    pub thread-can-end : WithThread id l
     thread-can-end = live-thread l id n r z
 
     pub thread-ended : (m : Lent) → AsLong l m → Bytes (m .threadBuffer) → Bytes (m .processBuffer)

@@ -1,16 +1,15 @@
 // Ending processes and threads.
 ghost use mathlib.Core.Path.{_≡_};
-ghost use mathlib.Core.Bool.{true};
 ghost use Prim.Native.Nat.{_<_};
 ghost use lib.ListN.{length, getD};
 ghost use Rattle.limits.specs.Limits.{threadTable, threadPlaces};
 ghost use Rattle.lists.specs.Lists.{any};
 ghost use Rattle.rules.specs.Types as call;
 ghost use Rattle.rules.specs.Types.{noThread};
-ghost use Rattle.rules.specs.View.{liveThread, theThread};
+ghost use Rattle.rules.specs.View.{theThread};
 ghost use Rattle.rules.specs.Adding.{endThreadChanges};
 ghost use Rattle.tables.specs.Tables.{heldThreads};
-ghost use Rattle.sound.specs.Lent.{viewOf, soundTables, given, before};
+ghost use Rattle.sound.specs.Lent.{viewOf, given, before, WithThread};
 ghost use Rattle.effects.specs.Changes.{changed};
 ghost use Rattle.answers.specs.Step.{stepped};
 ghost use Rattle.ending.specs.Others.{isOther};
@@ -59,8 +58,7 @@ fn has_other(ts: &[u64], process: u32, thread: u32) -> bool
 
 // The thread goes, and its process with it where it is the last one.
 fn remove(ps: &mut [u64], ts: &mut [u64], tb: &mut [u8], pb: &mut [u8], thread: u32)
-    requires { ⌜ soundTables (given ps ts tb pb) ≡ true ⌝ }
-    requires { ⌜ liveThread (viewOf (given ps ts tb pb)) thread ≡ true ⌝ }
+    requires { ⌜ WithThread thread (given ps ts tb pb) ⌝ }
     ensures { λ _. ⌜ changed
         (endThreadChanges (viewOf (before ps ts tb pb)) (theThread (viewOf (before ps ts tb pb)) thread)) ps
         ts tb pb ⌝ }

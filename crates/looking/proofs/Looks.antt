@@ -1,7 +1,7 @@
 -- A look: the slot that is given, by its number, and the answer. Assumes nothing.
 use Prim.Native.Nat.{ℕ, _+_, _≤_}
 use mathlib.Core.Path.{_≡_, refl, sym, ap, _∙_}
-use mathlib.Core.Bool.{Bool, true, cond}
+use mathlib.Core.Bool.{Bool, cond}
 use mathlib.Core.List.{List, [], _∷_}
 use native.Mathlib.Nat.{le-trans}
 use native.Mathlib.Numerals.{add-one}
@@ -13,14 +13,14 @@ use Rattle.lists.proofs.Loops.{find-le}
 use Rattle.types.specs.declared.Siginfo.{Siginfo}
 use Rattle.types.specs.declared.Reply.the-variants.{Looked}
 use Rattle.rules.specs.Types.{Next, look}
-use Rattle.rules.specs.View.{queueOf, inQueue, liveThread, theThread}
+use Rattle.rules.specs.View.{queueOf, inQueue, theThread}
 use Rattle.rules.specs.Store.{recordsFor}
 use Rattle.rules.specs.Taking.{next}
 use Rattle.rules.specs.Refusals.{esrch, isClear, noThreadLive, rows, refusalOf}
 use Rattle.rules.specs.Calls.{partOf, slotOf, lookPart, reply}
 use Rattle.queue.specs.Queue.{recordsOf}
 use Rattle.queue.proofs.Buffer.{length-recordsOf}
-use Rattle.sound.specs.Lent.{Lent, decoded, viewOf, lengthsAre, soundTables}
+use Rattle.sound.specs.Lent.{Lent, decoded, viewOf, lengthsAre, WithThread}
 use Rattle.types.specs.declared.Next as declared
 use Rattle.types.specs.declared.Next.the-variants as case
 use Rattle.types.specs.declared.Answer.the-variants as said
@@ -66,11 +66,8 @@ module _ (l : Lent) (t n : ℕ) (e : n ≡ rowsOn (esrch (noThreadLive (viewOf l
   slot-refused z = sym (refused-slot t l (λ y. z (look-refusal ∙ y)))
 
   module _ (z : n ≡ 0) where
-    pub look-sound : soundTables l ≡ true
-    look-sound = live-thread l t n e z .0
-
-    pub look-live : liveThread (viewOf l) t ≡ true
-    look-live = live-thread l t n e z .1
+    pub look-with : WithThread t l
+    look-with = live-thread l t n e z
 
     -- what is next, as it was found
     module _ (r : declared.Next) (f : nextOf r ≡ next (viewOf l) (theThread (viewOf l) t)) where

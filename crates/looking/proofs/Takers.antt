@@ -151,7 +151,7 @@ module _ (l : Lent) (p n : ℕ) (e : n ≡ rowsOn (esrch (noProcessLive (viewOf 
 
   module _ (z : n ≡ 0) where
     pub who-sound : soundTables l ≡ true
-    who-sound = live-process l p n e z .0
+    who-sound = live-process l p n e z .sound
 
     module _ (place : ℕ) (f : place ≡ find (canTakeSome (viewOf l) p) (heldThreads (l .threads))) where
       pub who-none : place ≡ threadPlaces → said.Accepted NoneCan ≡ stepOn (who p) l .1

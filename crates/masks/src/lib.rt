@@ -1,11 +1,10 @@
 // Masks and what they block: sigmask, sigreturn, sigpending.
 ghost use mathlib.Core.Path.{_≡_};
-ghost use mathlib.Core.Bool.{true};
 ghost use Rattle.rules.specs.Types as call;
-ghost use Rattle.rules.specs.View.{liveThread, theThread};
+ghost use Rattle.rules.specs.View.{theThread};
 ghost use Rattle.rules.specs.Actions.{newMask, blockedPending};
 ghost use Rattle.rules.specs.Refusals.{badWay};
-ghost use Rattle.sound.specs.Lent.{viewOf, soundTables, given, before};
+ghost use Rattle.sound.specs.Lent.{viewOf, given, before, WithThread};
 ghost use Rattle.answers.specs.Step.{refusalOn, stepOn, stepped};
 ghost use Rattle.masks.specs.Given.{newSet};
 use limits::EFAULT;
@@ -115,8 +114,7 @@ pub fn sigreturn(
 
 // The signals that a thread blocks and that are pending for it or for its process.
 fn blocked(ps: &[u64], ts: &[u64], tb: &[u8], pb: &[u8], thread: u32) -> SigSet
-    requires { ⌜ soundTables (given ps ts tb pb) ≡ true ⌝ }
-    requires { ⌜ liveThread (viewOf (given ps ts tb pb)) thread ≡ true ⌝ }
+    requires { ⌜ WithThread thread (given ps ts tb pb) ⌝ }
     ensures { λ r. ⌜ r ≡ blockedPending (viewOf (before ps ts tb pb))
         (theThread (viewOf (before ps ts tb pb)) thread) ⌝ }
 {

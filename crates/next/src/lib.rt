@@ -1,13 +1,12 @@
 // What a thread takes next.
 ghost use mathlib.Core.Path.{_≡_};
-ghost use mathlib.Core.Bool.{true};
 ghost use lib.ListN.{length};
 ghost use Rattle.limits.specs.Limits.{bufferBytes};
-ghost use Rattle.rules.specs.View.{targetQueue, liveThread, theThread};
+ghost use Rattle.rules.specs.View.{targetQueue, theThread};
 ghost use Rattle.rules.specs.Taking.{nextSignal};
 ghost use Rattle.rules.specs.Taking.{next as nextFor};
 ghost use Rattle.queue.specs.Queue.{recordsOf};
-ghost use Rattle.sound.specs.Lent.{viewOf, soundTables, given, before};
+ghost use Rattle.sound.specs.Lent.{viewOf, given, before, WithThread};
 ghost use Rattle.answers.specs.Answers.{nextOf};
 ghost use Rattle.next.specs.Nexts.{isNextIn};
 use sigset::SigSet;
@@ -15,8 +14,7 @@ use types::Next;
 
 // The lowest signal that a thread can take, or 0.
 pub fn next_signal(ps: &[u64], ts: &[u64], tb: &[u8], pb: &[u8], thread: u32) -> u32
-    requires { ⌜ soundTables (given ps ts tb pb) ≡ true ⌝ }
-    requires { ⌜ liveThread (viewOf (given ps ts tb pb)) thread ≡ true ⌝ }
+    requires { ⌜ WithThread thread (given ps ts tb pb) ⌝ }
     ensures { λ r. ⌜ r ≡ nextSignal (viewOf (before ps ts tb pb)) (theThread (viewOf (before ps ts tb pb)) thread) ⌝ }
 {
     let process = view::process_of(ts, thread);
@@ -42,8 +40,7 @@ fn next_in(b: &[u8], process: u32, thread: u32, signal: u32) -> Next
 
 // What a thread takes next: its own queue goes before its process's.
 pub fn next_of(ps: &[u64], ts: &[u64], tb: &[u8], pb: &[u8], thread: u32) -> Next
-    requires { ⌜ soundTables (given ps ts tb pb) ≡ true ⌝ }
-    requires { ⌜ liveThread (viewOf (given ps ts tb pb)) thread ≡ true ⌝ }
+    requires { ⌜ WithThread thread (given ps ts tb pb) ⌝ }
     ensures { λ r. ⌜ nextOf r
         ≡ nextFor (viewOf (before ps ts tb pb)) (theThread (viewOf (before ps ts tb pb)) thread) ⌝ }
 {

@@ -7,11 +7,10 @@ ghost use Rattle.limits.specs.Limits.{signals, recordLimit};
 ghost use Rattle.sigset.specs.Set.{setOf};
 ghost use Rattle.rules.specs.Signals.{stopSignal};
 ghost use Rattle.rules.specs.Types as call;
-ghost use Rattle.rules.specs.View.{targetQueue, liveProcess};
+ghost use Rattle.rules.specs.View.{targetQueue};
 ghost use Rattle.rules.specs.Sending.{absorbs, generation, infoOf, jobControl, sendChanges, sendAnswer, needsRecord};
 ghost use Rattle.rules.specs.Refusals.{badTarget};
-ghost use Rattle.rules.specs.Fitting.{liveQueue};
-ghost use Rattle.sound.specs.Lent.{viewOf, soundTables, given, before};
+ghost use Rattle.sound.specs.Lent.{viewOf, soundTables, given, before, WithQueue, WithProcess};
 ghost use Rattle.effects.specs.Changes.{ready, changed};
 ghost use Rattle.answers.specs.Step.{refusalOn, stepped};
 ghost use Rattle.sending.specs.Generations.{generationOf};
@@ -67,8 +66,7 @@ fn is_absorbed(
     thread: u32,
     signal: u32,
 ) -> bool
-    requires { ⌜ soundTables (given ps ts tb pb) ≡ true ⌝ }
-    requires { ⌜ liveQueue (viewOf (given ps ts tb pb)) (targetQueue process thread) ≡ true ⌝ }
+    requires { ⌜ WithQueue (targetQueue process thread) (given ps ts tb pb) ⌝ }
     requires { ⌜ (1 ≤ signal) × (signal ≤ signals) ⌝ }
     ensures { λ r. ⌜ r ≡ absorbs (viewOf (before ps ts tb pb)) queued (targetQueue process thread) signal ⌝ }
 {
@@ -88,8 +86,7 @@ fn generation_of(
     thread: u32,
     signal: u32,
 ) -> Generation
-    requires { ⌜ soundTables (given ps ts tb pb) ≡ true ⌝ }
-    requires { ⌜ liveQueue (viewOf (given ps ts tb pb)) (targetQueue process thread) ≡ true ⌝ }
+    requires { ⌜ WithQueue (targetQueue process thread) (given ps ts tb pb) ⌝ }
     requires { ⌜ signal ≤ signals ⌝ }
     ensures { λ r. ⌜ generationOf r
         ≡ generation (viewOf (before ps ts tb pb)) queued (targetQueue process thread) signal ⌝ }
@@ -127,8 +124,7 @@ fn info(
     signal: u32,
     value: u64,
 ) -> Siginfo
-    requires { ⌜ soundTables (given ps ts tb pb) ≡ true ⌝ }
-    requires { ⌜ liveProcess (viewOf (given ps ts tb pb)) by ≡ true ⌝ }
+    requires { ⌜ WithProcess by (given ps ts tb pb) ⌝ }
     ensures { λ r. ⌜ r ≡ infoOf (viewOf (before ps ts tb pb)) by to thread signal value ⌝ }
 {
     Siginfo {

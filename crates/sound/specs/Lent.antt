@@ -1,16 +1,19 @@
 -- The four lent tables as one, what they say as the rules' store, and when they are sound: their lengths in words
 -- and bytes, and the rules' test.
 use Prim.Native.Nat.{ℕ}
-use mathlib.Core.Bool.{Bool, _&&_}
+use mathlib.Core.Path.{_≡_}
+use mathlib.Core.Bool.{Bool, true, _&&_}
 use mathlib.Core.List.{List}
 use lib.Dec.{eqb}
 use lib.ListN.{length}
 use denote.Ref.{RefT}
 use denote.Triple.Both.{Both}
 use Rattle.limits.specs.Limits.{processTable, threadTable, bufferBytes}
-use Rattle.rules.specs.View.{View}
+use Rattle.rules.specs.Types.{Queue}
+use Rattle.rules.specs.View.{View, liveProcess, liveThread}
 use Rattle.rules.specs.Store.{Store, view}
 use Rattle.rules.specs.Sound.{sound}
+use Rattle.rules.specs.Fitting.{liveQueue}
 use Rattle.queue.specs.Queue.{slotsOf}
 use Rattle.tables.specs.Tables.{processesOf, threadsOf}
 
@@ -47,6 +50,20 @@ lengthsAre l =
 -- where this is false, errno 14 is given
 unfoldable pub soundTables : Lent → Bool
 soundTables l = lengthsAre l && sound (decoded l)
+
+-- ---- what those ask who read for one thread, process or queue: sound tables in which it is live
+
+pub record WithThread (thread : ℕ) (l : Lent) : Type 0 where
+  pub sound : soundTables l ≡ true
+  pub live : liveThread (viewOf l) thread ≡ true
+
+pub record WithProcess (process : ℕ) (l : Lent) : Type 0 where
+  pub sound : soundTables l ≡ true
+  pub live : liveProcess (viewOf l) process ≡ true
+
+pub record WithQueue (queue : Queue) (l : Lent) : Type 0 where
+  pub sound : soundTables l ≡ true
+  pub live : liveQueue (viewOf l) queue ≡ true
 
 -- ---- in contracts
 

@@ -56,10 +56,10 @@ module _ (l : Lent) (t n : ℕ) (r : n ≡ rowsOn (esrch (noThreadLive (viewOf l
     accepted = sym refusal-is ∙ z
 
     pub taker-sound : soundTables l ≡ true
-    taker-sound = live-thread l t n r z .0
+    taker-sound = live-thread l t n r z .sound
 
     pub taker-live : liveThread v t ≡ true
-    taker-live = live-thread l t n r z .1
+    taker-live = live-thread l t n r z .live
 
     module _ (x : declared.Next) (k : nextOf x ≡ next v it) where
       pub take-made : (m : Lent) → length (m .processes) ≡ length (l .processes)

@@ -14,10 +14,9 @@ ghost use Rattle.rules.specs.Store.{isFreeProcess, isFreeThread};
 ghost use Rattle.rules.specs.Sound.{goodId, goodUser};
 ghost use Rattle.rules.specs.Sending.{maySignal};
 ghost use Rattle.rules.specs.Refusals.{esrch, noProcessLive, noThreadLive};
-ghost use Rattle.rules.specs.Fitting.{liveQueue};
 ghost use Rattle.queue.specs.Queue.{recordsOf, signalsIn};
 ghost use Rattle.tables.specs.Tables.{heldProcesses, heldThreads};
-ghost use Rattle.sound.specs.Lent.{viewOf, soundTables, given, before};
+ghost use Rattle.sound.specs.Lent.{viewOf, given, before, WithQueue};
 ghost use Rattle.answers.specs.Step.{rowsOn};
 ghost use Rattle.view.specs.Named.{processNamed, threadNamed};
 use limits::EFAULT;
@@ -145,8 +144,7 @@ pub fn may_signal(ps: &[u64], by: u32, to: u32, signal: u32) -> bool
 
 // The signals that are marked in it.
 pub fn marks_of(ps: &[u64], ts: &[u64], tb: &[u8], pb: &[u8], process: u32, thread: u32) -> SigSet
-    requires { ⌜ soundTables (given ps ts tb pb) ≡ true ⌝ }
-    requires { ⌜ liveQueue (viewOf (given ps ts tb pb)) (targetQueue process thread) ≡ true ⌝ }
+    requires { ⌜ WithQueue (targetQueue process thread) (given ps ts tb pb) ⌝ }
     ensures { λ r. ⌜ r ≡ setOf (viewOf (before ps ts tb pb) .marks (targetQueue process thread)) ⌝ }
 {
     if thread == 0 {
@@ -171,8 +169,7 @@ fn queued_of(tb: &[u8], pb: &[u8], process: u32, thread: u32) -> SigSet
 
 // The signals that are pending in it, by a mark or by a record.
 pub fn pending_of(ps: &[u64], ts: &[u64], tb: &[u8], pb: &[u8], process: u32, thread: u32) -> SigSet
-    requires { ⌜ soundTables (given ps ts tb pb) ≡ true ⌝ }
-    requires { ⌜ liveQueue (viewOf (given ps ts tb pb)) (targetQueue process thread) ≡ true ⌝ }
+    requires { ⌜ WithQueue (targetQueue process thread) (given ps ts tb pb) ⌝ }
     ensures { λ r. ⌜ r ≡ setOf (pendingIn (viewOf (before ps ts tb pb)) (targetQueue process thread)) ⌝ }
 {
     let marks = marks_of(ps, ts, tb, pb, process, thread);

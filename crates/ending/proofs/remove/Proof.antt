@@ -9,22 +9,22 @@ use Rattle.ending.proofs.remove.Tie as tie
 process-of-requires : tie.Need-process-of-requires
 process-of-requires c κs =
     let a = c .before .before .before .before .before in
-    owner-known (given (a .args .ps) (a .args .ts) (a .args .tb) (a .args .pb)) (a .pre .0)
-    (a .args .thread) (a .pre .1)
+    owner-known (given (a .args .ps) (a .args .ts) (a .args .tb) (a .args .pb)) (a .pre .sound)
+    (a .args .thread) (a .pre .live)
 
 has-other-requires : tie.Need-has-other-requires
 has-other-requires c κs =
     let a = c .before .before .before .before .before .before .before in
-    owner-known (given (a .args .ps) (a .args .ts) (a .args .tb) (a .args .pb)) (a .pre .0) (a .args .thread)
-    (a .pre .1) .0
+    owner-known (given (a .args .ps) (a .args .ts) (a .args .tb) (a .args .pb)) (a .pre .sound) (a .args .thread)
+    (a .pre .live) .0
 
 remove-thread-requires : tie.Need-remove-thread-requires
 remove-thread-requires c κs =
     let i = c .before .before .before .before in
     let o = i .before in
     let a = o .before .before .before .before .before .before .before .before in
-    thread-ready (given (a .args .ps) (a .args .ts) (a .args .tb) (a .args .pb)) (a .pre .0)
-    (a .args .thread) (a .pre .1)
+    thread-ready (given (a .args .ps) (a .args .ts) (a .args .tb) (a .args .pb)) (a .pre .sound)
+    (a .args .thread) (a .pre .live)
     (o .before .before .process-of .result) (o .before .before .process-of .ensures) (o .has-other .result)
     (o .has-other .ensures) (i .if1 .taken)
 
@@ -33,8 +33,8 @@ remove-process-requires c κs =
     let i = c .before .before .before .before in
     let o = i .before in
     let a = o .before .before .before .before .before .before .before .before in
-    process-ready (given (a .args .ps) (a .args .ts) (a .args .tb) (a .args .pb)) (a .pre .0)
-    (a .args .thread) (a .pre .1)
+    process-ready (given (a .args .ps) (a .args .ts) (a .args .tb) (a .args .pb)) (a .pre .sound)
+    (a .args .thread) (a .pre .live)
     (o .before .before .process-of .result) (o .before .before .process-of .ensures) (o .has-other .result)
     (o .has-other .ensures) (i .if1 .left)
 
@@ -44,8 +44,8 @@ returns c =
     let i = f .before .before .before .before .before in
     let o = i .before in
     let a = o .before .before .before .before .before .before .before .before in
-    thread-removed (given (a .args .ps) (a .args .ts) (a .args .tb) (a .args .pb)) (a .pre .0)
-    (a .args .thread) (a .pre .1)
+    thread-removed (given (a .args .ps) (a .args .ts) (a .args .tb) (a .args .pb)) (a .pre .sound)
+    (a .args .thread) (a .pre .live)
     (o .before .before .process-of .result) (o .before .before .process-of .ensures) (o .has-other .result)
     (o .has-other .ensures) (i .if1 .taken)
     (f .remove-thread .ensures)
@@ -56,8 +56,8 @@ returns-2 c =
     let i = f .before .before .before .before .before in
     let o = i .before in
     let a = o .before .before .before .before .before .before .before .before in
-    process-removed (given (a .args .ps) (a .args .ts) (a .args .tb) (a .args .pb)) (a .pre .0)
-    (a .args .thread) (a .pre .1)
+    process-removed (given (a .args .ps) (a .args .ts) (a .args .tb) (a .args .pb)) (a .pre .sound)
+    (a .args .thread) (a .pre .live)
     (o .before .before .process-of .result) (o .before .before .process-of .ensures) (o .has-other .result)
     (o .has-other .ensures) (i .if1 .left)
     (f .remove-process .ensures)

@@ -61,11 +61,13 @@ next-signal-requires : tie.Need-next-signal-requires
 next-signal-requires c κs =
     let a = c .before .before .before .before .before .before .before .before in
     let i =
-    id-read (a .args .ts .now) (a .args .place) (c .thread-field-at2 .result) (c .thread-field-at2 .ensures) in (
-      a .pre .0,
-      id-live (given (a .args .ps) (a .args .ts) (a .args .tb) (a .args .pb)) (a .pre .0) (a .args .place)
-          (a .args .process) (a .pre .1) (is-own (c .before)) (c .thread-field-at2 .result) i,
-    )
+    id-read (a .args .ts .now) (a .args .place) (c .thread-field-at2 .result) (c .thread-field-at2 .ensures) in
+    record {
+      sound = a .pre .0;
+      live =
+          id-live (given (a .args .ps) (a .args .ts) (a .args .tb) (a .args .pb)) (a .pre .0) (a .args .place)
+          (a .args .process) (a .pre .1) (is-own (c .before)) (c .thread-field-at2 .result) i;
+    }
 
 returns-3 : tie.Need-returns-3
 returns-3 c =

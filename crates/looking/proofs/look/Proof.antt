@@ -1,7 +1,7 @@
 -- `look` meets its contract. Assumes nothing.
 use borrow.Author.Needs.{needs}
 use Rattle.sound.specs.Lent.{given}
-use Rattle.looking.proofs.Looks.{look-refused, look-sound, look-live, look-answered}
+use Rattle.looking.proofs.Looks.{look-refused, look-with, look-answered}
 use Rattle.looking.proofs.look.Statement.{statement}
 use Rattle.looking.proofs.look.Tie as tie
 
@@ -13,12 +13,9 @@ returns c =
 
 next-of-requires : tie.Need-next-of-requires
 next-of-requires c κs =
-    let a = c .before .before .before .before .before .before in (
-      look-sound (given (a .args .ps) (a .args .ts) (a .args .tb) (a .args .pb)) (a .args .thread)
-          (c .before .thread-refusal .result) (c .before .thread-refusal .ensures) (c .if1 .left),
-      look-live (given (a .args .ps) (a .args .ts) (a .args .tb) (a .args .pb)) (a .args .thread)
-          (c .before .thread-refusal .result) (c .before .thread-refusal .ensures) (c .if1 .left),
-    )
+    let a = c .before .before .before .before .before .before in
+    look-with (given (a .args .ps) (a .args .ts) (a .args .tb) (a .args .pb)) (a .args .thread)
+    (c .before .thread-refusal .result) (c .before .thread-refusal .ensures) (c .if1 .left)
 
 returns-2 : tie.Need-returns-2
 returns-2 c =

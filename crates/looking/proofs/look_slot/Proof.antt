@@ -5,7 +5,7 @@ use native.Mathlib.Omega.{arith}
 use borrow.Author.Needs.{needs}
 use Rattle.sound.specs.Lent.{soundTables, given}
 use Rattle.sound.proofs.Facts.{thread-buffer-long, process-buffer-long}
-use Rattle.looking.proofs.Looks.{look-sound, look-live, found-small, slot-refused, slot-nothing, slot-mark}
+use Rattle.looking.proofs.Looks.{look-with, found-small, slot-refused, slot-nothing, slot-mark}
 use Rattle.looking.proofs.Looks.{slot-shared, slot-own}
 use Rattle.looking.proofs.look_slot.Statement.{statement}
 use Rattle.looking.proofs.look_slot.Tie as tie
@@ -17,8 +17,8 @@ sound-here : (c : tie.Else1) → soundTables (given (c .before .before .before .
     (c .before .before .before .before .before .before .args .pb)) ≡ true
 sound-here c =
     let a = c .before .before .before .before .before .before in
-    look-sound (given (a .args .ps) (a .args .ts) (a .args .tb) (a .args .pb)) (a .args .thread)
-    (c .before .thread-refusal .result) (c .before .thread-refusal .ensures) (c .if1 .left)
+    look-with (given (a .args .ps) (a .args .ts) (a .args .tb) (a .args .pb)) (a .args .thread)
+    (c .before .thread-refusal .result) (c .before .thread-refusal .ensures) (c .if1 .left) .sound
 
 returns : tie.Need-returns
 returns c =
@@ -28,11 +28,9 @@ returns c =
 
 next-of-requires : tie.Need-next-of-requires
 next-of-requires c κs =
-    let a = c .before .before .before .before .before .before in (
-      sound-here c,
-      look-live (given (a .args .ps) (a .args .ts) (a .args .tb) (a .args .pb)) (a .args .thread)
-          (c .before .thread-refusal .result) (c .before .thread-refusal .ensures) (c .if1 .left),
-    )
+    let a = c .before .before .before .before .before .before in
+    look-with (given (a .args .ps) (a .args .ts) (a .args .tb) (a .args .pb)) (a .args .thread)
+    (c .before .thread-refusal .result) (c .before .thread-refusal .ensures) (c .if1 .left)
 
 first-of-requires : tie.Need-first-of-requires
 first-of-requires c κs =

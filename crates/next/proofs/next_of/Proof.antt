@@ -18,26 +18,28 @@ returns c =
 process-of-requires : tie.Need-process-of-requires
 process-of-requires c κs =
     let a = c .before .before .before .before .before .before in (
-      threads-long (given (a .args .ps) (a .args .ts) (a .args .tb) (a .args .pb)) (a .pre .0),
+      threads-long (given (a .args .ps) (a .args .ts) (a .args .tb) (a .args .pb)) (a .pre .sound),
       (
-        thread-listed (given (a .args .ps) (a .args .ts) (a .args .tb) (a .args .pb)) (a .args .thread) (a .pre .1),
-        owner-good (given (a .args .ps) (a .args .ts) (a .args .tb) (a .args .pb)) (a .pre .0) (a .args .thread)
-            (a .pre .1),
+        thread-listed (given (a .args .ps) (a .args .ts) (a .args .tb) (a .args .pb)) (a .args .thread) (a .pre .live),
+        owner-good (given (a .args .ps) (a .args .ts) (a .args .tb) (a .args .pb)) (a .pre .sound) (a .args .thread)
+            (a .pre .live),
       ),
     )
 
 pending-of-requires : tie.Need-pending-of-requires
 pending-of-requires c κs =
-    let a = c .before .before .before .before .before .before .before in (
-      a .pre .0,
-      own-queue (given (a .args .ps) (a .args .ts) (a .args .tb) (a .args .pb)) (a .pre .0) (a .args .thread)
-          (a .pre .1) (c .process-of .result) (c .process-of .ensures),
-    )
+    let a = c .before .before .before .before .before .before .before in
+    record {
+      sound = a .pre .sound;
+      live =
+          own-queue (given (a .args .ps) (a .args .ts) (a .args .tb) (a .args .pb)) (a .pre .sound) (a .args .thread)
+          (a .pre .live) (c .process-of .result) (c .process-of .ensures);
+    }
 
 next-in-requires : tie.Need-next-in-requires
 next-in-requires c κs =
     let a = c .before .before .before .before .before .before .before .before .before .before in
-    thread-buffer-long (given (a .args .ps) (a .args .ts) (a .args .tb) (a .args .pb)) (a .pre .0)
+    thread-buffer-long (given (a .args .ps) (a .args .ts) (a .args .tb) (a .args .pb)) (a .pre .sound)
 
 returns-2 : tie.Need-returns-2
 returns-2 c =
@@ -45,7 +47,7 @@ returns-2 c =
     let a = d .before .before .before .before .before .before .before .before in
     own-next (given (a .args .ps) (a .args .ts) (a .args .tb) (a .args .pb)) (a .args .thread)
     (d .before .process-of .result) (d .before .before .before .next-signal .result)
-    (a .pre .1) (d .before .process-of .ensures) (d .before .before .before .next-signal .ensures)
+    (a .pre .live) (d .before .process-of .ensures) (d .before .before .before .next-signal .ensures)
     (d .before .before .if1 .left) (c .next-in .result)
     (d .pending-of .result) (c .before .before .has .result) (d .pending-of .ensures) (c .before .before .has .ensures)
     (c .before .if2 .taken) (c .next-in .ensures)
@@ -53,7 +55,7 @@ returns-2 c =
 next-in-requires-2 : tie.Need-next-in-requires-2
 next-in-requires-2 c κs =
     let a = c .before .before .before .before .before .before .before .before .before .before in
-    process-buffer-long (given (a .args .ps) (a .args .ts) (a .args .tb) (a .args .pb)) (a .pre .0)
+    process-buffer-long (given (a .args .ps) (a .args .ts) (a .args .tb) (a .args .pb)) (a .pre .sound)
 
 returns-3 : tie.Need-returns-3
 returns-3 c =
@@ -61,7 +63,7 @@ returns-3 c =
     let a = d .before .before .before .before .before .before .before .before in
     shared-next (given (a .args .ps) (a .args .ts) (a .args .tb) (a .args .pb)) (a .args .thread)
     (d .before .process-of .result) (d .before .before .before .next-signal .result)
-    (a .pre .1) (d .before .process-of .ensures) (d .before .before .before .next-signal .ensures)
+    (a .pre .live) (d .before .process-of .ensures) (d .before .before .before .next-signal .ensures)
     (d .before .before .if1 .left) (c .next-in2 .result)
     (d .pending-of .result) (c .before .before .has .result) (d .pending-of .ensures) (c .before .before .has .ensures)
     (c .before .if2 .left) (c .next-in2 .ensures)

@@ -10,20 +10,20 @@ use Rattle.next.proofs.Signals.{signal-stopped, signal-taken}
 process-of-requires : tie.Need-process-of-requires
 process-of-requires c κs =
     let a = c .before .before .before .before in (
-      threads-long (given (a .args .ps) (a .args .ts) (a .args .tb) (a .args .pb)) (a .pre .0),
+      threads-long (given (a .args .ps) (a .args .ts) (a .args .tb) (a .args .pb)) (a .pre .sound),
       (
-        thread-listed (given (a .args .ps) (a .args .ts) (a .args .tb) (a .args .pb)) (a .args .thread) (a .pre .1),
-        owner-good (given (a .args .ps) (a .args .ts) (a .args .tb) (a .args .pb)) (a .pre .0) (a .args .thread)
-            (a .pre .1),
+        thread-listed (given (a .args .ps) (a .args .ts) (a .args .tb) (a .args .pb)) (a .args .thread) (a .pre .live),
+        owner-good (given (a .args .ps) (a .args .ts) (a .args .tb) (a .args .pb)) (a .pre .sound) (a .args .thread)
+            (a .pre .live),
       ),
     )
 
 is-stopped-requires : tie.Need-is-stopped-requires
 is-stopped-requires c κs =
     let a = c .before .before .before .before .before in (
-      processes-long (given (a .args .ps) (a .args .ts) (a .args .tb) (a .args .pb)) (a .pre .0),
-      process-held (given (a .args .ps) (a .args .ts) (a .args .tb) (a .args .pb)) (a .pre .0) (a .args .thread)
-          (a .pre .1) (c .process-of .result) (c .process-of .ensures),
+      processes-long (given (a .args .ps) (a .args .ts) (a .args .tb) (a .args .pb)) (a .pre .sound),
+      process-held (given (a .args .ps) (a .args .ts) (a .args .tb) (a .args .pb)) (a .pre .sound) (a .args .thread)
+          (a .pre .live) (c .process-of .result) (c .process-of .ensures),
     )
 
 returns : tie.Need-returns
@@ -35,25 +35,30 @@ returns c =
 
 pending-of-requires : tie.Need-pending-of-requires
 pending-of-requires c κs =
-    let a = c .before .before .before .before .before .before .before in (
-      a .pre .0,
-      own-queue (given (a .args .ps) (a .args .ts) (a .args .tb) (a .args .pb)) (a .pre .0) (a .args .thread)
-          (a .pre .1) (c .before .before .process-of .result) (c .before .before .process-of .ensures),
-    )
+    let a = c .before .before .before .before .before .before .before in
+    record {
+      sound = a .pre .sound;
+      live =
+          own-queue (given (a .args .ps) (a .args .ts) (a .args .tb) (a .args .pb)) (a .pre .sound) (a .args .thread)
+          (a .pre .live) (c .before .before .process-of .result) (c .before .before .process-of .ensures);
+    }
 
 pending-of-requires-2 : tie.Need-pending-of-requires-2
 pending-of-requires-2 c κs =
-    let a = c .before .before .before .before .before .before .before .before in (
-      a .pre .0,
-      shared-queue (given (a .args .ps) (a .args .ts) (a .args .tb) (a .args .pb)) (a .pre .0) (a .args .thread)
-          (a .pre .1) (c .before .before .before .process-of .result) (c .before .before .before .process-of .ensures),
-    )
+    let a = c .before .before .before .before .before .before .before .before in
+    record {
+      sound = a .pre .sound;
+      live =
+          shared-queue (given (a .args .ps) (a .args .ts) (a .args .tb) (a .args .pb)) (a .pre .sound)
+          (a .args .thread) (a .pre .live) (c .before .before .before .process-of .result)
+          (c .before .before .before .process-of .ensures);
+    }
 
 mask-of-requires : tie.Need-mask-of-requires
 mask-of-requires c κs =
     let a = c .before .before .before .before .before .before .before .before .before .before in (
-      threads-long (given (a .args .ps) (a .args .ts) (a .args .tb) (a .args .pb)) (a .pre .0),
-      thread-listed (given (a .args .ps) (a .args .ts) (a .args .tb) (a .args .pb)) (a .args .thread) (a .pre .1),
+      threads-long (given (a .args .ps) (a .args .ts) (a .args .tb) (a .args .pb)) (a .pre .sound),
+      thread-listed (given (a .args .ps) (a .args .ts) (a .args .tb) (a .args .pb)) (a .args .thread) (a .pre .live),
     )
 
 returns-2 : tie.Need-returns-2
@@ -62,7 +67,7 @@ returns-2 c =
     let a = d .before .before .before .before .before .before .before in
     signal-taken (given (a .args .ps) (a .args .ts) (a .args .tb) (a .args .pb)) (a .args .thread)
     (d .before .before .process-of .result) (d .before .before .process-of .ensures)
-    (d .before .is-stopped .result) (d .before .is-stopped .ensures) (a .pre .1) (d .if1 .left)
+    (d .before .is-stopped .result) (d .before .is-stopped .ensures) (a .pre .live) (d .if1 .left)
     (c .before .before .before .before .before .pending-of .result)
     (c .before .before .before .before .pending-of2 .result) (c .before .before .before .union .result)
     (c .before .before .mask-of .result) (c .before .without .result)

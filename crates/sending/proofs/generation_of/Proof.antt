@@ -46,10 +46,10 @@ action-of-requires c κs =
     let v = viewOf l in
     let p = a .args .process in
     let t = a .args .thread in (
-      processes-long l (a .pre .0),
+      processes-long l (a .pre .0 .sound),
       (
-        target-process v p t (queue-target v p t (a .pre .1 .0)),
-        (omega (arith, c .before .before .if1 .left), a .pre .1 .1),
+        target-process v p t (queue-target v p t (a .pre .0 .live)),
+        (omega (arith, c .before .before .if1 .left), a .pre .1),
       ),
     )
 
@@ -71,7 +71,7 @@ is-absorbed-requires : tie.Need-is-absorbed-requires
 is-absorbed-requires c κs =
     let d = c .before .before in
     let a = d .before .before .before .before .before .before .before .before in
-    (a .pre .0, (a .pre .1 .0, (omega (arith, d .before .before .before .if1 .left), a .pre .1 .1)))
+    (a .pre .0, (omega (arith, d .before .before .before .if1 .left), a .pre .1))
 
 returns-5 : tie.Need-returns-5
 unfolding generationOf

@@ -12,7 +12,7 @@ unfolding liveProcess view decoded
 real-of-requires c κs =
     let a = c .before .before .before .before in
     let l = given (a .args .ps) (a .args .ts) (a .args .tb) (a .args .pb) in
-    (processes-long l (a .pre .0), (a .pre .1, sender-fits l (a .pre .0) (a .args .by)))
+    (processes-long l (a .pre .sound), (a .pre .live, sender-fits l (a .pre .sound) (a .args .by)))
 
 returns : tie.Need-returns
 returns c =

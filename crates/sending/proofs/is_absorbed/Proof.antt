@@ -13,7 +13,7 @@ returns c =
     let a = e .before .before .before .before .before in
     let v = viewOf (given (a .args .ps) (a .args .ts) (a .args .tb) (a .args .pb)) in
     absorbed v (a .args .queued) (targetQueue (a .args .process) (a .args .thread)) (a .args .signal)
-    (record { low = a .pre .1 .1 .0; high = a .pre .1 .1 .1 })
+    (record { low = a .pre .1 .0; high = a .pre .1 .1 })
     (e .pending-of .result) (d .before .marks-of .result) (d .is-standard .result) (c .before .has .result)
     (c .has2 .result)
     (e .pending-of .ensures) (d .before .marks-of .ensures) (d .is-standard .ensures) (c .before .has .ensures)

@@ -29,7 +29,7 @@ generation-of-requires c κs =
     let l = given (a .args .ps) (a .args .ts) (a .args .tb) (a .args .pb) in
     let x = a .args in
     let y = kill-allowed l (x .by) (x .to) (x .thread) (x .signal) (sym (k .ensures) ∙ c .if1 .left) in
-    (y .sound, (target-queue (viewOf l) (x .to) (x .thread) (y .target), y .signal))
+    (record { sound = y .sound; live = target-queue (viewOf l) (x .to) (x .thread) (y .target) }, y .signal)
 
 has-no-room-requires : tie.Need-has-no-room-requires
 has-no-room-requires c κs =
@@ -64,7 +64,7 @@ info-requires c κs =
     let l = given (a .args .ps) (a .args .ts) (a .args .tb) (a .args .pb) in
     let x = a .args in
     let y = kill-allowed l (x .by) (x .to) (x .thread) (x .signal) (sym (k .ensures) ∙ g .if1 .left) in
-    (y .sound, y .sender)
+    record { sound = y .sound; live = y .sender }
 
 returns-3 : tie.Need-returns-3
 unfolding Decided

@@ -22,7 +22,7 @@ next-of-requires c κs =
     let t = a .args .thread in
     let n = c .before .before .before .before .before .thread-refusal in
     let z = c .before .before .before .before .if1 .left in
-    (taker-sound l t (n .result) (n .ensures) z, taker-live l t (n .result) (n .ensures) z)
+    record { sound = taker-sound l t (n .result) (n .ensures) z; live = taker-live l t (n .result) (n .ensures) z }
 
 returns-2 : tie.Need-returns-2
 returns-2 c =

@@ -17,18 +17,18 @@ use Rattle.rules.specs.View.{targetQueue}
 find-process-requires : tie.Need-find-process-requires
 find-process-requires c κs =
     let a = c .before .before .before .before .before in
-    processes-long (given (a .args .ps) (a .args .ts) (a .args .tb) (a .args .pb)) (a .pre .0)
+    processes-long (given (a .args .ps) (a .args .ts) (a .args .tb) (a .args .pb)) (a .pre .sound)
 
 field-at-requires : tie.Need-field-at-requires
 unfolding liveProcess view decoded
 field-at-requires c κs = let a = c .before .before .before .before .before .before in (
-  processes-long (given (a .args .ps) (a .args .ts) (a .args .tb) (a .args .pb)) (a .pre .0),
+  processes-long (given (a .args .ps) (a .args .ts) (a .args .tb) (a .args .pb)) (a .pre .sound),
   (
     process-place (a .args .ps .now) (a .args .process) (c .find-process .result) (c .find-process .ensures)
         (target-process (viewOf (given (a .args .ps) (a .args .ts) (a .args .tb) (a .args .pb)))
         (a .args .process) (a .args .thread)
         (queue-target (viewOf (given (a .args .ps) (a .args .ts) (a .args .tb) (a .args .pb))) (a .args .process)
-        (a .args .thread) (a .pre .1))),
+        (a .args .thread) (a .pre .live))),
     omega arith,
   ),
 )
@@ -37,11 +37,11 @@ returns : tie.Need-returns
 returns c = let a = c .before .before .before .before .before .before .before in
     let t = c .before .before .if1 .taken in
     process-marks-read (given (a .args .ps) (a .args .ts) (a .args .tb) (a .args .pb))
-    (a .pre .0) (a .args .process) (c .before .find-process .result) (c .field-at .result)
+    (a .pre .sound) (a .args .process) (c .before .find-process .result) (c .field-at .result)
     (target-process (viewOf (given (a .args .ps) (a .args .ts) (a .args .tb) (a .args .pb)))
     (a .args .process) (a .args .thread)
     (queue-target (viewOf (given (a .args .ps) (a .args .ts) (a .args .tb) (a .args .pb)))
-    (a .args .process) (a .args .thread) (a .pre .1)))
+    (a .args .process) (a .args .thread) (a .pre .live)))
     (c .before .find-process .ensures) (omega (arith, c .field-at .ok)) (c .field-at .ensures)
     ∙ ap (λ (n : ℕ). setOf ((viewOf (given (a .args .ps) (a .args .ts) (a .args .tb) (a .args .pb))) .marks
     (targetQueue (a .args .process) n))) (sym t)
@@ -49,18 +49,18 @@ returns c = let a = c .before .before .before .before .before .before .before in
 find-thread-requires : tie.Need-find-thread-requires
 find-thread-requires c κs =
     let a = c .before .before .before .before .before in
-    threads-long (given (a .args .ps) (a .args .ts) (a .args .tb) (a .args .pb)) (a .pre .0)
+    threads-long (given (a .args .ps) (a .args .ts) (a .args .tb) (a .args .pb)) (a .pre .sound)
 
 thread-field-at-requires : tie.Need-thread-field-at-requires
 unfolding liveThread view decoded
 thread-field-at-requires c κs = let a = c .before .before .before .before .before .before in (
-  threads-long (given (a .args .ps) (a .args .ts) (a .args .tb) (a .args .pb)) (a .pre .0),
+  threads-long (given (a .args .ps) (a .args .ts) (a .args .tb) (a .args .pb)) (a .pre .sound),
   (
     thread-place (a .args .ts .now) (a .args .thread) (c .find-thread .result) (c .find-thread .ensures)
         (target-thread (viewOf (given (a .args .ps) (a .args .ts) (a .args .tb) (a .args .pb)))
         (a .args .process) (a .args .thread)
         (queue-target (viewOf (given (a .args .ps) (a .args .ts) (a .args .tb) (a .args .pb)))
-        (a .args .process) (a .args .thread) (a .pre .1))
+        (a .args .process) (a .args .thread) (a .pre .live))
         (ne-eqb (a .args .thread) 0 (c .before .if1 .left))),
     omega arith,
   ),
@@ -69,16 +69,16 @@ thread-field-at-requires c κs = let a = c .before .before .before .before .befo
 returns-2 : tie.Need-returns-2
 returns-2 c = let a = c .before .before .before .before .before .before .before in
     let n = ne-eqb (a .args .thread) 0 (c .before .before .if1 .left) in
-    thread-marks-read (given (a .args .ps) (a .args .ts) (a .args .tb) (a .args .pb)) (a .pre .0)
+    thread-marks-read (given (a .args .ps) (a .args .ts) (a .args .tb) (a .args .pb)) (a .pre .sound)
     (a .args .process) (a .args .thread) (c .before .find-thread .result) (c .thread-field-at .result)
     (target-thread (viewOf (given (a .args .ps) (a .args .ts) (a .args .tb) (a .args .pb)))
     (a .args .process) (a .args .thread)
     (queue-target (viewOf (given (a .args .ps) (a .args .ts) (a .args .tb) (a .args .pb)))
-    (a .args .process) (a .args .thread) (a .pre .1)) n)
+    (a .args .process) (a .args .thread) (a .pre .live)) n)
     (target-owner (viewOf (given (a .args .ps) (a .args .ts) (a .args .tb) (a .args .pb)))
     (a .args .process) (a .args .thread)
     (queue-target (viewOf (given (a .args .ps) (a .args .ts) (a .args .tb) (a .args .pb)))
-    (a .args .process) (a .args .thread) (a .pre .1)) n)
+    (a .args .process) (a .args .thread) (a .pre .live)) n)
     (c .before .find-thread .ensures) (omega (arith, c .thread-field-at .ok)) (c .thread-field-at .ensures)
 
 pub marks-of-spec : {M : Type 1} → statement M

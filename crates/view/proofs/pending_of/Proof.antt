@@ -10,8 +10,8 @@ use Rattle.rules.specs.View.{targetQueue}
 queued-of-requires : tie.Need-queued-of-requires
 queued-of-requires c κs =
     let a = c .before .before .before .before .before in (
-      thread-buffer-long (given (a .args .ps) (a .args .ts) (a .args .tb) (a .args .pb)) (a .pre .0),
-      process-buffer-long (given (a .args .ps) (a .args .ts) (a .args .tb) (a .args .pb)) (a .pre .0),
+      thread-buffer-long (given (a .args .ps) (a .args .ts) (a .args .tb) (a .args .pb)) (a .pre .sound),
+      process-buffer-long (given (a .args .ps) (a .args .ts) (a .args .tb) (a .args .pb)) (a .pre .sound),
     )
 
 returns : tie.Need-returns
