@@ -20,10 +20,10 @@ use Rattle.rules.specs.Refusals.{overLast, badAction, noProcessLive, rows, isCl
 use Rattle.rules.specs.Actions.{stored, storeChanges, actionChanges}
 use Rattle.rules.specs.Calls.{changes, reply}
 use Rattle.rules.proofs.SendFits.{action-fits}
-use Rattle.sound.proofs.Facts.{store-sound}
+use Rattle.sound.proofs.Facts.{AsLong, store-sound}
 use Rattle.sound.specs.Lent.{Lent, decoded, viewOf, soundTables}
 use Rattle.answers.specs.Step.{refusalOn, stepOn}
-use Rattle.answers.proofs.Endings.{AsLong, accepted-tables-sound, accepted-rows, same-ends, accepted-ends}
+use Rattle.answers.proofs.Endings.{accepted-tables-sound, accepted-rows, same-ends, accepted-ends}
 use Rattle.answers.proofs.Rows.{refuses-fault, refuses-at, refuses-none}
 use Rattle.effects.specs.Changes.{Ready, Changed}
 use Rattle.effects.proofs.Makes.{ready-as, made-as}

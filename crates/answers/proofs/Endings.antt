@@ -5,7 +5,6 @@ use mathlib.Core.Path.{_≡_, refl, sym, ap, _∙_}
 use mathlib.Core.Bool.{Bool, true, false, cond}
 use mathlib.Core.List.{List, []}
 use lib.Dec.{eqb}
-use lib.ListN.{length}
 use Rattle.limits.specs.Limits.{EFAULT}
 use Rattle.lists.specs.Lists.{All}
 use Rattle.lists.proofs.Bools.{split, clash, and-both}
@@ -26,7 +25,8 @@ use Rattle.tables.specs.Tables.{processesOf, threadsOf, processWordsOf, threadW
 use Rattle.tables.proofs.Words.{length-processesOf, length-threadsOf, all-actionsLong, words-back, thread-words-back}
 use Rattle.queue.proofs.Buffer.{length-slotsOf, buffer-is}
 use Rattle.sound.specs.Lent.{Lent, lent, decoded, viewOf, lengthsAre, soundTables}
-use Rattle.sound.proofs.Facts.{as-long, right-processes, right-threads, right-thread-buffer, right-process-buffer}
+use Rattle.sound.proofs.Facts.{AsLong, as-long, right-processes, right-threads, right-thread-buffer}
+use Rattle.sound.proofs.Facts.{right-process-buffer}
 use Rattle.answers.specs.Step.{encoded, refusalOn, rowsOn, committed, stepOn}
 
 -- ---- words and bytes are determined by what they say
@@ -150,16 +150,6 @@ tables-of e = ap (λ x. x .0) e
 pub answer-of : {m : Lent} {a : Answer} {s : Lent × Answer} → (m, a) ≡ s → a ≡ s .1
 answer-of e = ap (λ x. x .1) e
 
--- each table is as long as it was
-pub record AsLong (l m : Lent) : Type 0 where
-  pub processes : length (m .processes) ≡ length (l .processes)
-  pub threads : length (m .threads) ≡ length (l .threads)
-  pub threadBuffer : length (m .threadBuffer) ≡ length (l .threadBuffer)
-  pub processBuffer : length (m .processBuffer) ≡ length (l .processBuffer)
-
-long-after : (l m : Lent) → AsLong l m → lengthsAre l ≡ true → lengthsAre m ≡ true
-long-after l m s = as-long l m (s .processes) (s .threads) (s .threadBuffer) (s .processBuffer)
-
 module _ (c : Call) (l : Lent) where
   -- by the number that code has of the refusal
   pub refused-ends : (n : ℕ) → n ≡ refusalOn c l → (n ≡ 0 → ⊥) → (l, Refused n) ≡ stepOn c l
@@ -175,4 +165,4 @@ module _ (c : Call) (l : Lent) where
     pub accepted-ends : (m : Lent) → AsLong l m → Bytes (m .threadBuffer) → Bytes (m .processBuffer)
         → decoded m ≡ applyAll (changes (viewOf l) c) (decoded l) → (m, Accepted a) ≡ stepOn c l
     accepted-ends m s bt bp k =
-        λ i. (tables-after c l e m (long-after l m s (accepted-long c l e)) bt bp k i, answer-after c l e a h i)
+        λ i. (tables-after c l e m (as-long l m s (accepted-long c l e)) bt bp k i, answer-after c l e a h i)

@@ -15,8 +15,9 @@ use Rattle.rules.specs.Calls.{changes, reply}
 use Rattle.types.specs.declared.Reply.the-variants.{Done}
 use Rattle.types.specs.declared.Answer.the-variants.{Refused, Accepted}
 use Rattle.sound.specs.Lent.{Lent, decoded, lengthsAre}
+use Rattle.sound.proofs.Facts.{AsLong}
 use Rattle.answers.specs.Step.{refusalOn, stepOn}
-use Rattle.answers.proofs.Endings.{AsLong, places-right, refused-ends, accepted-ends}
+use Rattle.answers.proofs.Endings.{places-right, refused-ends, accepted-ends}
 
 -- "clearing checks lengths only"
 clear-refusal : (l : Lent) → cond (lengthsAre l) 0 EFAULT ≡ refusalOn clear l

@@ -24,7 +24,9 @@ pub makes : {ch : Change} {l l′ : Lent} → Ready (ch ∷ []) l
     → decoded l′ ≡ apply ch (decoded l) → Changed (ch ∷ []) l l′
 makes {ch} {l} {l′} r p t b q k = record {
   store = chain.one-made ch (decoded l) (decoded l′) k;
-  sound = sound-after ch l l′ (r .sound) (fits-one r) p t b q k;
+  sound =
+      sound-after ch l l′ (r .sound) (fits-one r)
+      (record { processes = p; threads = t; threadBuffer = b; processBuffer = q }) k;
 }
 
 -- ---- by a list that they equal

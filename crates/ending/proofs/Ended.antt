@@ -17,14 +17,14 @@ use Rattle.rules.proofs.Marks.{the-thread-id}
 use Rattle.rules.proofs.TakeFits.{end-thread-fits}
 use Rattle.tables.specs.Tables.{heldThreads}
 use Rattle.sound.specs.Lent.{Lent, decoded, viewOf, soundTables, WithThread}
-use Rattle.sound.proofs.Facts.{store-sound}
+use Rattle.sound.proofs.Facts.{AsLong, store-sound}
 use Rattle.effects.specs.Changes.{Ready, Changed}
 use Rattle.effects.proofs.Makes.{ready-as, made-as}
 use Rattle.view.specs.Named.{threadNamed}
 use Rattle.types.specs.declared.Reply.the-variants.{Done}
 use Rattle.types.specs.declared.Answer.the-variants.{Refused, Accepted}
 use Rattle.answers.specs.Step.{refusalOn, rowsOn, stepOn}
-use Rattle.answers.proofs.Endings.{AsLong, rows-given, refused-ends, accepted-ends}
+use Rattle.answers.proofs.Endings.{rows-given, refused-ends, accepted-ends}
 use Rattle.answers.proofs.Rows.{live-process, live-thread}
 use Rattle.view.proofs.Live.{owner-is}
 use Rattle.ending.specs.Others.{isOther}

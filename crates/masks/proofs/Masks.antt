@@ -20,8 +20,9 @@ use Rattle.rules.specs.Refusals.{badWay, noThreadLive, refusal, rows, isClear, 
 use Rattle.rules.specs.Calls.{changes, reply, stages, runStages, finish, step}
 use Rattle.rules.proofs.SendFits.{mask-fits}
 use Rattle.sound.specs.Lent.{Lent, decoded, viewOf, lengthsAre, soundTables, given}
+use Rattle.sound.proofs.Facts.{AsLong}
 use Rattle.answers.specs.Step.{refusalOn, committed, stepOn}
-use Rattle.answers.proofs.Endings.{AsLong, accepted-tables-sound, accepted-rows, same-ends, accepted-ends}
+use Rattle.answers.proofs.Endings.{accepted-tables-sound, accepted-rows, same-ends, accepted-ends}
 use Rattle.answers.proofs.Rows.{refuses-fault, refuses-at, refuses-none}
 use Rattle.effects.specs.Changes.{Ready, Changed}
 use Rattle.effects.proofs.Makes.{ready-as, made-as}

@@ -44,15 +44,22 @@ handedBack n s = (
 unfoldable pub callOn : (number : ℕ) → Arguments → Host → Host × ℕ
 callOn n g h = handedBack (length (h .threads)) (served n g (h .answer) (lentBy h))
 
--- what a contract names: before the call and after it
+-- what a contract names: before the call and after it, with these records
+abbrev pub beforeWith : (ps tb pb out : Slices) → List Thread → Host
+beforeWith ps tb pb out ts = host (ps .entry .now) (tb .entry .now) (pb .entry .now) (out .entry .now) ts
+
+abbrev pub afterWith : (ps tb pb out : Slices) → List Thread → Host
+afterWith ps tb pb out ts = host (ps .exit .now) (tb .exit .now) (pb .exit .now) (out .exit .now) ts
+
+-- and with those of the lent row
 abbrev pub Rows : Type 0
 Rows = Both (RefT (List Thread)) (RefT (List Thread))
 
 abbrev pub hostBefore : (ps tb pb out : Slices) → Rows → Host
-hostBefore ps tb pb out ts = host (ps .entry .now) (tb .entry .now) (pb .entry .now) (out .entry .now) (ts .entry .now)
+hostBefore ps tb pb out ts = beforeWith ps tb pb out (ts .entry .now)
 
 abbrev pub hostAfter : (ps tb pb out : Slices) → Rows → Host
-hostAfter ps tb pb out ts = host (ps .exit .now) (tb .exit .now) (pb .exit .now) (out .exit .now) (ts .exit .now)
+hostAfter ps tb pb out ts = afterWith ps tb pb out (ts .exit .now)
 
 -- the mask of the first thread with that id, in words; empty where none has it
 unfoldable pub maskIn : List ℕ → ℕ → SigSet

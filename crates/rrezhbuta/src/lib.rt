@@ -4,7 +4,8 @@ ghost use lib.ListN.{length};
 ghost use Rattle.limits.specs.Limits.{threadTable, callSigmask};
 ghost use Rattle.threads.specs.Records.{withMaskAt};
 ghost use Rattle.boundary.specs.Boundary.{arguments};
-ghost use Rattle.rrezhbuta.specs.Entry.{host, callOn, hostBefore, hostAfter, maskIn, lookAt, slotAt};
+ghost use Rattle.rrezhbuta.specs.Entry.{callOn, beforeWith, afterWith, hostBefore, hostAfter, maskIn, lookAt};
+ghost use Rattle.rrezhbuta.specs.Entry.{slotAt};
 use limits::CALL_SIGMASK;
 use limits::CALL_SIGRETURN;
 use limits::EFAULT;
@@ -47,9 +48,8 @@ fn work(
     y: u64,
     z: u64,
 ) -> Out
-    ensures { λ r. ⌜ (host (now (ps .exit)) (now (tb .exit)) (now (pb .exit)) (now (out .exit)) (r .ts), r .errno)
-        ≡ callOn number (arguments a b c d e f x y z)
-        (host (now (ps .entry)) (now (tb .entry)) (now (pb .entry)) (now (out .entry)) ts) ⌝ }
+    ensures { λ r. ⌜ (afterWith ps tb pb out (r .ts), r .errno)
+        ≡ callOn number (arguments a b c d e f x y z) (beforeWith ps tb pb out ts) ⌝ }
 {
     let mut ws = threads::words_of(ts);
     let errno = boundary::serve(ps, &mut ws, tb, pb, out, number, a, b, c, d, e, f, x, y, z);
@@ -83,12 +83,8 @@ fn mask_work(
     given: u32,
     set: u64,
 ) -> MaskChange
-    ensures { λ r. ⌜ (
-      host (now (ps .exit)) (now (tb .exit)) (now (pb .exit)) (now (out .exit)) (withMaskAt (r .thread) (r .mask) ts),
-      r .errno,
-    )
-        ≡ callOn callSigmask (arguments thread way given 0 0 0 set 0 0)
-        (host (now (ps .entry)) (now (tb .entry)) (now (pb .entry)) (now (out .entry)) ts) ⌝ }
+    ensures { λ r. ⌜ (afterWith ps tb pb out (withMaskAt (r .thread) (r .mask) ts), r .errno)
+        ≡ callOn callSigmask (arguments thread way given 0 0 0 set 0 0) (beforeWith ps tb pb out ts) ⌝ }
 {
     let mut ws = threads::words_of(ts);
     let errno = boundary::serve(

@@ -58,7 +58,7 @@ free-thread-marks x z =
 
 -- ---- what is marked was marked, or is new
 
-pub record Remarked (st : Store) (g : Queue → SigSet → SigSet) (new : Queue → ℕ → Bool) : Type 0 where
+pub record NewMarks (st : Store) (g : Queue → SigSet → SigSet) (new : Queue → ℕ → Bool) : Type 0 where
   pub bound : (q : Queue) (m : SigSet) (s : ℕ) → Signal s → has (g q m) s ≡ true → (has m s || new q s) ≡ true
   -- 0 is no id
   pub free : g (processQueue 0) empty ≡ empty
@@ -68,7 +68,7 @@ pub record Remarked (st : Store) (g : Queue → SigSet → SigSet) (new : Queue 
   -- a standard signal that is new has no record
   pub once : (q : Queue) (s : ℕ) → new q s ≡ true → standard s ≡ true → any (inQueue q s) (recordsFor q st) ≡ false
 
-module _ (st : Store) (g : Queue → SigSet → SigSet) (new : Queue → ℕ → Bool) (c : Remarked st g new) where
+module _ (st : Store) (g : Queue → SigSet → SigSet) (new : Queue → ℕ → Bool) (c : NewMarks st g new) where
   abbrev after : Store
   after = onMarks g st
 

@@ -52,12 +52,16 @@ module _ (l : Lent) (e : lengthsAre l ≡ true) where
       (and-snd (eqb (length (l .threadBuffer)) bufferBytes) (eqb (length (l .processBuffer)) bufferBytes) right-buffers)
 
 -- tables that are as long as those
-pub as-long : (l l′ : Lent) → length (l′ .processes) ≡ length (l .processes)
-    → length (l′ .threads) ≡ length (l .threads) → length (l′ .threadBuffer) ≡ length (l .threadBuffer)
-    → length (l′ .processBuffer) ≡ length (l .processBuffer)
-    → lengthsAre l ≡ true → lengthsAre l′ ≡ true
+-- each table is as long as it was
+pub record AsLong (l l′ : Lent) : Type 0 where
+  pub processes : length (l′ .processes) ≡ length (l .processes)
+  pub threads : length (l′ .threads) ≡ length (l .threads)
+  pub threadBuffer : length (l′ .threadBuffer) ≡ length (l .threadBuffer)
+  pub processBuffer : length (l′ .processBuffer) ≡ length (l .processBuffer)
+
+pub as-long : (l l′ : Lent) → AsLong l l′ → lengthsAre l ≡ true → lengthsAre l′ ≡ true
 unfolding lengthsAre
-as-long l l′ p t b q e = rw (p, t, b, q) e
+as-long l l′ s e = rw (s .processes, s .threads, s .threadBuffer, s .processBuffer) e
 
 module _ (l : Lent) (e : soundTables l ≡ true) where
   pub right-lengths : lengthsAre l ≡ true

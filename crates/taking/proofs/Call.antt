@@ -1,11 +1,10 @@
 -- The take as a call: refused, with nothing to take, or taken. Assumes nothing.
-use Prim.Native.Nat.{ℕ, _<_}
+use Prim.Native.Nat.{ℕ}
 use mathlib.Core.Path.{_≡_, refl, sym, ap, _∙_}
 use mathlib.Core.Bool.{true, false}
 use mathlib.Core.Logic.{_⊎_, inl, inr}
 use mathlib.Core.List.{[], _∷_}
 use lib.Dec.{eqb}
-use lib.ListN.{length, getD}
 use denote.Enum.Declared.{tagOf}
 use Rattle.lists.proofs.Bools.{clash}
 use Rattle.rules.specs.Types.{Thread, take}
@@ -20,10 +19,11 @@ use Rattle.types.specs.declared.Taken as taken
 use Rattle.types.specs.declared.Taken.the-variants.{Nothing}
 use Rattle.types.specs.declared.Reply.the-variants.{Taken}
 use Rattle.types.specs.declared.Answer.the-variants.{Refused, Accepted}
+use Rattle.sound.proofs.Facts.{AsLong}
 use Rattle.answers.specs.Answers.{nextOf}
 use Rattle.sound.specs.Lent.{Lent, decoded, viewOf, soundTables}
 use Rattle.answers.specs.Step.{refusalOn, rowsOn, stepOn}
-use Rattle.siginfo.proofs.Numbers.{bytes-each}
+use Rattle.siginfo.specs.Bytes.{Bytes}
 use Rattle.answers.proofs.Endings.{rows-given, refused-ends, accepted-ends}
 use Rattle.answers.proofs.Rows.{live-thread}
 use Rattle.types.proofs.Next.{the-type}
@@ -62,25 +62,20 @@ module _ (l : Lent) (t n : ℕ) (r : n ≡ rowsOn (esrch (noThreadLive (viewOf l
     taker-live = live-thread l t n r z .live
 
     module _ (x : declared.Next) (k : nextOf x ≡ next v it) where
-      pub take-made : (m : Lent) → length (m .processes) ≡ length (l .processes)
-          → length (m .threads) ≡ length (l .threads)
-          → length (m .threadBuffer) ≡ length (l .threadBuffer) → length (m .processBuffer) ≡ length (l .processBuffer)
-          → ((i : ℕ) → getD (m .threadBuffer) i 0 < 256) → ((i : ℕ) → getD (m .processBuffer) i 0 < 256)
+      pub take-made : (m : Lent) → AsLong l m → Bytes (m .threadBuffer) → Bytes (m .processBuffer)
           → (a : taken.Taken) → a ≡ takeAnswer v it (nextOf x)
           → decoded m ≡ applyAll (takeChanges v it (nextOf x)) (decoded l)
           → (m, Accepted (Taken a)) ≡ stepOn (take t) l
       unfolding changes reply
-      take-made m p q b c bt bp a h d =
-          accepted-ends (take t) l accepted (Taken a) (ap Taken (h ∙ ap (takeAnswer v it) k)) m
-          (record { processes = p; threads = q; threadBuffer = b; processBuffer = c })
-          (bytes-each (m .threadBuffer) bt) (bytes-each (m .processBuffer) bp)
+      take-made m s bt bp a h d =
+          accepted-ends (take t) l accepted (Taken a) (ap Taken (h ∙ ap (takeAnswer v it) k)) m s bt bp
           (d ∙ ap (λ y. applyAll (takeChanges v it y) (decoded l)) k)
 
-      pub take-nothing : x ≡ cases.Nothing → ((i : ℕ) → getD (l .threadBuffer) i 0 < 256)
-          → ((i : ℕ) → getD (l .processBuffer) i 0 < 256)
+      pub take-nothing : x ≡ cases.Nothing → Bytes (l .threadBuffer) → Bytes (l .processBuffer)
           → (l, Accepted (Taken Nothing)) ≡ stepOn (take t) l
       unfolding nextOf takeAnswer takeChanges applyAll
       take-nothing e bt bp =
-          take-made l refl refl refl refl bt bp Nothing
+          take-made l (record { processes = refl; threads = refl; threadBuffer = refl; processBuffer = refl })
+          bt bp Nothing
           (ap (λ y. takeAnswer v it (nextOf y)) (sym e))
           (ap (λ y. applyAll (takeChanges v it (nextOf y)) (decoded l)) (sym e))

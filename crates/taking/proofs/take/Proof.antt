@@ -1,6 +1,7 @@
 -- `take` meets its contract: refused, with nothing to take, or taken. Assumes nothing.
 use native.Mathlib.Omega.{arith}
 use borrow.Author.Needs.{needs}
+use Rattle.siginfo.proofs.Numbers.{bytes-each}
 use Rattle.sound.specs.Lent.{lent, given}
 use Rattle.taking.proofs.Call.{something, take-made, take-nothing, take-refused, taker-live, taker-sound}
 use Rattle.taking.proofs.take.Statement.{statement}
@@ -34,16 +35,16 @@ returns-2 c =
     let x = c .before .before .next-of in
     take-nothing l t (n .result) (n .ensures) (c .before .before .before .before .before .before .before .if1 .left)
     (x .result) (x .ensures) (c .enum-told .given .1)
-    (λ i. omega (
+    (bytes-each (l .threadBuffer) (λ i. omega (
       arith,
       c .before .before .before .before .before .before .before .before .before .before .before .before .before .before
           .slice-known3 .given i,
-    ))
-    (λ i. omega (
+    )))
+    (bytes-each (l .processBuffer) (λ i. omega (
       arith,
       c .before .before .before .before .before .before .before .before .before .before .before .before .before
           .slice-known4 .given i,
-    ))
+    )))
 
 take-next-requires : tie.Need-take-next-requires
 take-next-requires c κs =
@@ -77,9 +78,14 @@ returns-3 c =
     (c .before .before .before .before .before .before .before .before .before .before
     .before .before .before .before .before .before .before .before .before .if1 .left)
     (x .result) (x .ensures) (lent (w .last .0) (w .last .1 .0) (w .last .1 .1 .0) (w .last .1 .1 .1 .0))
-    (search needs) (search needs) (search needs) (search needs)
-    (λ i. omega (arith, c .before .before .slice-known7 .given i))
-    (λ i. omega (arith, c .slice-known8 .given i))
+    (record {
+      processes = search needs;
+      threads = search needs;
+      threadBuffer = search needs;
+      processBuffer = search needs;
+    })
+    (bytes-each (w .last .1 .1 .0) (λ i. omega (arith, c .before .before .slice-known7 .given i)))
+    (bytes-each (w .last .1 .1 .1 .0) (λ i. omega (arith, c .slice-known8 .given i)))
     (w .result) (w .ensures .answer) (w .ensures .tables .store)
 
 pub take-spec : {M : Type 1} → statement M
