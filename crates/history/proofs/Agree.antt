@@ -32,8 +32,9 @@ use Rattle.rules.proofs.PendingInView.{seen-clearMark-threads, seen-discard-pro
 use Rattle.rules.proofs.Slots.{zero-free}
 use Rattle.rules.proofs.Vacated.{held-vacated, free-process-unmarked, free-thread-unmarked}
 use Rattle.history.specs.Ledger as ledger
-use Rattle.history.specs.Ledger.{ofThread, ofSignals, Line, Ledger, emptyLedger, emptyLine, withMark, keepSend}
-use Rattle.history.specs.Ledger.{takeSend, isAt, ofProcess, note}
+use Rattle.history.specs.Ledger.{Line, Ledger, emptyLedger, withMark, isAt, ofProcess, place}
+use Rattle.history.specs.Acts.{keepSend, takeSend, emptyLine}
+use Rattle.history.proofs.Notes.{ofThread, ofSignals, note}
 use Rattle.history.proofs.Relation.{Agrees}
 use Rattle.history.proofs.Records.{fitting-used, keep-left, both-buffers, append-records, drop-records}
 use Rattle.history.proofs.Marks.{remove-process-marks, remove-thread-marks, new-process-marks, new-thread-marks}
@@ -98,7 +99,7 @@ module _ (st : Store) (k : Ledger) (a : Agrees st k) where
       }
 
   agrees-setMask : (n : ℕ) (m : SigSet) → Agrees (apply (setMask n m) st) (note (setMask n m) k)
-  unfolding apply note recordsFor markIn
+  unfolding apply note place recordsFor markIn
   agrees-setMask n m =
       record {
         processes = a .processes;
@@ -113,7 +114,7 @@ module _ (st : Store) (k : Ledger) (a : Agrees st k) where
 
   -- the lowest free place is filled
   pub agrees-newProcess : freeZero st ≡ true → (p : Process) → Agrees (apply (newProcess p) st) (note (newProcess p) k)
-  unfolding apply note recordsFor
+  unfolding apply note place recordsFor
   agrees-newProcess z p =
       record {
         processes =
@@ -125,7 +126,7 @@ module _ (st : Store) (k : Ledger) (a : Agrees st k) where
 
   pub agrees-newThread : all (ifFree threadId zeroThread) (st .threads) ≡ true → (t : Thread)
       → Agrees (apply (newThread t) st) (note (newThread t) k)
-  unfolding apply note recordsFor
+  unfolding apply note place recordsFor
   agrees-newThread z t =
       record {
         processes = a .processes;
@@ -136,7 +137,7 @@ module _ (st : Store) (k : Ledger) (a : Agrees st k) where
 
   -- who ends takes the queues along
   agrees-removeProcess : (n : ℕ) → eqb n 0 ≡ false → Agrees (apply (removeProcess n) st) (note (removeProcess n) k)
-  unfolding apply note recordsFor
+  unfolding apply note place recordsFor
   agrees-removeProcess n z =
       record {
         processes =
@@ -157,7 +158,7 @@ module _ (st : Store) (k : Ledger) (a : Agrees st k) where
       }
 
   agrees-removeThread : (n : ℕ) → eqb n 0 ≡ false → Agrees (apply (removeThread n) st) (note (removeThread n) k)
-  unfolding apply note recordsFor
+  unfolding apply note place recordsFor
   agrees-removeThread n z =
       record {
         processes = a .processes;
@@ -272,7 +273,7 @@ unfolding cleared emptyLedger
 agrees-start = record { processes = refl; threads = refl; records = no-records; marks = no-marks }
 
 agrees-forget : (st : Store) (k : Ledger) → Agrees (apply forget st) (note forget k)
-unfolding apply note cleared
+unfolding apply note place cleared
 agrees-forget st k = record { processes = refl; threads = refl; records = no-records; marks = no-marks }
 
 -- ---- every change
@@ -286,8 +287,8 @@ agrees-change (newThread t) st k e f a = agrees-newThread st k a (free-threads s
 agrees-change (removeProcess n) st k e f a = agrees-removeProcess st k a n (process-named st n f)
 agrees-change (removeThread n) st k e f a =
     agrees-removeThread st k a n (thread-named st n (and-fst (liveThread (view st) n) _ f))
-agrees-change (setStopped n b) st k e f a = unfold apply note in agrees-amended st k a n (withStopped b) (λ p. refl)
-agrees-change (setAction n s c) st k e f a = unfold apply note in agrees-amended st k a n (withAction s c) (λ p. refl)
+agrees-change (setStopped n b) st k e f a = unfold apply note place in agrees-amended st k a n (withStopped b) (λ p. refl)
+agrees-change (setAction n s c) st k e f a = unfold apply note place in agrees-amended st k a n (withAction s c) (λ p. refl)
 agrees-change (setMask n m) st k e f a = agrees-setMask st k a n m
 agrees-change (setMark q s) st k e f a = agrees-setMark st k a q s f
 agrees-change (clearMark q s) st k e f a = agrees-clearMark st k a q s

@@ -19,7 +19,7 @@ use Rattle.rules.specs.Calls.{reply, finish, step}
 use Rattle.rules.proofs.Facts.{within-limit}
 use Rattle.rules.proofs.RefusalTable.{no-fault, rows-no-fault}
 use Rattle.history.specs.Ledger.{Ledger, ledgerView, ledgerRefusal, ledgerAnswer, ofProcess, pendingWhere}
-use Rattle.history.specs.History.{isRefusedWith}
+use Rattle.boundary.specs.Boundary.{errnoOf}
 use Rattle.history.proofs.Counted.{same-queued}
 use Rattle.history.proofs.Holds.{Holds, same-view}
 
@@ -41,21 +41,22 @@ module _ (st : Store) (k : Ledger) (h : Holds st k) (c : Call) where
       finished (refusalOf st c)
       ∙ ap₂ (λ (n : ℕ) (v : View). cond (eqb n 0) (Accepted (reply v c)) (Refused n)) same-refusal (same-view st k h)
 
--- ---- refusals by number
+-- ---- what is returned
 
 module _ (k : Ledger) (c : Call) where
-  -- what the ledger refuses with a number other than 0
-  refused-with : (n : ℕ) → eqb 0 n ≡ false → isRefusedWith n (ledgerAnswer k c) ≡ eqb (ledgerRefusal k c) n
-  unfolding ledgerAnswer isRefusedWith
-  refused-with n z =
+  -- 0 where the ledger accepts, else its errno
+  pub returned-refusal : errnoOf (ledgerAnswer k c) ≡ ledgerRefusal k c
+  unfolding ledgerAnswer errnoOf
+  returned-refusal =
       split (eqb (ledgerRefusal k c) 0)
-      (λ e. rw e (sym (ap (λ m. eqb m n) (eqb-true (ledgerRefusal k c) 0 e) ∙ z)))
+      (λ e. rw e (sym (eqb-true (ledgerRefusal k c) 0 e)))
       (λ e. rw e)
 
-pub never-fault : (k : Ledger) (c : Call) → isRefusedWith EFAULT (ledgerAnswer k c) ≡ false
-unfolding ledgerRefusal
-never-fault k c =
-    refused-with k c EFAULT refl ∙ not-true (eqb (ledgerRefusal k c) EFAULT) (rows-no-fault (ledgerView k) c)
+  pub never-fault : eqb (errnoOf (ledgerAnswer k c)) EFAULT ≡ false
+  unfolding ledgerRefusal
+  never-fault =
+      ap (λ (n : ℕ). eqb n EFAULT) returned-refusal
+      ∙ not-true (eqb (ledgerRefusal k c) EFAULT) (rows-no-fault (ledgerView k) c)
 
 -- ---- room
 
@@ -81,13 +82,13 @@ module _ (st : Store) (k : Ledger) (h : Holds st k) where
   pub pending-limit : (n : ℕ) → pendingWhere k (ofProcess n) ≤ recordLimit
   pending-limit n = omega (arith, same-queued st k (h .isSound) (h .beside .agrees) n, within-limit st (h .isSound) n)
 
-  pub room-counted : (by to t s value : ℕ) → isRefusedWith EAGAIN (ledgerAnswer k (sigqueue by to t s value))
+  pub room-counted : (by to t s value : ℕ) → eqb (errnoOf (ledgerAnswer k (sigqueue by to t s value))) EAGAIN
       ≡ (eqb (refusal (rows (ledgerView k) (kill by to t s))) 0
       && (needsRecord (generation (ledgerView k) true (targetQueue to t) s)
       && eqb (pendingWhere k (ofProcess to)) recordLimit))
   unfolding ledgerRefusal rows noRoom
   room-counted by to t s value =
-      refused-with k (sigqueue by to t s value) EAGAIN refl
+      ap (λ (n : ℕ). eqb n EAGAIN) (returned-refusal k (sigqueue by to t s value))
       ∙ last-row _ _ _ (noRoom (ledgerView k) to t s)
       ∙ ap (λ (b : Bool). eqb (refusal (rows (ledgerView k) (kill by to t s))) 0
       && (needsRecord (generation (ledgerView k) true (targetQueue to t) s) && b))

@@ -27,7 +27,8 @@ use Rattle.rules.proofs.Ids.{named, isNamed, named-live}
 use Rattle.rules.proofs.Marks.{placeWhere, where-passes, any-held, queue-same}
 use Rattle.rules.proofs.Signals.{nameable-signal}
 use Rattle.queue.proofs.Signals.{eqb-comm}
-use Rattle.history.specs.Ledger.{Ledger, queues, pendingWhere, ofProcess, everywhere}
+use Rattle.history.specs.Ledger.{Ledger, queues, pendingWhere, ofProcess}
+use Rattle.history.proofs.Notes.{everywhere}
 use Rattle.history.proofs.Relation.{Agrees}
 
 -- ---- records by their queues and signals

@@ -1,159 +1,327 @@
--- Demand 3, for every list of calls. Assumes nothing.
-use Prim.Native.Nat.{ℕ, _+_}
-use mathlib.Core.Path.{_≡_, sym, ap, _∙_, subst}
-use mathlib.Core.Logic.{⊎-map}
-use mathlib.Core.Bool.{true, _&&_, cond}
+-- Demand 3, for every list of calls of a host. Assumes nothing.
+use Prim.Native.Nat.{ℕ, zero, suc, _+_, _≤_}
+use mathlib.Core.Path.{_≡_, refl, sym, ap, _∙_, subst}
+use mathlib.Core.Bool.{Bool, true, false, not, _&&_, cond}
 use mathlib.Core.List.{List, [], _∷_, map}
+use lib.Dec.{eqb, ltb}
 use lib.ListN.{length}
-use Rattle.limits.specs.Limits.{EAGAIN, EFAULT}
-use Rattle.lists.specs.Lists.{all}
-use Rattle.lists.proofs.Bools.{and-fst, and-snd}
+use borrow.Author.Tests.{eqb-true, le-ltb}
+use Rattle.limits.specs.Limits.{EINVAL, EFAULT, EAGAIN, recordLimit, answerWords, callClear, callSigqueue, callTake}
+use Rattle.lists.specs.Lists.{all, padded, All}
+use Rattle.lists.proofs.Bools.{split, and-fst, and-snd, and-both, cond-true, cond-false, cond-same}
 use Rattle.types.specs.declared.Siginfo.{Siginfo}
+use Rattle.types.specs.declared.Taken.{Taken}
+use Rattle.types.specs.declared.Taken.the-variants as taken
+use Rattle.types.specs.declared.Reply.the-variants as reply
 use Rattle.types.specs.declared.Answer.{Answer}
-use Rattle.rules.specs.Types.{Queue, Call, sigqueue, take, nextRecord}
-use Rattle.rules.specs.View.{liveThread, theThread}
-use Rattle.rules.specs.Taking.{next}
-use Rattle.rules.specs.Asking.{yieldsOne}
-use Rattle.rules.specs.Calls.{step, isRefused}
+use Rattle.types.specs.declared.Answer.the-variants.{Refused, Accepted}
+use Rattle.rules.specs.Types.{Call, clear, sigqueue, kill, take}
+use Rattle.rules.specs.View.{View, targetQueue, liveThread, theThread}
+use Rattle.rules.specs.Store.{Store, view}
+use Rattle.rules.specs.Sending.{generation, needsRecord}
+use Rattle.rules.specs.Taking.{next, takeAnswer}
+use Rattle.rules.specs.Asking.{hasOffer, isTaken}
+use Rattle.rules.specs.Refusals.{refusal, rows, noThreadLive, refusalOf}
+use Rattle.rules.specs.Calls.{reply, finish, step, isRefused}
 use Rattle.rules.specs.Machine.{machine}
-use Rattle.sound.proofs.Facts.{right-lengths}
+use Rattle.rules.proofs.Asking.{asking-yields}
+use Rattle.rules.proofs.Refused.{refused-by-table, refused-keeps}
+use Rattle.rules.proofs.Steps.{accepted-step}
 use Rattle.sound.specs.Lent.{Lent, decoded, lengthsAre, soundTables}
+use Rattle.sound.proofs.Facts.{right-lengths}
 use Rattle.answers.specs.Step.{encoded, stepOn}
-use Rattle.calls.specs.Calls.{callOf}
-use Rattle.history.specs.Ledger.{Ledger, emptyLedger, ledgerView, ledgerAnswer, enter, enterAll}
-use Rattle.history.specs.History.{clearedTables, tablesAfter, entryOf, entriesOf, ledgerAfter, isRefusedWith}
-use Rattle.history.specs.History.{isKept, keepsAt, takesAt, takesOne}
-use Rattle.history.specs.Claim.{Took, Claim, Demand3}
-use Rattle.history.proofs.Answered.{same-answer, never-fault, room-counted, pending-limit}
+use Rattle.looking.specs.Looks.{lookBytes}
+use Rattle.boundary.specs.Boundary.{Arguments, callsOf, isCall, numbered, replyWords, takenWords, wordsOf, errnoOf, written}
+use Rattle.boundary.specs.Boundary.{usable, accepted, serveOn}
+use Rattle.rrezhbuta.specs.Entry.{Host, lentBy, callOn, lookAt}
+use Rattle.history.specs.Ledger.{Ledger, emptyLedger, ofProcess, pendingWhere, ledgerView, ledgerRefusal, ledgerAnswer}
+use Rattle.history.specs.Acts.{turns, actsOf}
+use Rattle.history.specs.History.{Entry, Book, emptyBook, entered, enter, enterAll, Item, call, slotLook, lending}
+use Rattle.history.specs.History.{hostAfter, told, Past, after, cleared, machineArguments, machineItem, heard, lookedBytes}
+use Rattle.history.specs.Demand3.{AnswersBy, yields, Claim, Demand3}
+use Rattle.history.specs.Demand3 as page
+use Rattle.history.proofs.Answered.{same-refusal, same-answer, returned-refusal, never-fault, room-counted}
+use Rattle.history.proofs.Answered.{pending-limit}
 use Rattle.history.proofs.Encoded.{answer-on, decoded-on, sound-on, encoded-on, decoded-cleared, encoded-cleared}
-use Rattle.history.proofs.Encoded.{sound-clearedTables}
-use Rattle.history.proofs.Holds.{Holds, holds-step, holds-start}
-use Rattle.history.proofs.Looks.{same-look}
+use Rattle.history.proofs.Encoded.{sound-clearedTables, clearedTables, clear-clears}
+use Rattle.history.proofs.Entry.{entry-returned, entry-words, entry-tables, served-accepted, served-not}
+use Rattle.history.proofs.Entry.{numbered-machine, row-threads, row-length}
+use Rattle.history.proofs.Holds.{Holds, holds-start}
+use Rattle.history.proofs.Looks.{same-look, same-slot}
 use Rattle.history.proofs.Relation.{Agrees}
-use Rattle.history.proofs.Tallies.{then, accepted-answer, accepted-then, take-accepted, asked, kept-counted}
-use Rattle.history.proofs.Tallies.{kept-in-total, taken-counted, taken-in-total, taken-allowed, taken-oldest}
-use Rattle.history.proofs.Tallies.{taken-answer}
-use Rattle.history.proofs.Counting.{taken-gone}
+use Rattle.history.proofs.Tallied.{Tallies, tallies-start, tallies-turns}
+use Rattle.history.proofs.Turns.{holds-turns, right-turns, answers-turns}
 use Rattle.history.proofs.Widths.{Widths, widths-cleared, widths-step}
 
 -- ---- what every list of calls keeps
 
-record Reached (l : Lent) (k : Ledger) : Type 0 where
+record Reached (l : Lent) (b : Book) : Type 0 where
   -- the tables are sound, their records machine numbers, and they are the words and bytes of what they say
   sound : soundTables l ≡ true
   widths : Widths (decoded l)
   whole : encoded (decoded l) ≡ l
-  -- and the ledger holds beside them
-  holds : Holds (decoded l) k
+  -- the ledger holds beside them, and is what the acts come to
+  holds : Holds (decoded l) (b .ledger)
+  tallies : Tallies (b .ledger) (b .acts)
 
-reached-start : Reached clearedTables emptyLedger
+reached-start : Reached clearedTables emptyBook
 reached-start =
     record {
       sound = sound-clearedTables;
       widths = subst Widths (sym decoded-cleared) widths-cleared;
       whole = ap encoded decoded-cleared ∙ encoded-cleared;
       holds = subst (λ st. Holds st emptyLedger) (sym decoded-cleared) holds-start;
+      tallies = tallies-start;
     }
 
-module _ (l : Lent) (k : Ledger) (r : Reached l k) where
-  long : lengthsAre l ≡ true
-  long = right-lengths l (r .sound)
+-- ---- a call on the tables
 
-  -- the answer that the ledger expects is given
-  answers : (c : Call) → stepOn c l .1 ≡ ledgerAnswer k c
-  answers c = answer-on c l long ∙ same-answer (decoded l) k (r .holds) c
+-- what is returned is the row that applies
+errno-finish : (n : ℕ) (c : Call) (st : Store) → errnoOf (finish n c st .1) ≡ n
+unfolding finish errnoOf
+errno-finish zero c st = refl
+errno-finish (suc n) c st = refl
 
-  told : (c : Call) → enter (entryOf c l) k ≡ then k c
-  unfolding entryOf
-  told c = ap (λ (a : Answer). enter (record { call = c; refused = isRefused a }) k) (answers c)
+module _ (l : Lent) (b : Book) (r : Reached l b) (c : Call) (u : machine c ≡ true) where
+  abbrev st : Store
+  st = decoded l
 
-  reached-step : (c : Call) → machine c ≡ true → Reached (stepOn c l .0) (enter (entryOf c l) k)
-  unfolding entryOf
-  reached-step c u =
+  abbrev k : Ledger
+  k = b .ledger
+
+  -- sound tables of machine numbers are left, accepted or refused
+  reached-tables : (b′ : Book) → Holds (step c st .0) (b′ .ledger) → Tallies (b′ .ledger) (b′ .acts)
+      → Reached (stepOn c l .0) b′
+  reached-tables b′ h t =
+      let d = decoded-on c l u (r .sound) (r .widths) in
       record {
         sound = sound-on c l u (r .sound) (r .widths);
-        widths =
-            subst Widths (sym (decoded-on c l u (r .sound) (r .widths)))
-            (widths-step c (decoded l) u (r .holds .isSound) (r .widths));
+        widths = subst Widths (sym d) (widths-step c st u (r .holds .isSound) (r .widths));
         whole = encoded-on c l u (r .sound) (r .widths) (r .whole);
-        holds =
-            subst (λ st. Holds st (enter (entryOf c l) k)) (sym (decoded-on c l u (r .sound) (r .widths)))
-            (subst
-            (λ (a : Answer). Holds (step c (decoded l) .0) (enter (record { call = c; refused = isRefused a }) k))
-            (sym (answer-on c l long))
-            (holds-step c (decoded l) k u (r .holds)));
+        holds = subst (λ x. Holds x (b′ .ledger)) (sym d) h;
+        tallies = t;
       }
 
-reached-list : (cs : List Call) (l : Lent) (k : Ledger) → all machine cs ≡ true → Reached l k
-    → Reached (tablesAfter cs l) (enterAll (entriesOf cs l) k)
-unfolding tablesAfter entriesOf enterAll all
-reached-list [] l k u r = r
-reached-list (c ∷ cs) l k u r =
-    reached-list cs (stepOn c l .0) (enter (entryOf c l) k) (and-snd (machine c) (all machine cs) u)
-    (reached-step l k r c (and-fst (machine c) (all machine cs) u))
+  reached-accepted : refusalOf st c ≡ 0 → Reached (stepOn c l .0) (entered c b)
+  unfolding entered
+  reached-accepted e =
+      reached-tables (entered c b)
+      (subst (λ x. Holds x (entered c b .ledger)) (sym (accepted-step c st e)) (holds-turns c st k e (r .holds) u))
+      (tallies-turns (turns (ledgerView k) c) k (b .acts) (right-turns c st k e (r .holds)) (r .tallies))
+
+  reached-refused : eqb (refusalOf st c) 0 ≡ false → Reached (stepOn c l .0) b
+  reached-refused z =
+      reached-tables b
+      (subst (λ x. Holds x k) (sym (refused-keeps c st (refused-by-table c st ∙ ap not z))) (r .holds)) (r .tallies)
+
+  -- the ledger is told whether what is returned is an errno
+  reached-step : (n : ℕ) → n ≡ errnoOf (stepOn c l .1)
+      → Reached (stepOn c l .0) (enter (record { call = c; refused = not (eqb n 0) }) b)
+  unfolding enter step
+  reached-step n i =
+      let e : n ≡ refusalOf st c =
+      i ∙ ap errnoOf (answer-on c l (right-lengths l (r .sound))) ∙ errno-finish (refusalOf st c) c st in
+      split (eqb n 0)
+      (λ z. subst (Reached (stepOn c l .0)) (sym (cond-false b (entered c b) (ap not z)))
+      (reached-accepted (sym e ∙ eqb-true n 0 z)))
+      (λ z. subst (Reached (stepOn c l .0)) (sym (cond-true b (entered c b) (ap not z)))
+      (reached-refused (ap (λ (m : ℕ). eqb m 0) (sym e) ∙ z)))
+
+-- ---- an item, a list of them
+
+module _ (h : Host) (b : Book) (r : Reached (lentBy h) b) (n : ℕ) (g : Arguments) (out : List ℕ)
+    (u : machineArguments g ≡ true) where
+  abbrev lent′ : Host
+  lent′ = lending out h
+
+  reached-call : (y : Bool) → accepted n (length out) ≡ y
+      → Reached (lentBy (callOn n g lent′ .0)) (enterAll (cond y
+      (record { call = numbered n g; refused = not (eqb (callOn n g lent′ .1) 0) } ∷ []) []) b)
+  unfolding enterAll
+  reached-call true y =
+      let s = served-accepted n g lent′ y in
+      subst (λ (l : Lent). Reached l (enter
+      (record { call = numbered n g; refused = not (eqb (callOn n g lent′ .1) 0) }) b))
+      (sym (entry-tables n g lent′ (numbered-machine n g u) ∙ ap (λ (x : Lent × Answer). x .0) s))
+      (reached-step (lentBy h) b r (numbered n g) (numbered-machine n g u) (callOn n g lent′ .1)
+      (entry-returned n g lent′ ∙ ap (λ (x : Lent × Answer). errnoOf (x .1)) s))
+  reached-call false y =
+      subst (λ (l : Lent). Reached l b)
+      (sym (entry-tables n g lent′ (numbered-machine n g u) ∙ ap (λ (x : Lent × Answer). x .0) (served-not n g lent′ y))) r
+
+reached-item : (x : Item) (h : Host) (b : Book) → machineItem x ≡ true → Reached (lentBy h) b
+    → Reached (lentBy (hostAfter x h)) (enterAll (told x h) b)
+unfolding machineItem hostAfter told enterAll
+reached-item (call n g out) h b u r = reached-call h b r n g out u (accepted n (length out)) refl
+reached-item (slotLook t) h b u r = r
+
+reached-list : (xs : List Item) (p : Past) → all machineItem xs ≡ true → Reached (lentBy (p .host)) (p .book)
+    → Reached (lentBy (after xs p .host)) (after xs p .book)
+unfolding after all
+reached-list [] p u r = r
+reached-list (x ∷ xs) p u r =
+    reached-list xs (record { host = hostAfter x (p .host); book = enterAll (told x (p .host)) (p .book) })
+    (and-snd (machineItem x) (all machineItem xs) u)
+    (reached-item x (p .host) (p .book) (and-fst (machineItem x) (all machineItem xs) u) r)
+
+-- ---- the words of a take
+
+-- its first word says whether a signal is taken
+yields-taken : (x : Taken) (out : List ℕ) → yields (written (Accepted (reply.Taken x)) out) ≡ isTaken x
+unfolding written errnoOf wordsOf replyWords takenWords padded isTaken
+yields-taken taken.Nothing out = refl
+yields-taken (taken.Handler n s r flags saved) out = refl
+yields-taken (taken.End s) out = refl
+yields-taken (taken.Stop s) out = refl
+yields-taken (taken.NoAction s) out = refl
+
+-- a call of the list is accepted where there is room
+has-room : (n : ℕ) (out : List ℕ) → isCall n ≡ true → answerWords ≤ length out → accepted n (length out) ≡ true
+unfolding accepted
+has-room n out c o = and-both c (ap not (le-ltb (length out) answerWords o))
 
 -- ---- the claim
 
-module _ (l : Lent) (k : Ledger) (r : Reached l k) where
-  takes : (t : ℕ) → liveThread (ledgerView k) t ≡ true → (q : Queue) (s : ℕ) (x : Siginfo)
-      → next (ledgerView k) (theThread (ledgerView k) t) ≡ nextRecord q s x → Took l k t q s x
-  takes t a q s x e =
-      let after = told l k r (take t) ∙ accepted-then k (take t) (take-accepted k t a) in
-      record {
-        allowed = taken-allowed k t q s x e;
-        oldest = taken-oldest k t q s x e;
-        answers = answers l k r (take t) ∙ accepted-answer k (take t) (take-accepted k t a) ∙ taken-answer k t q s x e;
-        gone =
-            ⊎-map (λ g. ap (λ (y : Ledger). y .lines q s .sends) after ∙ g)
-            (λ g. ap (λ (y : Ledger). y .lines q s .sends) after ∙ g)
-            (taken-gone k (ledgerView k) t q s x e);
-      }
+module _ (h : Host) (b : Book) (r : Reached (lentBy h) b) where
+  abbrev tables : Lent
+  tables = lentBy h
 
-  claim : Claim l k
+  abbrev ledger : Ledger
+  ledger = b .ledger
+
+  abbrev seen : View
+  seen = ledgerView ledger
+
+  long : lengthsAre tables ≡ true
+  long = right-lengths tables (r .sound)
+
+  -- the answer that is read in the ledger is given
+  answers : (c : Call) → stepOn c tables .1 ≡ ledgerAnswer ledger c
+  answers c = answer-on c tables long ∙ same-answer (decoded tables) ledger (r .holds) c
+
+  always-usable : (n : ℕ) → usable n tables ≡ true
+  unfolding usable
+  always-usable n = split (eqb n callClear) (λ e. rw (e, long)) (λ e. rw (e, r .sound))
+
+  heard-is : (n : ℕ) (g : Arguments) (out : List ℕ) → serveOn n g (length out) tables .1 ≡ heard ledger n g (length out)
+  unfolding heard
+  heard-is n g out =
+      split (accepted n (length out))
+      (λ y. ap (λ (x : Lent × Answer). x .1) (served-accepted n g (lending out h) y) ∙ answers (numbered n g)
+      ∙ sym (cond-true _ _ y))
+      (λ y. ap (λ (x : Lent × Answer). x .1) (served-not n g (lending out h) y)
+      ∙ ap (λ (z : Bool). Refused (cond z EINVAL EFAULT)) (always-usable n) ∙ sym (cond-false _ _ y))
+
+  module _ (n : ℕ) (g : Arguments) (out : List ℕ) where
+    returned : callOn n g (lending out h) .1 ≡ errnoOf (heard ledger n g (length out))
+    returned = entry-returned n g (lending out h) ∙ ap errnoOf (heard-is n g out)
+
+    words : callOn n g (lending out h) .0 .answer ≡ written (heard ledger n g (length out)) out
+    words = entry-words n g (lending out h) ∙ ap (λ (a : Answer). written a out) (heard-is n g out)
+
+    -- a call of the list, with room for its answer
+    heard-call : isCall n ≡ true → answerWords ≤ length out
+        → heard ledger n g (length out) ≡ ledgerAnswer ledger (numbered n g)
+    unfolding heard
+    heard-call c o = cond-true _ _ (has-room n out c o)
+
+    no-fault : eqb (callOn n g (lending out h) .1) EFAULT ≡ false
+    unfolding heard errnoOf
+    no-fault =
+        ap (λ (m : ℕ). eqb m EFAULT) returned
+        ∙ split (accepted n (length out))
+        (λ y. rw y (never-fault ledger (numbered n g)))
+        (λ y. rw y)
+
+  -- the ledger's refusal is the tables'
+  module _ (c : Call) (e : ledgerRefusal ledger c ≡ 0) where
+    passes : refusalOf (decoded tables) c ≡ 0
+    passes = same-refusal (decoded tables) ledger (r .holds) c ∙ e
+
+    ledger-accepts : ledgerAnswer ledger c ≡ Accepted (reply seen c)
+    unfolding ledgerAnswer
+    ledger-accepts = cond-true _ _ (ap (λ (n : ℕ). eqb n 0) e)
+
+    answers-by : All (AnswersBy seen (ledgerAnswer ledger c)) (actsOf (turns seen c) ledger)
+    answers-by =
+        subst (λ (a : Answer). All (AnswersBy seen a) (actsOf (turns seen c) ledger)) (sym ledger-accepts)
+        (answers-turns c (decoded tables) ledger passes (r .holds))
+
+  take-passes : (t : ℕ) → liveThread seen t ≡ true → ledgerRefusal ledger (take t) ≡ 0
+  unfolding ledgerRefusal rows refusal noThreadLive
+  take-passes t e = rw e
+
+  asking : (g : Arguments) (out : List ℕ) → answerWords ≤ length out → liveThread seen (g .a) ≡ true
+      → yields (callOn callTake g (lending out h) .0 .answer) ≡ hasOffer seen (theThread seen (g .a))
+  unfolding numbered callsOf isCall reply
+  asking g out o e =
+      ap yields (words callTake g out
+      ∙ ap (λ (a : Answer). written a out)
+      (heard-call callTake g out refl o ∙ ledger-accepts (take (g .a)) (take-passes (g .a) e)))
+      ∙ yields-taken (takeAnswer seen (theThread seen (g .a)) (next seen (theThread seen (g .a)))) out
+      ∙ asking-yields seen (theThread seen (g .a))
+
+  room : (g : Arguments) (out : List ℕ) → answerWords ≤ length out
+      → eqb (callOn callSigqueue g (lending out h) .1) EAGAIN
+      ≡ (eqb (refusal (rows seen (kill (g .a) (g .b) (g .c) (g .d)))) 0
+      && (needsRecord (generation seen true (targetQueue (g .b) (g .c)) (g .d))
+      && eqb (pendingWhere ledger (ofProcess (g .b))) recordLimit))
+  unfolding numbered callsOf isCall
+  room g out o =
+      ap (λ (n : ℕ). eqb n EAGAIN) (returned callSigqueue g out ∙ ap errnoOf (heard-call callSigqueue g out refl o))
+      ∙ room-counted (decoded tables) ledger (r .holds) (g .a) (g .b) (g .c) (g .d) (g .x)
+
+  claim : Claim h ledger (b .acts)
+  unfolding lookAt
   claim =
-      let a : Agrees (decoded l) k = r .holds .beside .agrees in
+      let a : Agrees (decoded tables) ledger = r .holds .beside .agrees in
+      let looked : (t : ℕ) → lookBytes t tables ≡ lookedBytes ledger t =
+      λ t. same-look tables (r .whole) t ledger long (r .holds) in
       record {
-        since = λ q s. a .records q s ∙ r .holds .beside .balanced q s .since;
+        since = λ q s. a .records q s ∙ r .tallies .line q s .since;
+        neverMore = λ q s. r .tallies .line q s .few;
         sends = a .records;
         marks = a .marks;
         processes = a .processes;
-        threads = a .threads;
-        answers = answers l k r;
-        looks = λ t. same-look l (r .whole) t k (long l k r) (r .holds);
-        noFault = λ c. ap (isRefusedWith EFAULT) (answers l k r c) ∙ never-fault k c;
-        takes = takes;
-        asking = λ t h. ap yieldsOne (answers l k r (take t)) ∙ asked k t h;
+        threads = sym (row-threads h (row-length h long)) ∙ a .threads;
+        sound = r .sound;
+        whole = r .whole;
+        returned = returned;
+        words = words;
+        looks = looked;
+        slots = λ t. same-slot h t long ∙ looked t;
+        noFault = no-fault;
+        takes = λ c e. right-turns c (decoded tables) ledger (passes c e) (r .holds);
+        answersBy = answers-by;
+        asking = asking;
         balance = λ q s.
-            r .holds .beside .balanced q s .counts
-            ∙ ap (λ (rs : List Siginfo). k .lines q s .counts .taken + k .lines q s .counts .discarded + length rs)
+            r .holds .beside .balanced q s
+            ∙ ap (λ (rs : List Siginfo).
+            ledger .lines q s .counts .taken + ledger .lines q s .counts .discarded + length rs)
             (sym (a .records q s));
         total = r .holds .beside .total;
-        keptCounted = λ c q s.
-            ap (λ (x : Ledger). x .lines q s .counts .kept) (told l k r c)
-            ∙ kept-counted k c q s
-            ∙ ap (λ (x : Answer). k .lines q s .counts .kept + cond (isKept x && keepsAt c q s) 1 0)
-            (sym (answers l k r c));
-        keptTotal = λ c.
-            ap (λ (x : Ledger). x .total .kept) (told l k r c)
-            ∙ kept-in-total k c
-            ∙ ap (λ (x : Answer). k .total .kept + cond (isKept x) 1 0) (sym (answers l k r c));
-        takenCounted = λ c q s.
-            ap (λ (x : Ledger). x .lines q s .counts .taken) (told l k r c)
-            ∙ taken-counted k c q s
-            ∙ ap (λ (x : Answer). k .lines q s .counts .taken + cond (yieldsOne x && takesAt k c q s) 1 0)
-            (sym (answers l k r c));
-        takenTotal = λ c.
-            ap (λ (x : Ledger). x .total .taken) (told l k r c)
-            ∙ taken-in-total k c
-            ∙ ap (λ (x : Answer). k .total .taken + cond (yieldsOne x && takesOne k c) 1 0) (sym (answers l k r c));
-        room =
-            λ by to t s value. ap (isRefusedWith EAGAIN) (answers l k r (sigqueue by to t s value))
-            ∙ room-counted (decoded l) k (r .holds) by to t s value;
-        limit = pending-limit (decoded l) k (r .holds);
+        keptCounted = λ q s. r .tallies .line q s .kept;
+        takenCounted = λ q s. r .tallies .line q s .taken;
+        keptTotal = r .tallies .kept;
+        takenTotal = r .tallies .taken;
+        room = room;
+        limit = pending-limit (decoded tables) ledger (r .holds);
       }
 
+-- ---- from a clear on
+
+-- clearing leaves all zero, whatever the tables hold
+cleared-tables : (g : Arguments) (h : Host) → lengthsAre (lentBy h) ≡ true → answerWords ≤ length (h .answer)
+    → lentBy (callOn callClear g h .0) ≡ clearedTables
+unfolding numbered callsOf isCall machine
+cleared-tables g h e o =
+    entry-tables callClear g h refl
+    ∙ ap (λ (x : Lent × Answer). x .0) (served-accepted callClear g h (has-room callClear (h .answer) refl o))
+    ∙ clear-clears (lentBy h) e
+
 pub demand3 : Demand3
-unfolding ledgerAfter
-demand3 cs u =
-    claim (tablesAfter (map callOf cs) clearedTables) (enterAll (entriesOf (map callOf cs) clearedTables) emptyLedger)
-    (reached-list (map callOf cs) clearedTables emptyLedger u reached-start)
+unfolding cleared
+demand3 h g e o xs u =
+    claim (after xs (cleared g h) .host) (after xs (cleared g h) .book)
+    (reached-list xs (cleared g h) u
+    (subst (λ (l : Lent). Reached l emptyBook) (sym (cleared-tables g h e o)) reached-start))

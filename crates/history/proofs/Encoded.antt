@@ -38,7 +38,6 @@ use Rattle.sound.specs.Lent.{Lent, lent, decoded, lengthsAre, soundTables}
 use Rattle.sound.proofs.Facts.{right-lengths, store-sound}
 use Rattle.answers.specs.Step.{encoded, committed, stepOn}
 use Rattle.answers.proofs.Endings.{places-right}
-use Rattle.history.specs.History.{clearedTables}
 use Rattle.history.proofs.Widths.{Widths, widths-cleared, widths-step}
 
 -- ---- a store to words and bytes, and back
@@ -134,6 +133,11 @@ module _ (c : Call) (l : Lent) (u : machine c ≡ true) (e : soundTables l ≡ t
       (ap sound decoded-on ∙ after-sound)
 
 -- ---- cleared tables
+
+-- all zero: what clearing leaves of any tables of the right lengths
+unfoldable pub clearedTables : Lent
+clearedTables =
+    lent (replicate processTable 0) (replicate threadTable 0) (replicate bufferBytes 0) (replicate bufferBytes 0)
 
 -- a free slot is all zero
 free-slot-bytes : bytesOf noSiginfo ≡ replicate recordBytes 0

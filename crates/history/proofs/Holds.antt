@@ -24,7 +24,8 @@ use Rattle.rules.proofs.ChangesSound.{fits-keeps}
 use Rattle.rules.proofs.StaysSound.{adds, isAddProcess, call-fits, accepted-sound-after}
 use Rattle.rules.proofs.Refused.{refused-by-table, refused-keeps}
 use Rattle.rules.proofs.Steps.{accepted-step}
-use Rattle.history.specs.Ledger.{Ledger, Entry, emptyLedger, ledgerView, note, noteAll, noteStages, enter}
+use Rattle.history.specs.Ledger.{Ledger, emptyLedger, ledgerView, place}
+use Rattle.history.proofs.Notes.{note, noteAll}
 use Rattle.history.proofs.Relation.{Agrees}
 use Rattle.history.proofs.Agree.{free-threads, agrees-newProcess, agrees-newThread, agrees-start, agrees-change}
 use Rattle.history.proofs.Counted.{same-queued}
@@ -52,7 +53,7 @@ holds-change ch st k f h =
           record {
             agrees = agrees-change ch st k (h .isSound) f (h .beside .agrees);
             total = total-change ch st k (h .isSound) f (h .beside .agrees) (h .beside .total);
-            balanced = balanced-change ch k (h .beside .balanced);
+            balanced = balanced-change st k (h .beside .agrees) ch f (h .beside .balanced);
           };
     }
 
@@ -97,9 +98,7 @@ module _ (p : Process) (t : Thread) (st : Store) (k : Ledger) (h : Holds st k) w
         total =
             total-newThread t (apply (newProcess p) st) (note (newProcess p) k)
             (total-newProcess p st k (h .beside .total));
-        balanced =
-            balanced-change (newThread t) (note (newProcess p) k)
-            (balanced-change (newProcess p) k (h .beside .balanced));
+        balanced = unfold note place in h .beside .balanced;
       }
     where
       free : freeZero st ≡ true
@@ -125,40 +124,9 @@ kind-holds (queueing by to t s value) i st k u e h = fitting-holds (sigqueue by 
 kind-holds (taking t) i st k u e h = fitting-holds (take t) st k u e h refl
 kind-holds other i st k u e h = fitting-holds _ st k u e h (ap adds i)
 
-holds-accepted : (c : Call) (st : Store) (k : Ledger) → machine c ≡ true → refusalOf st c ≡ 0 → Holds st k
+pub holds-accepted : (c : Call) (st : Store) (k : Ledger) → machine c ≡ true → refusalOf st c ≡ 0 → Holds st k
     → Holds (applyAll (changes (view st) c) st) (noteAll (changes (view st) c) k)
 holds-accepted c = kind-holds (kindOf c) refl
-
--- the ledger after an accepted call, by the view of the tables
-pub entered : (c : Call) (st : Store) (k : Ledger) → Holds st k
-    → enter (record { call = c; refused = false }) k ≡ noteAll (changes (view st) c) k
-unfolding enter stages noteStages
-entered c st k h = ap (λ (v : View). noteAll (changes v c) k) (sym (same-view st k h))
-
--- what the ledger is told of a call that the rules answer so
-abbrev pub tellOf : Call → Store → Entry
-tellOf c st = record { call = c; refused = isRefused (step c st .1) }
-
--- "A refused call leaves it alone"
-left-alone : (c : Call) (st : Store) (k : Ledger) → isRefused (step c st .1) ≡ true → enter (tellOf c st) k ≡ k
-unfolding enter
-left-alone c st k n = cond-true k _ n
-
-pub holds-step : (c : Call) (st : Store) (k : Ledger) → machine c ≡ true → Holds st k
-    → Holds (step c st .0) (enter (tellOf c st) k)
-holds-step c st k u h =
-    split (eqb (refusalOf st c) 0)
-    (λ z.
-    let e : refusalOf st c ≡ 0 = eqb-true (refusalOf st c) 0 z in
-    let n : isRefused (step c st .1) ≡ false = refused-by-table c st ∙ ap not z in
-    subst (λ (x : Store). Holds x (enter (tellOf c st) k)) (sym (accepted-step c st e))
-    (subst (λ (b : Bool). Holds (applyAll (changes (view st) c) st) (enter (record { call = c; refused = b }) k))
-    (sym n)
-    (subst (Holds (applyAll (changes (view st) c) st)) (sym (entered c st k h)) (holds-accepted c st k u e h))))
-    (λ z.
-    let n : isRefused (step c st .1) ≡ true = refused-by-table c st ∙ ap not z in
-    subst (λ (x : Store). Holds x (enter (tellOf c st) k)) (sym (refused-keeps c st n))
-    (subst (Holds st) (sym (left-alone c st k n)) h))
 
 pub holds-start : Holds cleared emptyLedger
 holds-start =

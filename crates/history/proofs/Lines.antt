@@ -1,104 +1,97 @@
--- A line of the ledger: its counts balance, and its sends are those kept since it was emptied less those taken since.
--- Assumes nothing.
-use Prim.Native.Nat.{ℕ, zero, suc, _+_, _≤_}
-use mathlib.Core.Path.{_≡_, refl, sym, ap, _∙_}
+-- A line of the ledger: its counts balance, after each change. Assumes nothing.
+use Prim.Native.Nat.{ℕ, _+_, _≤_}
+use mathlib.Core.Path.{_≡_, refl, sym, ap, _∙_, subst}
 use mathlib.Core.Bool.{Bool, true, false, cond}
-use mathlib.Core.List.{List, [], _∷_, _++_, tail}
+use mathlib.Core.List.{List, [], _∷_, tail}
 use native.Mathlib.Omega.{arith}
-use lib.ListN.{length, length-append, length-drop, drop}
+use lib.ListN.{length, length-append}
+use Rattle.lists.specs.Lists.{any, keep}
+use Rattle.lists.proofs.Lists.{any-count, count-keep, isSome-first}
 use Rattle.types.specs.declared.Siginfo.{Siginfo}
 use Rattle.rules.specs.Types.{Queue}
 use Rattle.rules.specs.View.{Change, forget, newProcess, newThread, removeProcess, removeThread, setStopped, setAction}
 use Rattle.rules.specs.View.{setMask, setMark, clearMark, append, dropOldest, discard, inQueue}
-use Rattle.history.specs.Ledger.{ofThread, ofSignals, Line, Ledger, emptyLedger, ofProcess, everywhere, keepSend}
-use Rattle.history.specs.Ledger.{oneOf, takeSend, emptyLine, withMark, isAt, onLines, emptying, note}
+use Rattle.rules.specs.Store.{Store, view, recordsFor}
+use Rattle.rules.specs.Fitting.{fits}
+use Rattle.history.specs.Ledger.{Line, Ledger, emptyLedger, ofProcess, withMark, isAt, onLines, place}
+use Rattle.history.specs.Acts.{keepSend, takeSend, emptyLine, emptying}
+use Rattle.history.proofs.Notes.{everywhere, ofThread, ofSignals, note}
+use Rattle.history.proofs.Relation.{Agrees}
+use Rattle.history.proofs.Records.{at-queue, at-signal}
 
-pub record Balanced (x : Line) : Type 0 where
-  pub counts : x .counts .kept ≡ x .counts .taken + x .counts .discarded + length (x .sends)
-  pub since : x .sends ≡ drop (x .takenSince) (x .keptSince)
-  pub few : x .takenSince ≤ length (x .keptSince)
-
--- ---- the sends that are left
-
-drop-end : (n : ℕ) (rs : List Siginfo) (r : Siginfo) → n ≤ length rs → drop n rs ++ (r ∷ []) ≡ drop n (rs ++ (r ∷ []))
-drop-end zero rs r h = refl
-drop-end (suc n) [] r h = absurd (omega arith)
-drop-end (suc n) (x ∷ rs) r h = drop-end n rs r (omega arith)
-
--- one less, if there is one
-drop-one : (n : ℕ) (rs : List Siginfo) → tail (drop n rs) ≡ drop (n + oneOf (drop n rs)) rs
-drop-one zero [] = refl
-drop-one zero (x ∷ rs) = refl
-drop-one (suc n) [] = let e : suc n ≡ suc n + 0 = omega arith in ap (λ m. drop m []) e
-drop-one (suc n) (x ∷ rs) =
-    let e : suc (n + oneOf (drop n rs)) ≡ suc n + oneOf (drop n rs) = omega arith in
-    drop-one n rs ∙ ap (λ m. drop m (x ∷ rs)) e
-
-one-left : (rs : List Siginfo) → oneOf rs + length (tail rs) ≡ length rs
-one-left [] = refl
-one-left (r ∷ rs) = omega arith
-
--- ---- one line changed
-
-keep-balanced : (r : Siginfo) (x : Line) → Balanced x → Balanced (keepSend r x)
-keep-balanced r x b =
-    record {
-      counts = omega (arith, b .counts, length-append (x .sends) (r ∷ []));
-      since =
-          ap (λ (rs : List Siginfo). rs ++ (r ∷ [])) (b .since) ∙ drop-end (x .takenSince) (x .keptSince) r (b .few);
-      few = omega (arith, b .few, length-append (x .keptSince) (r ∷ []));
-    }
-
-take-balanced : (x : Line) → Balanced x → Balanced (takeSend x)
-take-balanced x b =
-    record {
-      counts = omega (arith, b .counts, one-left (x .sends));
-      since =
-          ap tail (b .since) ∙ drop-one (x .takenSince) (x .keptSince)
-          ∙ ap (λ (rs : List Siginfo). drop (x .takenSince + oneOf rs) (x .keptSince)) (sym (b .since));
-      few =
-          omega (arith, b .few, one-left (x .sends), ap length (b .since), length-drop (x .takenSince) (x .keptSince));
-    }
-
-empty-balanced : (x : Line) → Balanced x → Balanced (emptyLine x)
-empty-balanced x b = record { counts = omega (arith, b .counts); since = refl; few = omega arith }
-
-mark-balanced : (m : Bool) (x : Line) → Balanced x → Balanced (withMark m x)
-mark-balanced m x b = record { counts = b .counts; since = b .since; few = b .few }
-
--- ---- all of them
+abbrev pub Balanced : Line → Type 0
+Balanced x = x .counts .kept ≡ x .counts .taken + x .counts .discarded + length (x .sends)
 
 abbrev pub AllBalanced : Ledger → Type 0
 AllBalanced k = (q : Queue) (s : ℕ) → Balanced (k .lines q s)
 
 pub balanced-start : AllBalanced emptyLedger
 unfolding emptyLedger
-balanced-start q s = record { counts = refl; since = refl; few = omega arith }
+balanced-start q s = refl
 
--- those that pass the test change
-lines-balanced : (p : Queue → ℕ → Bool) (g : Line → Line) → ((x : Line) → Balanced x → Balanced (g x)) → (k : Ledger)
+-- ---- one line changed
+
+keep-balanced : (r : Siginfo) (x : Line) → Balanced x → Balanced (keepSend r x)
+keep-balanced r x b = omega (arith, b, length-append (x .sends) (r ∷ []))
+
+one-less : (rs : List Siginfo) → 1 ≤ length rs → 1 + length (tail rs) ≡ length rs
+one-less [] h = absurd (omega arith)
+one-less (r ∷ rs) h = omega arith
+
+-- there is a send to take
+take-balanced : (x : Line) → 1 ≤ length (x .sends) → Balanced x → Balanced (takeSend x)
+take-balanced x h b = omega (arith, b, one-less (x .sends) h)
+
+empty-balanced : (x : Line) → Balanced x → Balanced (emptyLine x)
+empty-balanced x b = omega (arith, b)
+
+-- ---- those that pass the test change
+
+lines-balanced : (p : Queue → ℕ → Bool) (g : Line → Line) (k : Ledger)
+    → ((q : Queue) (s : ℕ) → p q s ≡ true → Balanced (k .lines q s) → Balanced (g (k .lines q s)))
     → AllBalanced k → AllBalanced (onLines p g k)
-lines-balanced p g h k b q s = go (p q s)
+lines-balanced p g k h b q s = go (p q s) refl
   where
-    go : (c : Bool) → Balanced (cond c (g (k .lines q s)) (k .lines q s))
-    go true = h (k .lines q s) (b q s)
-    go false = b q s
+    go : (c : Bool) → p q s ≡ c → Balanced (cond c (g (k .lines q s)) (k .lines q s))
+    go true e = h q s e (b q s)
+    go false e = b q s
 
 emptying-balanced : (p : Queue → ℕ → Bool) (k : Ledger) → AllBalanced k → AllBalanced (emptying p k)
-emptying-balanced p = lines-balanced p emptyLine empty-balanced
+emptying-balanced p k = lines-balanced p emptyLine k (λ q s _. empty-balanced (k .lines q s))
 
-pub balanced-change : (ch : Change) (k : Ledger) → AllBalanced k → AllBalanced (note ch k)
-unfolding note
-balanced-change forget k b = emptying-balanced everywhere k b
-balanced-change (newProcess p) k b = b
-balanced-change (newThread t) k b = b
-balanced-change (removeProcess n) k b = emptying-balanced (ofProcess n) k b
-balanced-change (removeThread n) k b = emptying-balanced (ofThread n) k b
-balanced-change (setStopped n c) k b = b
-balanced-change (setAction n i a) k b = b
-balanced-change (setMask n m) k b = b
-balanced-change (setMark j i) k b = lines-balanced (isAt j i) (withMark true) (mark-balanced true) k b
-balanced-change (clearMark j i) k b = lines-balanced (isAt j i) (withMark false) (mark-balanced false) k b
-balanced-change (append r) k b = lines-balanced (λ q s. inQueue q s r) (keepSend r) (keep-balanced r) k b
-balanced-change (dropOldest j i) k b = lines-balanced (isAt j i) takeSend take-balanced k b
-balanced-change (discard n x) k b = emptying-balanced (ofSignals n x) k b
+-- ---- every change
+
+module _ (st : Store) (k : Ledger) (a : Agrees st k) where
+  -- the ledger has a send where the tables have a record
+  pub one-there : (q : Queue) (s : ℕ) → fits (view st) (dropOldest q s) ≡ true → 1 ≤ length (k .lines q s .sends)
+  unfolding fits view
+  one-there q s f =
+      let rs : List Siginfo = recordsFor q st in
+      let y : any (inQueue q s) rs ≡ true = sym (isSome-first (inQueue q s) rs) ∙ f in
+      omega (arith, any-count (inQueue q s) rs y, count-keep (inQueue q s) rs, ap length (a .records q s))
+
+  balanced-dropOldest : (q : Queue) (s : ℕ) → fits (view st) (dropOldest q s) ≡ true → AllBalanced k
+      → AllBalanced (note (dropOldest q s) k)
+  unfolding note
+  balanced-dropOldest q s f =
+      lines-balanced (isAt q s) takeSend k
+      (λ q′ s′ e. take-balanced (k .lines q′ s′)
+      (subst (λ (j : Queue). 1 ≤ length (k .lines j s′ .sends)) (sym (at-queue q q′ s s′ e))
+      (subst (λ (n : ℕ). 1 ≤ length (k .lines q n .sends)) (sym (at-signal q q′ s s′ e)) (one-there q s f))))
+
+  pub balanced-change : (ch : Change) → fits (view st) ch ≡ true → AllBalanced k → AllBalanced (note ch k)
+  unfolding note place
+  balanced-change forget f b = emptying-balanced everywhere k b
+  balanced-change (newProcess p) f b = b
+  balanced-change (newThread t) f b = b
+  balanced-change (removeProcess n) f b = emptying-balanced (ofProcess n) k b
+  balanced-change (removeThread n) f b = emptying-balanced (ofThread n) k b
+  balanced-change (setStopped n c) f b = b
+  balanced-change (setAction n i x) f b = b
+  balanced-change (setMask n m) f b = b
+  balanced-change (setMark j i) f b = lines-balanced (isAt j i) (withMark true) k (λ q s _ h. h) b
+  balanced-change (clearMark j i) f b = lines-balanced (isAt j i) (withMark false) k (λ q s _ h. h) b
+  balanced-change (append r) f b =
+      lines-balanced (λ q s. inQueue q s r) (keepSend r) k (λ q s _. keep-balanced r (k .lines q s)) b
+  balanced-change (dropOldest j i) f b = balanced-dropOldest j i f b
+  balanced-change (discard n x) f b = emptying-balanced (ofSignals n x) k b

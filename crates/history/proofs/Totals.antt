@@ -22,20 +22,12 @@ use Rattle.rules.specs.Store.{Store, inUse, used, recordsFor, onSlots, onBuffer
 use Rattle.rules.specs.Sound.{sound}
 use Rattle.rules.specs.Fitting.{fits}
 use Rattle.rules.proofs.Slots.{zero-free, used-inUse, used-after, used-within}
-use Rattle.history.specs.Ledger.{ofThread, ofSignals, Ledger, emptyLedger, ofProcess, oneOf, emptying, note}
+use Rattle.history.specs.Ledger.{Ledger, emptyLedger, ofProcess, place}
+use Rattle.history.specs.Acts.{emptying}
+use Rattle.history.proofs.Notes.{ofThread, ofSignals, note}
 use Rattle.history.proofs.Records.{fitting-used}
 use Rattle.history.proofs.Relation.{Agrees}
 use Rattle.history.proofs.Counted.{counted, all-pending}
-
--- ---- lists
-
--- where one is kept there is one to take
-one-kept : (p : Siginfo → Bool) (l : List Siginfo) → any p l ≡ true → oneOf (keep p l) ≡ 1
-one-kept p l e = one (keep p l) (omega (arith, any-count p l e, count-keep p l))
-  where
-    one : (rs : List Siginfo) → 1 ≤ length rs → oneOf rs ≡ 1
-    one [] h = absurd (omega arith)
-    one (r ∷ rs) h = refl
 
 -- ---- the records of both buffers
 
@@ -81,12 +73,12 @@ total-start = omega (arith, none-cleared)
 
 pub total-newProcess : (p : Process) (st : Store) (k : Ledger) → Total st k
     → Total (apply (newProcess p) st) (note (newProcess p) k)
-unfolding apply note
+unfolding apply note place
 total-newProcess p st k h = h
 
 pub total-newThread : (t : Thread) (st : Store) (k : Ledger) → Total st k
     → Total (apply (newThread t) st) (note (newThread t) k)
-unfolding apply note
+unfolding apply note place
 total-newThread t st k h = h
 
 -- the records that pass go, and are discarded
@@ -98,7 +90,7 @@ total-emptied p st k e a h =
 
 total-append : (r : Siginfo) (st : Store) (k : Ledger) → fits (view st) (append r) ≡ true → Total st k
     → Total (apply (append r) st) (note (append r) k)
-unfolding apply note
+unfolding apply note place
 total-append r st k f h =
     let rs : List Siginfo = recordsFor (queueOf r) st in
     omega (
@@ -108,11 +100,10 @@ total-append r st k f h =
       length-append rs (r ∷ []),
     )
 
-total-dropOldest : (q : Queue) (s : ℕ) (st : Store) (k : Ledger) → fits (view st) (dropOldest q s) ≡ true → Agrees st k
-    → Total st k
+total-dropOldest : (q : Queue) (s : ℕ) (st : Store) (k : Ledger) → fits (view st) (dropOldest q s) ≡ true → Total st k
     → Total (apply (dropOldest q s) st) (note (dropOldest q s) k)
-unfolding apply note fits view
-total-dropOldest q s st k f a h =
+unfolding apply note place fits view
+total-dropOldest q s st k f h =
     let rs : List Siginfo = recordsFor q st in
     let y : any (inQueue q s) rs ≡ true = sym (isSome-first (inQueue q s) rs) ∙ f in
     omega (
@@ -120,13 +111,12 @@ total-dropOldest q s st k f a h =
       one-changed st q (dropFirst (inQueue q s))
           (all-within inUse (dropFirst-within (inQueue q s) rs) (records-inUse q st)),
       length-dropFirst (inQueue q s) rs y,
-      ap oneOf (sym (a .records q s)) ∙ one-kept (inQueue q s) rs y,
     )
 
 pub total-change : (ch : Change) (st : Store) (k : Ledger) → sound st ≡ true → fits (view st) ch ≡ true → Agrees st k
     → Total st k
     → Total (apply ch st) (note ch k)
-unfolding apply note
+unfolding apply note place
 total-change forget st k e f a h = omega (arith, none-cleared, all-pending st k e a)
 total-change (newProcess p) st k e f a h = total-newProcess p st k h
 total-change (newThread t) st k e f a h = total-newThread t st k h
@@ -138,5 +128,5 @@ total-change (setMask n m) st k e f a h = h
 total-change (setMark q s) st k e f a h = h
 total-change (clearMark q s) st k e f a h = h
 total-change (append r) st k e f a h = total-append r st k f h
-total-change (dropOldest q s) st k e f a h = total-dropOldest q s st k f a h
+total-change (dropOldest q s) st k e f a h = total-dropOldest q s st k f h
 total-change (discard n set) st k e f a h = total-emptied (ofSignals n set) st k e a h

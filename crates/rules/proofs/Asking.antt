@@ -17,18 +17,18 @@ use Rattle.sigset.specs.Set.{has}
 use Rattle.sigset.proofs.Laws.{lowestOf-zero, lowestOf-found}
 use Rattle.types.specs.declared.Action.{Action}
 use Rattle.types.specs.declared.Siginfo.{Siginfo}
-use Rattle.rules.specs.Types.{Thread, Queue, Next, noNext, nextRecord}
+use Rattle.rules.specs.Types.{Thread, Queue, Next, noNext, nextMark, nextRecord}
 use Rattle.rules.specs.Signals.{Outcome, ignores, stops, continues, ends, outcome}
 use Rattle.rules.specs.View.{View, threadQueue, processQueue, theProcess, threadAction, pendingIn, pendingFor}
 use Rattle.rules.specs.Taking.{isStopped, canTakeSignal, nextSignal, nextQueue, nextIn, next, outcomeAnswer}
 use Rattle.rules.specs.Taking.{delivered, takeAnswer, markInfo}
-use Rattle.rules.specs.Asking.{runs, isOffered, hasOffer, MayTake, isTaken}
+use Rattle.rules.specs.Asking.{accepts, runs, isOffered, hasOffer, MayTake, isTaken}
 
 module _ (v : View) (t : Thread) where
   -- ---- which signals can be taken
 
   can-take : (s : ℕ) → canTakeSignal v t s ≡ true → (runs v t ≡ true) × (isOffered v t s ≡ true)
-  unfolding canTakeSignal isStopped runs isOffered
+  unfolding canTakeSignal isStopped runs accepts isOffered
   can-take s e =
       let o = and-snd (not (isStopped v t)) _ e in (
         not-false (eqb (theProcess v (t .process) .stopped) 0) (not-true _ (and-fst (not (isStopped v t)) _ e)),
@@ -36,7 +36,7 @@ module _ (v : View) (t : Thread) where
       )
 
   takes : (s : ℕ) → runs v t ≡ true → isOffered v t s ≡ true → canTakeSignal v t s ≡ true
-  unfolding canTakeSignal isStopped runs isOffered
+  unfolding canTakeSignal isStopped runs accepts isOffered
   takes s r o =
       and-both (ap (λ (b : Bool). not (not b)) r)
       (and-both (and-snd (not (has (t .mask) s)) _ o) (and-fst (not (has (t .mask) s)) _ o))
@@ -114,17 +114,17 @@ module _ (v : View) (t : Thread) where
         record {
           process = refl;
           queue = or-left (eqb (t .id) 0) (eq-eqb (t .id) (t .id) refl);
-          unblocked = not-true (has (t .mask) s) (and-fst (not (has (t .mask) s)) _ (can-take s c .1));
+          accepted = and-fst (accepts t s) _ (can-take s c .1);
           running = can-take s c .0;
           pending = e;
         }
     next-queue false e =
         let p : (pendingIn v (threadQueue t) s || pendingIn v (processQueue (t .process)) s) ≡ true =
-        and-snd (not (has (t .mask) s)) _ (can-take s c .1) in
+        and-snd (accepts t s) _ (can-take s c .1) in
         record {
           process = refl;
           queue = or-right (eqb 0 (t .id)) refl;
-          unblocked = not-true (has (t .mask) s) (and-fst (not (has (t .mask) s)) _ (can-take s c .1));
+          accepted = and-fst (accepts t s) _ (can-take s c .1);
           running = can-take s c .0;
           pending = or-cases (pendingIn v (threadQueue t) s) _ p (λ k. clash k e) (λ k. k);
         }
@@ -160,3 +160,27 @@ module _ (v : View) (t : Thread) where
       recorded-in (nextQueue v t (nextSignal v t)) (nextSignal v t) (next-may (eqb-false (nextSignal v t) 0 e))
       (v .oldest (nextQueue v t (nextSignal v t)) (nextSignal v t)) refl
       q s r (sym (cond-false noNext _ e) ∙ n))
+
+  -- a mark that is next: no record of its queue and signal is there, and it may be taken
+  Marked : Next → Type 0
+  Marked n = (q : Queue) (s : ℕ) → n ≡ nextMark q s → MayTake v t q s × (v .oldest q s ≡ none)
+
+  marked-in : (q : Queue) (s : ℕ) → MayTake v t q s → (o : Option Siginfo) → v .oldest q s ≡ o
+      → Marked (nextIn v q s o)
+  unfolding nextIn Marked
+  marked-in q s m none e q′ s′ n =
+      let zq : q ≡ q′ = cc n in
+      let zs : s ≡ s′ = cc n in
+      subst (λ (k : Queue). MayTake v t k s′ × (v .oldest k s′ ≡ none)) zq
+      (subst (λ (k : ℕ). MayTake v t q k × (v .oldest q k ≡ none)) zs (m, e))
+  marked-in q s m (some x) e q′ s′ n = let z : _≡_ {A = ℕ} 0 1 = cc n in absurd (omega arith)
+
+  pub next-mark : (q : Queue) (s : ℕ) → next v t ≡ nextMark q s → MayTake v t q s × (v .oldest q s ≡ none)
+  unfolding next Marked
+  next-mark q s n =
+      split (eqb (nextSignal v t) 0)
+      (λ e. let z : _≡_ {A = ℕ} 0 1 = cc (sym (cond-true noNext _ e) ∙ n) in absurd (omega arith))
+      (λ e.
+      marked-in (nextQueue v t (nextSignal v t)) (nextSignal v t) (next-may (eqb-false (nextSignal v t) 0 e))
+      (v .oldest (nextQueue v t (nextSignal v t)) (nextSignal v t)) refl
+      q s (sym (cond-false noNext _ e) ∙ n))

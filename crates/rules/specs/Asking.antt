@@ -18,6 +18,10 @@ use Rattle.rules.specs.Types.{noNext}
 use Rattle.rules.specs.View.{View, theProcess, theThread, pendingIn, pendingFor}
 use Rattle.rules.specs.Taking.{next}
 
+-- what a thread accepts: "a signal that it does not block"
+unfoldable pub accepts : Thread → ℕ → Bool
+accepts t s = not (has (t .mask) s)
+
 module _ (v : View) (t : Thread) where
   -- "its process is not stopped"
   unfoldable pub runs : Bool
@@ -25,7 +29,7 @@ module _ (v : View) (t : Thread) where
 
   -- "a signal that it does not block is pending for it or for its process"
   unfoldable pub isOffered : ℕ → Bool
-  isOffered s = not (has (t .mask) s) && pendingFor v t s
+  isOffered s = accepts t s && pendingFor v t s
 
   -- "its process is not stopped and a signal that it does not block is pending for it or for its process"
   unfoldable pub hasOffer : Bool
@@ -37,7 +41,7 @@ module _ (v : View) (t : Thread) where
     pub process : q .process ≡ t .process
     pub queue : (eqb (q .thread) (t .id) || eqb (q .thread) 0) ≡ true
     -- "that did not block it"
-    pub unblocked : has (t .mask) s ≡ false
+    pub accepted : accepts t s ≡ true
     -- "while the process was not stopped"
     pub running : runs ≡ true
     pub pending : pendingIn v q s ≡ true

@@ -1,0 +1,241 @@
+-- Every act of a call is right on the ledger at its turn, and the call answers by what it takes. Assumes nothing.
+use Prim.Native.Nat.{ℕ}
+use mathlib.Core.Path.{_≡_, refl, sym, ap, _∙_, subst}
+use mathlib.Core.Bool.{Bool, true, false, not, _&&_, _||_, cond}
+use mathlib.Core.List.{List, [], _∷_, _++_, head?, tail}
+use mathlib.Core.Option.{Option, some, none}
+use native.Mathlib.Omega.{arith}
+use lib.Dec.{eqb}
+use borrow.Author.Tests.{eq-eqb}
+use Rattle.limits.specs.Limits.{SIGKILL, SIGCONT, SIGSTOP, sigDfl}
+use Rattle.lists.specs.Lists.{any, isSome, All}
+use Rattle.lists.proofs.Bools.{split, and-both, cond-true}
+use Rattle.lists.proofs.Lists.{All-append, All-imp}
+use Rattle.sigset.specs.Set.{isUnmaskable}
+use Rattle.types.specs.declared.Action.{Action}
+use Rattle.types.specs.declared.Siginfo.{Siginfo}
+use Rattle.types.specs.declared.Reply.the-variants.{Taken}
+use Rattle.types.specs.declared.Answer.{Answer}
+use Rattle.types.specs.declared.Answer.the-variants.{Accepted}
+use Rattle.rules.specs.Types.{Thread, Queue, Next, noNext, nextMark, nextRecord, Call, clear, addProcess, addThread}
+use Rattle.rules.specs.Types.{endProcess, endThread, kill, sigqueue, sigaction, sigmask, sigpending, look, who, take}
+use Rattle.rules.specs.Types.{sigreturn}
+use Rattle.rules.specs.Signals.{outcome, ignoring, stopSignal, ignored}
+use Rattle.rules.specs.View.{View, queueOf, sameQueue, belongsTo, liveThread, theThread, threadAction, pendingIn}
+use Rattle.rules.specs.Taking.{next, resets, markInfo, delivered, takeAnswer}
+use Rattle.rules.specs.Calls.{reply}
+use Rattle.rules.proofs.Asking.{next-record, next-mark}
+use Rattle.rules.proofs.Marks.{same-queue}
+use Rattle.history.specs.Ledger.{Line, Ledger, ledgerView, isAt, withMark}
+use Rattle.history.specs.Acts.{Act, kept, marked, tookSend, tookMark, emptied, takeSend, play, isDropped, isAbsorbed}
+use Rattle.history.specs.Acts.{arrival, jobEvents, sendActs, storeActs, endActs, endsProcess, setsOff, takeActs}
+use Rattle.history.specs.Acts.{acts, sent, threadEnds, processEnds}
+use Rattle.history.specs.Demand3.{TookSend, TookMark, Right, RightActs, AnswerBy, AnswersBy}
+
+-- ---- acts that take nothing
+
+abbrev Quiet : Act → Type 0
+Quiet (kept r) = Unit {0}
+Quiet (marked q s) = Unit {0}
+Quiet (tookSend t q s r) = ⊥
+Quiet (tookMark t q s) = ⊥
+Quiet (emptied e) = Unit {0}
+
+quiet-right : (a : Act) → Quiet a → (k : Ledger) → Right k a
+quiet-right (kept r) q k = tt
+quiet-right (marked j s) q k = tt
+quiet-right (tookSend t j s r) q k = absurd q
+quiet-right (tookMark t j s) q k = absurd q
+quiet-right (emptied e) q k = tt
+
+all-right : (xs : List Act) → All Quiet xs → (k : Ledger) → RightActs xs k
+all-right [] q k = tt
+all-right (a ∷ xs) q k = (quiet-right a (q .0) k, all-right xs (q .1) (play a k))
+
+quiet-answers : (v : View) (x : Answer) (a : Act) → Quiet a → AnswersBy v x a
+quiet-answers v x (kept r) q = tt
+quiet-answers v x (marked j s) q = tt
+quiet-answers v x (tookSend t j s r) q = absurd q
+quiet-answers v x (tookMark t j s) q = absurd q
+quiet-answers v x (emptied e) q = tt
+
+-- an event, or none
+event-quiet : (b : Bool) (xs ys : List Act) → All Quiet xs → All Quiet ys → All Quiet (cond b xs ys)
+event-quiet true xs ys p q = p
+event-quiet false xs ys p q = q
+
+job-quiet : (p s : ℕ) → All Quiet (jobEvents p s)
+unfolding jobEvents
+job-quiet p s =
+    event-quiet (eqb s SIGKILL) _ _ (tt, tt)
+    (event-quiet (eqb s SIGCONT) _ _ (tt, tt) (event-quiet (eqb s SIGSTOP || stopSignal s) _ _ (tt, tt) tt))
+
+arrival-quiet : (v : View) (queued : Bool) (r : Siginfo) → All Quiet (arrival v queued r)
+unfolding arrival
+arrival-quiet v queued r =
+    event-quiet (eqb (r .signal) 0 || (isUnmaskable (r .signal) || (isDropped v r || isAbsorbed v queued r))) []
+    (cond queued (kept r) (marked (queueOf r) (r .signal)) ∷ []) tt (either queued)
+  where
+    either : (b : Bool) → All Quiet (cond b (kept r) (marked (queueOf r) (r .signal)) ∷ [])
+    either true = (tt, tt)
+    either false = (tt, tt)
+
+send-quiet : (v : View) (queued : Bool) (r : Siginfo) → All Quiet (sendActs v queued r)
+unfolding sendActs
+send-quiet v queued r =
+    All-append Quiet (jobEvents (r .process) (r .signal)) (arrival v queued r) (job-quiet (r .process) (r .signal))
+    (arrival-quiet v queued r)
+
+store-quiet : (p s : ℕ) (new : Option Action) → All Quiet (storeActs p s new)
+unfolding storeActs
+store-quiet p s none = tt
+store-quiet p s (some a) = event-quiet (ignored a s) _ _ (tt, tt) tt
+
+end-quiet : (v : View) (t : Thread) → All Quiet (endActs v t)
+unfolding endActs
+end-quiet v t =
+    event-quiet (any (λ (u : Thread). belongsTo (t .process) u && not (eqb (u .id) (t .id))) (v .threads))
+    (emptied (threadEnds (t .id)) ∷ []) (emptied (processEnds (t .process)) ∷ []) (tt, tt) (tt, tt)
+
+off-quiet : (t : Thread) (a : Action) (s : ℕ) → All Quiet (setsOff t a s)
+unfolding setsOff
+off-quiet t a s =
+    event-quiet (eqb (a .handler) sigDfl) _ _ (event-quiet (endsProcess (outcome s)) _ _ (tt, tt) tt)
+    (event-quiet (resets a s && ignoring s) _ _ (tt, tt) tt)
+
+-- ---- a call takes nothing, or is a take
+
+data Shape (v : View) (c : Call) : Type 0 where
+  quiet : All Quiet (acts v c) → Shape v c
+  taking : (t : ℕ) → c ≡ take t → Shape v c
+
+shape : (v : View) (c : Call) → Shape v c
+unfolding acts
+shape v clear = quiet (tt, tt)
+shape v (addProcess new) = quiet tt
+shape v (addThread creator id) = quiet tt
+shape v (endProcess id) = quiet (tt, tt)
+shape v (endThread id) = quiet (end-quiet v (theThread v id))
+shape v (kill by to t s) = quiet (send-quiet v false (sent v by to t s 0))
+shape v (sigqueue by to t s value) = quiet (send-quiet v true (sent v by to t s value))
+shape v (sigaction p s new) = quiet (store-quiet p s new)
+shape v (sigmask t way set) = quiet tt
+shape v (sigpending t) = quiet tt
+shape v (look t) = quiet tt
+shape v (who p) = quiet tt
+shape v (take t) = taking t refl
+shape v (sigreturn t saved) = quiet tt
+
+-- ---- a take
+
+-- a list whose head is known
+headed : (rs : List Siginfo) (r : Siginfo) → head? rs ≡ some r → rs ≡ r ∷ tail rs
+headed [] r e = let z : _≡_ {A = ℕ} 0 1 = cc e in absurd (omega arith)
+headed (x ∷ rs) r e = let z : x ≡ r = cc e in ap (λ (y : Siginfo). y ∷ rs) z
+
+headless : (rs : List Siginfo) → head? rs ≡ none → rs ≡ []
+headless [] e = refl
+headless (x ∷ rs) e = let z : _≡_ {A = ℕ} 0 1 = cc e in absurd (omega arith)
+
+-- the line of a queue and a signal is at that queue and signal
+at-itself : (q : Queue) (s : ℕ) → isAt q s q s ≡ true
+at-itself q s = and-both (same-queue q q refl) (eq-eqb s s refl)
+
+module _ (k : Ledger) (t : ℕ) (l : liveThread (ledgerView k) t ≡ true) where
+  abbrev v : View
+  v = ledgerView k
+
+  abbrev it : Thread
+  it = theThread v t
+
+  send-right : (q : Queue) (s : ℕ) (r : Siginfo) → next v it ≡ nextRecord q s r → TookSend k t q s r
+  unfolding ledgerView play
+  send-right q s r e =
+      record {
+        live = l;
+        allowed = next-record v it q s r e .0;
+        oldest = headed (k .lines q s .sends) r (next-record v it q s r e .1);
+        gone =
+            ap (λ (x : Line). x .sends) (cond-true (takeSend (k .lines q s)) (k .lines q s) (at-itself q s));
+      }
+
+  -- pending without a record is marked
+  mark-there : (q : Queue) (s : ℕ) → pendingIn v q s ≡ true → v .oldest q s ≡ none → v .marks q s ≡ true
+  unfolding pendingIn
+  mark-there q s p e = sym (ap (λ (o : Option Siginfo). isSome o || v .marks q s) e) ∙ p
+
+  mark-right : (q : Queue) (s : ℕ) → next v it ≡ nextMark q s → TookMark k t q s
+  unfolding ledgerView play
+  mark-right q s e =
+      let n = next-mark v it q s e in
+      record {
+        live = l;
+        allowed = n .0;
+        noSend = headless (k .lines q s .sends) (n .1);
+        there = mark-there q s (n .0 .pending) (n .1);
+        gone =
+            ap (λ (x : Line). x .mark) (cond-true (withMark false (k .lines q s)) (k .lines q s) (at-itself q s));
+      }
+
+  sets-off : (s : ℕ) (x : Ledger) → RightActs (setsOff it (threadAction v it s) s) x
+  sets-off s = all-right (setsOff it (threadAction v it s) s) (off-quiet it (threadAction v it s) s)
+
+  module _ (i : it .id ≡ t) where
+    take-right : (n : Next) → next v it ≡ n → RightActs (takeActs v it n) k
+    unfolding takeActs
+    take-right noNext e = tt
+    take-right (nextMark q s) e =
+        (subst (λ (m : ℕ). TookMark k m q s) (sym i) (mark-right q s e), sets-off s (play (tookMark (it .id) q s) k))
+    take-right (nextRecord q s r) e =
+        (subst (λ (m : ℕ). TookSend k m q s r) (sym i) (send-right q s r e), sets-off s (play (tookSend (it .id) q s r) k))
+
+    -- the answer is by the thread that the act names
+    by-thread : (s : ℕ) (r : Siginfo) → AnswerBy v (Accepted (Taken (delivered it (threadAction v it s) r))) (it .id) s r
+    by-thread s r =
+        ap (λ (x : Thread). Accepted (Taken (delivered x (threadAction v x s) r))) (sym (ap (theThread v) i))
+
+    quiet-off : (s : ℕ) (x : Answer) → All (AnswersBy v x) (setsOff it (threadAction v it s) s)
+    quiet-off s x =
+        All-imp Quiet (AnswersBy v x) (quiet-answers v x) (setsOff it (threadAction v it s) s)
+        (off-quiet it (threadAction v it s) s)
+
+    take-answers : (n : Next) → All (AnswersBy v (Accepted (Taken (takeAnswer v it n)))) (takeActs v it n)
+    unfolding takeActs takeAnswer
+    take-answers noNext = tt
+    take-answers (nextMark q s) =
+        let r : Siginfo = markInfo q s in
+        (by-thread s r, quiet-off s (Accepted (Taken (delivered it (threadAction v it s) r))))
+    take-answers (nextRecord q s r) =
+        (by-thread s r, quiet-off s (Accepted (Taken (delivered it (threadAction v it s) r))))
+
+-- ---- every call
+
+-- a thread that takes is live, and found by its id
+pub record Taker (k : Ledger) (t : ℕ) : Type 0 where
+  pub live : liveThread (ledgerView k) t ≡ true
+  pub named : theThread (ledgerView k) t .id ≡ t
+
+module _ (k : Ledger) (c : Call) (h : (t : ℕ) → c ≡ take t → Taker k t) where
+  abbrev seen : View
+  seen = ledgerView k
+
+  pub judged : RightActs (acts seen c) k
+  judged = go (shape seen c)
+    where
+      go : Shape seen c → RightActs (acts seen c) k
+      go (quiet q) = all-right (acts seen c) q k
+      go (taking t e) =
+          subst (λ (x : Call). RightActs (acts seen x) k) (sym e)
+          (unfold acts in take-right k t (h t e .live) (h t e .named) (next seen (theThread seen t)) refl)
+
+  pub answered-by : All (AnswersBy seen (Accepted (reply seen c))) (acts seen c)
+  answered-by = go (shape seen c)
+    where
+      go : Shape seen c → All (AnswersBy seen (Accepted (reply seen c))) (acts seen c)
+      go (quiet q) =
+          All-imp Quiet (AnswersBy seen (Accepted (reply seen c)))
+          (quiet-answers seen (Accepted (reply seen c))) (acts seen c) q
+      go (taking t e) =
+          subst (λ (x : Call). All (AnswersBy seen (Accepted (reply seen x))) (acts seen x)) (sym e)
+          (unfold acts reply in
+          take-answers k t (h t e .live) (h t e .named) (next seen (theThread seen t)))

@@ -1,0 +1,69 @@
+-- The tables and the ledger hold side by side after the turns of a call, and its acts are right. Assumes nothing.
+use Prim.Native.Nat.{ℕ, _≤_}
+use mathlib.Core.Path.{_≡_, refl, sym, ap, _∙_, subst}
+use mathlib.Core.Bool.{Bool, true, false}
+use mathlib.Core.List.{List, [], _∷_, _++_, append-nil}
+use mathlib.Core.Option.{Option}
+use native.Mathlib.Omega.{arith}
+use lib.Dec.{eqb}
+use borrow.Author.Tests.{eqb-false, ltb-false, not-false}
+use Rattle.limits.specs.Limits.{signals}
+use Rattle.lists.specs.Lists.{All, isSome}
+use Rattle.lists.proofs.Bools.{or-fst-false, or-snd-false}
+use Rattle.sigset.specs.Set.{Signal, isUnmaskable}
+use Rattle.types.specs.declared.Action.{Action}
+use Rattle.types.specs.declared.Answer.the-variants.{Accepted}
+use Rattle.rules.specs.Types.{Call, sigaction, take}
+use Rattle.rules.specs.View.{View, liveThread, theThread}
+use Rattle.rules.specs.Store.{Store, view, applyAll}
+use Rattle.rules.specs.Refusals.{overLast, badAction, noThreadLive, rows, table, refusalOf}
+use Rattle.rules.specs.Machine.{machine}
+use Rattle.rules.specs.Calls.{changes, reply}
+use Rattle.rules.proofs.Marks.{the-thread-id}
+use Rattle.rules.proofs.RefusalTable.{accepted-off}
+use Rattle.history.specs.Ledger.{Ledger, ledgerView, placeAll}
+use Rattle.history.specs.Acts.{Act, playAll, acts, turns, takeTurn, takeTurns, actsOf}
+use Rattle.history.specs.Demand3.{RightTurns, AnswersBy}
+use Rattle.history.proofs.Notes.{noteAll}
+use Rattle.history.proofs.Holds.{Holds, same-view, holds-accepted}
+use Rattle.history.proofs.Played.{Storable, played}
+use Rattle.history.proofs.Judged.{Taker, judged, answered-by}
+
+module _ (c : Call) (st : Store) (k : Ledger) (e : refusalOf st c ≡ 0) (h : Holds st k) where
+  -- an action is stored for a signal
+  storable : Storable c
+  unfolding table rows badAction overLast
+  storable p s new i =
+      let o = accepted-off st (sigaction p s new) (ap (refusalOf st) (sym i) ∙ e) .1 .0 in
+      let z = or-fst-false (eqb s 0) _ (or-snd-false (overLast s) _ o) in
+      record { low = omega (arith, eqb-false s 0 z); high = ltb-false signals s (or-fst-false (overLast s) _ o) }
+
+  -- a thread that takes is live, and found by its id
+  taker : (t : ℕ) → c ≡ take t → Taker k t
+  unfolding table rows noThreadLive
+  taker t i =
+      let v : view st ≡ ledgerView k = same-view st k h in
+      let live : liveThread (view st) t ≡ true =
+      not-false (liveThread (view st) t) (accepted-off st (take t) (ap (refusalOf st) (sym i) ∙ e) .1 .0) in
+      record {
+        live = ap (λ (x : View). liveThread x t) (sym v) ∙ live;
+        named = ap (λ (x : View). theThread x t .id) (sym v) ∙ the-thread-id st t live;
+      }
+
+  pub holds-turns : machine c ≡ true
+      → Holds (applyAll (changes (view st) c) st) (takeTurns (turns (ledgerView k) c) k)
+  unfolding turns takeTurns takeTurn
+  holds-turns u =
+      subst (Holds (applyAll (changes (view st) c) st))
+      (ap (λ (v : View). noteAll (changes v c) k) (same-view st k h) ∙ sym (played (ledgerView k) k c storable))
+      (holds-accepted c st k u e h)
+
+  pub right-turns : RightTurns (turns (ledgerView k) c) k
+  unfolding turns
+  right-turns = (judged k c taker, tt)
+
+  pub answers-turns : All (AnswersBy (ledgerView k) (Accepted (reply (ledgerView k) c))) (actsOf (turns (ledgerView k) c) k)
+  unfolding turns actsOf
+  answers-turns =
+      subst (All (AnswersBy (ledgerView k) (Accepted (reply (ledgerView k) c)))) (sym (append-nil (acts (ledgerView k) c)))
+      (answered-by k c taker)

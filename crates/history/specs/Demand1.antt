@@ -1,0 +1,93 @@
+-- Demand 1: what holds of every call that a host makes, whatever its tables hold. The proof is proofs/Demand1.
+-- The demand: a call answers or gives one of document 01's refusals; a refusal writes nothing; nobody checks anything
+-- beforehand; SIGKILL and SIGSTOP are never turned away.
+use Prim.Native.Nat.{ℕ, _≤_}
+use mathlib.Core.Path.{_≡_}
+use mathlib.Core.Bool.{Bool, true, false, not, _&&_, _||_}
+use mathlib.Core.List.{List, []}
+use lib.Dec.{eqb}
+use lib.ListN.{length}
+use Rattle.limits.specs.Limits.{SIGKILL, SIGSTOP, answerWords, callClear, callKill, callSigqueue, callSigaction}
+use Rattle.limits.specs.Limits.{callSigmask, callSigpending, callLook, callWho}
+use Rattle.lists.specs.Lists.{any, keep}
+use Rattle.sigset.specs.Set.{isUnmaskable, has}
+use Rattle.siginfo.specs.Bytes.{Bytes}
+use Rattle.types.specs.declared.Sent.the-variants.{Acted}
+use Rattle.types.specs.declared.Reply.the-variants.{Sent}
+use Rattle.types.specs.declared.Answer.the-variants.{Accepted}
+use Rattle.rules.specs.Types.{Queue}
+use Rattle.rules.specs.View.{View, belongsTo, inQueue, actionOf, liveProcess, theProcess, theThread}
+use Rattle.rules.specs.Store.{recordsFor, markIn}
+use Rattle.rules.specs.Sending.{maySignal}
+use Rattle.rules.specs.Refusals.{tableOrder, badTarget}
+use Rattle.sound.specs.Lent.{Lent, decoded, viewOf, lengthsAre, soundTables}
+use Rattle.boundary.specs.Boundary.{Arguments, written}
+use Rattle.rrezhbuta.specs.Entry.{Host, lentBy, callOn}
+use Rattle.history.specs.History.{machineArguments}
+
+-- an errno of document 01's table
+abbrev pub isListed : ℕ → Bool
+isListed n = any (eqb n) tableOrder
+
+-- the calls that only ask: those without a new action or a set, and those that never change anything
+abbrev pub onlyAsks : (number : ℕ) → Arguments → Bool
+onlyAsks n g =
+    ((eqb n callSigaction || eqb n callSigmask) && eqb (g .c) 0)
+    || (eqb n callSigpending || (eqb n callLook || eqb n callWho))
+
+-- either send
+abbrev pub isSend : (number : ℕ) → Bool
+isSend n = eqb n callKill || eqb n callSigqueue
+
+-- the numbers have their widths: the bytes of the two buffers, and the arguments
+pub record InWidth (h : Host) (g : Arguments) : Type 0 where
+  pub threadBuffer : Bytes (h .threadBuffer)
+  pub processBuffer : Bytes (h .processBuffer)
+  pub arguments : machineArguments g ≡ true
+
+-- a live target, process or thread, of a live sender that may signal it, on sound tables, with room for the answer
+pub record MaySend (h : Host) (by to thread signal : ℕ) : Type 0 where
+  pub sound : soundTables (lentBy h) ≡ true
+  pub sender : liveProcess (viewOf (lentBy h)) by ≡ true
+  pub target : badTarget (viewOf (lentBy h)) to thread ≡ false
+  pub allowed : maySignal (theProcess (viewOf (lentBy h)) by) (theProcess (viewOf (lentBy h)) to) signal ≡ true
+  pub room : answerWords ≤ length (h .answer)
+
+-- "KILL ends the process: its threads, marks, records and actions go, places become zero."
+pub record Ended (l : Lent) (n : ℕ) : Type 0 where
+  pub process : liveProcess (viewOf l) n ≡ false
+  pub threads : any (belongsTo n) (viewOf l .threads) ≡ false
+  pub marks : (q : Queue) (s : ℕ) → q .process ≡ n → markIn (decoded l) q s ≡ false
+  pub records : (q : Queue) (s : ℕ) → q .process ≡ n → keep (inQueue q s) (recordsFor q (decoded l)) ≡ []
+
+-- no mask, mark or action mask has the signal
+pub record NowhereMasked (l : Lent) (s : ℕ) : Type 0 where
+  pub masks : (thread : ℕ) → has (theThread (viewOf l) thread .mask) s ≡ false
+  pub marks : (q : Queue) → markIn (decoded l) q s ≡ false
+  pub actions : (process n : ℕ) → has (actionOf (theProcess (viewOf l) process) n .mask) s ≡ false
+
+pub record Demand1 : Type 0 where
+  -- "a call answers or gives one of document 01's refusals"
+  pub listed : (h : Host) (n : ℕ) (g : Arguments) → (eqb (callOn n g h .1) 0 || isListed (callOn n g h .1)) ≡ true
+  -- "a refusal writes nothing": no table, and no word of the answer
+  pub refused : (h : Host) (n : ℕ) (g : Arguments) → eqb (callOn n g h .1) 0 ≡ false → callOn n g h .0 ≡ h
+  -- a call that only asks leaves every table as it was
+  pub asking : (h : Host) (n : ℕ) (g : Arguments) → InWidth h g → onlyAsks n g ≡ true
+      → lentBy (callOn n g h .0) ≡ lentBy h × (callOn n g h .0 .threads ≡ h .threads)
+  -- "nobody checks anything beforehand": clearing asks for lengths alone
+  pub clears : (h : Host) (g : Arguments) → lengthsAre (lentBy h) ≡ true → answerWords ≤ length (h .answer)
+      → callOn callClear g h .1 ≡ 0
+  -- "SIGKILL and SIGSTOP are never turned away": by either send, whatever is pending, masked or set
+  pub acts : (h : Host) (n : ℕ) (g : Arguments) → isSend n ≡ true → isUnmaskable (g .d) ≡ true
+      → MaySend h (g .a) (g .b) (g .c) (g .d)
+      → (callOn n g h .1 ≡ 0) × (callOn n g h .0 .answer ≡ written (Accepted (Sent Acted)) (h .answer))
+  -- "KILL ends the process"
+  pub killed : (h : Host) (n : ℕ) (g : Arguments) → InWidth h g → isSend n ≡ true → g .d ≡ SIGKILL
+      → MaySend h (g .a) (g .b) (g .c) (g .d) → Ended (lentBy (callOn n g h .0)) (g .b)
+  -- "STOP .. stops it"
+  pub stopped : (h : Host) (n : ℕ) (g : Arguments) → InWidth h g → isSend n ≡ true → g .d ≡ SIGSTOP
+      → MaySend h (g .a) (g .b) (g .c) (g .d)
+      → (liveProcess (viewOf (lentBy (callOn n g h .0))) (g .b) ≡ true)
+      × (theProcess (viewOf (lentBy (callOn n g h .0))) (g .b) .stopped ≡ 1)
+  -- in every sound store, so in every one that a list of calls reaches (Demand3's `sound`)
+  pub unmaskable : (l : Lent) → soundTables l ≡ true → (s : ℕ) → isUnmaskable s ≡ true → NowhereMasked l s
