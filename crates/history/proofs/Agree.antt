@@ -287,8 +287,10 @@ agrees-change (newThread t) st k e f a = agrees-newThread st k a (free-threads s
 agrees-change (removeProcess n) st k e f a = agrees-removeProcess st k a n (process-named st n f)
 agrees-change (removeThread n) st k e f a =
     agrees-removeThread st k a n (thread-named st n (and-fst (liveThread (view st) n) _ f))
-agrees-change (setStopped n b) st k e f a = unfold apply note place in agrees-amended st k a n (withStopped b) (λ p. refl)
-agrees-change (setAction n s c) st k e f a = unfold apply note place in agrees-amended st k a n (withAction s c) (λ p. refl)
+agrees-change (setStopped n b) st k e f a =
+    unfold apply note place in agrees-amended st k a n (withStopped b) (λ p. refl)
+agrees-change (setAction n s c) st k e f a =
+    unfold apply note place in agrees-amended st k a n (withAction s c) (λ p. refl)
 agrees-change (setMask n m) st k e f a = agrees-setMask st k a n m
 agrees-change (setMark q s) st k e f a = agrees-setMark st k a q s f
 agrees-change (clearMark q s) st k e f a = agrees-clearMark st k a q s

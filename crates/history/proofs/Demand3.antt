@@ -1,47 +1,48 @@
 -- Demand 3, for every list of calls of a host. Assumes nothing.
-use Prim.Native.Nat.{ℕ, zero, suc, _+_, _≤_}
+use Prim.Native.Nat.{ℕ, _+_, _≤_}
 use mathlib.Core.Path.{_≡_, refl, sym, ap, _∙_, subst}
 use mathlib.Core.Bool.{Bool, true, false, not, _&&_, cond}
-use mathlib.Core.List.{List, [], _∷_, map}
-use lib.Dec.{eqb, ltb}
+use mathlib.Core.List.{List, [], _∷_, append-nil}
+use lib.Dec.{eqb}
 use lib.ListN.{length}
-use borrow.Author.Tests.{eqb-true, le-ltb}
+use borrow.Author.Tests.{eqb-true}
 use Rattle.limits.specs.Limits.{EINVAL, EFAULT, EAGAIN, recordLimit, answerWords, callClear, callSigqueue, callTake}
-use Rattle.lists.specs.Lists.{all, padded, All}
-use Rattle.lists.proofs.Bools.{split, and-fst, and-snd, and-both, cond-true, cond-false, cond-same}
+use Rattle.lists.specs.Lists.{all, count, padded, All}
+use Rattle.lists.proofs.Bools.{split, and-fst, and-snd, cond-true, cond-false}
 use Rattle.types.specs.declared.Siginfo.{Siginfo}
 use Rattle.types.specs.declared.Taken.{Taken}
 use Rattle.types.specs.declared.Taken.the-variants as taken
 use Rattle.types.specs.declared.Reply.the-variants as reply
 use Rattle.types.specs.declared.Answer.{Answer}
 use Rattle.types.specs.declared.Answer.the-variants.{Refused, Accepted}
-use Rattle.rules.specs.Types.{Call, clear, sigqueue, kill, take}
+use Rattle.rules.specs.Types.{Call, kill, take}
 use Rattle.rules.specs.View.{View, targetQueue, liveThread, theThread}
-use Rattle.rules.specs.Store.{Store, view}
+use Rattle.rules.specs.Store.{Store}
 use Rattle.rules.specs.Sending.{generation, needsRecord}
 use Rattle.rules.specs.Taking.{next, takeAnswer}
 use Rattle.rules.specs.Asking.{hasOffer, isTaken}
 use Rattle.rules.specs.Refusals.{refusal, rows, noThreadLive, refusalOf}
-use Rattle.rules.specs.Calls.{reply, finish, step, isRefused}
+use Rattle.rules.specs.Calls.{reply, step}
 use Rattle.rules.specs.Machine.{machine}
 use Rattle.rules.proofs.Asking.{asking-yields}
 use Rattle.rules.proofs.Refused.{refused-by-table, refused-keeps}
 use Rattle.rules.proofs.Steps.{accepted-step}
 use Rattle.sound.specs.Lent.{Lent, decoded, lengthsAre, soundTables}
 use Rattle.sound.proofs.Facts.{right-lengths}
-use Rattle.answers.specs.Step.{encoded, stepOn}
+use Rattle.answers.specs.Step.{encoded, refusalOn, stepOn}
 use Rattle.looking.specs.Looks.{lookBytes}
-use Rattle.boundary.specs.Boundary.{Arguments, callsOf, isCall, numbered, replyWords, takenWords, wordsOf, errnoOf, written}
-use Rattle.boundary.specs.Boundary.{usable, accepted, serveOn}
+use Rattle.boundary.specs.Boundary.{Arguments, callsOf, isCall, numbered, replyWords, takenWords, wordsOf, errnoOf}
+use Rattle.boundary.specs.Boundary.{written, usable, accepted, serveOn}
 use Rattle.rrezhbuta.specs.Entry.{Host, lentBy, callOn, lookAt}
-use Rattle.history.specs.Ledger.{Ledger, emptyLedger, ofProcess, pendingWhere, ledgerView, ledgerRefusal, ledgerAnswer}
-use Rattle.history.specs.Acts.{turns, actsOf}
-use Rattle.history.specs.History.{Entry, Book, emptyBook, entered, enter, enterAll, Item, call, slotLook, lending}
-use Rattle.history.specs.History.{hostAfter, told, Past, after, cleared, machineArguments, machineItem, heard, lookedBytes}
+use Rattle.history.specs.Ledger.{Ledger, emptyLedger, ofProcess, pendingWhere, ledgerView, ledgerRefusal}
+use Rattle.history.specs.Ledger.{ledgerAnswer}
+use Rattle.history.specs.Acts.{acts, turns, actsOf}
+use Rattle.history.specs.Tally.{isKeep}
+use Rattle.history.specs.History.{Book, emptyBook, entered, enter, enterAll, Item, call, slotLook, lending}
+use Rattle.history.specs.History.{hostAfter, told, Past, after, cleared, machineArguments, machineItem, heard}
+use Rattle.history.specs.History.{lookedBytes, isSent, isKept}
 use Rattle.history.specs.Demand3.{AnswersBy, yields, Claim, Demand3}
-use Rattle.history.specs.Demand3 as page
-use Rattle.history.proofs.Answered.{same-refusal, same-answer, returned-refusal, never-fault, room-counted}
-use Rattle.history.proofs.Answered.{pending-limit}
+use Rattle.history.proofs.Answered.{same-refusal, same-answer, never-fault, room-counted, pending-limit}
 use Rattle.history.proofs.Encoded.{answer-on, decoded-on, sound-on, encoded-on, decoded-cleared, encoded-cleared}
 use Rattle.history.proofs.Encoded.{sound-clearedTables, clearedTables, clear-clears}
 use Rattle.history.proofs.Entry.{entry-returned, entry-words, entry-tables, served-accepted, served-not}
@@ -49,6 +50,8 @@ use Rattle.history.proofs.Entry.{numbered-machine, row-threads, row-len
 use Rattle.history.proofs.Holds.{Holds, holds-start}
 use Rattle.history.proofs.Looks.{same-look, same-slot}
 use Rattle.history.proofs.Relation.{Agrees}
+use Rattle.history.proofs.Returns.{step-errno, has-room}
+use Rattle.history.proofs.Said.{kept-said}
 use Rattle.history.proofs.Tallied.{Tallies, tallies-start, tallies-turns}
 use Rattle.history.proofs.Turns.{holds-turns, right-turns, answers-turns}
 use Rattle.history.proofs.Widths.{Widths, widths-cleared, widths-step}
@@ -75,12 +78,6 @@ reached-start =
     }
 
 -- ---- a call on the tables
-
--- what is returned is the row that applies
-errno-finish : (n : ℕ) (c : Call) (st : Store) → errnoOf (finish n c st .1) ≡ n
-unfolding finish errnoOf
-errno-finish zero c st = refl
-errno-finish (suc n) c st = refl
 
 module _ (l : Lent) (b : Book) (r : Reached l b) (c : Call) (u : machine c ≡ true) where
   abbrev st : Store
@@ -117,10 +114,10 @@ module _ (l : Lent) (b : Book) (r : Reached l b) (c : Call) (u : machine c ≡ t
   -- the ledger is told whether what is returned is an errno
   reached-step : (n : ℕ) → n ≡ errnoOf (stepOn c l .1)
       → Reached (stepOn c l .0) (enter (record { call = c; refused = not (eqb n 0) }) b)
-  unfolding enter step
+  unfolding enter refusalOn
   reached-step n i =
       let e : n ≡ refusalOf st c =
-      i ∙ ap errnoOf (answer-on c l (right-lengths l (r .sound))) ∙ errno-finish (refusalOf st c) c st in
+      i ∙ step-errno c l ∙ cond-true (refusalOf st c) EFAULT (right-lengths l (r .sound)) in
       split (eqb n 0)
       (λ z. subst (Reached (stepOn c l .0)) (sym (cond-false b (entered c b) (ap not z)))
       (reached-accepted (sym e ∙ eqb-true n 0 z)))
@@ -147,7 +144,9 @@ module _ (h : Host) (b : Book) (r : Reached (lentBy h) b) (n : ℕ) (g : Argumen
       (entry-returned n g lent′ ∙ ap (λ (x : Lent × Answer). errnoOf (x .1)) s))
   reached-call false y =
       subst (λ (l : Lent). Reached l b)
-      (sym (entry-tables n g lent′ (numbered-machine n g u) ∙ ap (λ (x : Lent × Answer). x .0) (served-not n g lent′ y))) r
+      (sym (entry-tables n g lent′ (numbered-machine n g u)
+      ∙ ap (λ (x : Lent × Answer). x .0) (served-not n g lent′ y)))
+      r
 
 reached-item : (x : Item) (h : Host) (b : Book) → machineItem x ≡ true → Reached (lentBy h) b
     → Reached (lentBy (hostAfter x h)) (enterAll (told x h) b)
@@ -174,11 +173,6 @@ yields-taken (taken.Handler n s r flags saved) out = refl
 yields-taken (taken.End s) out = refl
 yields-taken (taken.Stop s) out = refl
 yields-taken (taken.NoAction s) out = refl
-
--- a call of the list is accepted where there is room
-has-room : (n : ℕ) (out : List ℕ) → isCall n ≡ true → answerWords ≤ length out → accepted n (length out) ≡ true
-unfolding accepted
-has-room n out c o = and-both c (ap not (le-ltb (length out) answerWords o))
 
 -- ---- the claim
 
@@ -223,7 +217,7 @@ module _ (h : Host) (b : Book) (r : Reached (lentBy h) b) where
     heard-call : isCall n ≡ true → answerWords ≤ length out
         → heard ledger n g (length out) ≡ ledgerAnswer ledger (numbered n g)
     unfolding heard
-    heard-call c o = cond-true _ _ (has-room n out c o)
+    heard-call c o = cond-true _ _ (has-room n (length out) c o)
 
     no-fault : eqb (callOn n g (lending out h) .1) EFAULT ≡ false
     unfolding heard errnoOf
@@ -246,6 +240,14 @@ module _ (h : Host) (b : Book) (r : Reached (lentBy h) b) where
     answers-by =
         subst (λ (a : Answer). All (AnswersBy seen a) (actsOf (turns seen c) ledger)) (sym ledger-accepts)
         (answers-turns c (decoded tables) ledger passes (r .holds))
+
+    kept-counted : isSent (ledgerAnswer ledger c) ≡ true
+        → count isKeep (actsOf (turns seen c) ledger) ≡ cond (isKept (ledgerAnswer ledger c)) 1 0
+    unfolding turns actsOf
+    kept-counted i =
+        ap (count isKeep) (append-nil (acts seen c))
+        ∙ kept-said seen c (ap isSent (sym ledger-accepts) ∙ i)
+        ∙ ap (λ (a : Answer). cond (isKept a) 1 0) (sym ledger-accepts)
 
   take-passes : (t : ℕ) → liveThread seen t ≡ true → ledgerRefusal ledger (take t) ≡ 0
   unfolding ledgerRefusal rows refusal noThreadLive
@@ -304,6 +306,7 @@ module _ (h : Host) (b : Book) (r : Reached (lentBy h) b) where
         takenCounted = λ q s. r .tallies .line q s .taken;
         keptTotal = r .tallies .kept;
         takenTotal = r .tallies .taken;
+        keptSaid = kept-counted;
         room = room;
         limit = pending-limit (decoded tables) ledger (r .holds);
       }
@@ -316,7 +319,7 @@ cleared-tables : (g : Arguments) (h : Host) → lengthsAre (lentBy h) ≡ true �
 unfolding numbered callsOf isCall machine
 cleared-tables g h e o =
     entry-tables callClear g h refl
-    ∙ ap (λ (x : Lent × Answer). x .0) (served-accepted callClear g h (has-room callClear (h .answer) refl o))
+    ∙ ap (λ (x : Lent × Answer). x .0) (served-accepted callClear g h (has-room callClear (length (h .answer)) refl o))
     ∙ clear-clears (lentBy h) e
 
 pub demand3 : Demand3

@@ -166,7 +166,7 @@ sound-clearedTables =
     (ap sound decoded-cleared ∙ sound-cleared)
 
 -- what tables say has the right number of places, and clearing asks no more
-clear-accepted : (l : Lent) → refusalOf (decoded l) clear ≡ 0
+pub clear-accepted : (l : Lent) → refusalOf (decoded l) clear ≡ 0
 unfolding refusalOf table refusal fault isClear rows
 clear-accepted l = rw (places-right l)
 

@@ -1,28 +1,25 @@
 -- What holds of the tables and the ledger side by side: after a change, after a call. Assumes nothing.
 use Prim.Native.Nat.{ℕ}
-use mathlib.Core.Path.{_≡_, refl, sym, ap, _∙_, subst}
-use mathlib.Core.Bool.{Bool, true, false, not}
+use mathlib.Core.Path.{_≡_, refl, sym, ap, _∙_}
+use mathlib.Core.Bool.{true, false}
 use mathlib.Core.List.{List, [], _∷_, head?}
-use lib.Dec.{eqb}
-use borrow.Author.Tests.{eqb-true}
 use Rattle.lists.specs.Lists.{first}
-use Rattle.lists.proofs.Bools.{and-fst, and-snd, cond-true, split}
+use Rattle.lists.proofs.Bools.{and-fst, and-snd}
 use Rattle.lists.proofs.Lists.{first-keep}
 use Rattle.rules.specs.Types.{Queue, Process, Thread, Call, clear, addProcess, sigqueue, take, Kind, clearing, adding}
 use Rattle.rules.specs.Types.{queueing, taking, other, kindOf}
-use Rattle.rules.specs.View.{View, Change, newProcess, newThread, inQueue}
+use Rattle.rules.specs.View.{Change, newProcess, newThread, inQueue}
 use Rattle.rules.specs.Store.{Store, cleared, view, recordsFor, apply, applyAll}
 use Rattle.rules.specs.Sound.{freeZero, sound}
 use Rattle.rules.specs.Adding.{addProcessChanges}
 use Rattle.rules.specs.Refusals.{refusalOf}
-use Rattle.rules.specs.Calls.{changes, stages, step, isRefused}
+use Rattle.rules.specs.Calls.{changes}
 use Rattle.rules.specs.Fitting.{fits, fitsAll}
 use Rattle.rules.specs.Machine.{machine}
 use Rattle.rules.proofs.Clauses.{clauses}
 use Rattle.rules.proofs.Cleared.{sound-cleared}
 use Rattle.rules.proofs.ChangesSound.{fits-keeps}
 use Rattle.rules.proofs.StaysSound.{adds, isAddProcess, call-fits, accepted-sound-after}
-use Rattle.rules.proofs.Refused.{refused-by-table, refused-keeps}
 use Rattle.rules.proofs.Steps.{accepted-step}
 use Rattle.history.specs.Ledger.{Ledger, emptyLedger, ledgerView, place}
 use Rattle.history.proofs.Notes.{note, noteAll}

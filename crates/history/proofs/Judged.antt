@@ -2,14 +2,14 @@
 use Prim.Native.Nat.{ℕ}
 use mathlib.Core.Path.{_≡_, refl, sym, ap, _∙_, subst}
 use mathlib.Core.Bool.{Bool, true, false, not, _&&_, _||_, cond}
-use mathlib.Core.List.{List, [], _∷_, _++_, head?, tail}
+use mathlib.Core.List.{List, [], _∷_, head?, tail}
 use mathlib.Core.Option.{Option, some, none}
 use native.Mathlib.Omega.{arith}
 use lib.Dec.{eqb}
 use borrow.Author.Tests.{eq-eqb}
 use Rattle.limits.specs.Limits.{SIGKILL, SIGCONT, SIGSTOP, sigDfl}
 use Rattle.lists.specs.Lists.{any, isSome, All}
-use Rattle.lists.proofs.Bools.{split, and-both, cond-true}
+use Rattle.lists.proofs.Bools.{and-both, cond-true}
 use Rattle.lists.proofs.Lists.{All-append, All-imp}
 use Rattle.sigset.specs.Set.{isUnmaskable}
 use Rattle.types.specs.declared.Action.{Action}
@@ -21,15 +21,15 @@ use Rattle.rules.specs.Types.{Thread, Queue, Next, noNext, nextMark, nextRecord
 use Rattle.rules.specs.Types.{endProcess, endThread, kill, sigqueue, sigaction, sigmask, sigpending, look, who, take}
 use Rattle.rules.specs.Types.{sigreturn}
 use Rattle.rules.specs.Signals.{outcome, ignoring, stopSignal, ignored}
-use Rattle.rules.specs.View.{View, queueOf, sameQueue, belongsTo, liveThread, theThread, threadAction, pendingIn}
-use Rattle.rules.specs.Taking.{next, resets, markInfo, delivered, takeAnswer}
+use Rattle.rules.specs.View.{View, queueOf, belongsTo, liveThread, theThread, threadAction, pendingIn}
+use Rattle.rules.specs.Taking.{next, markInfo, delivered, takeAnswer}
 use Rattle.rules.specs.Calls.{reply}
 use Rattle.rules.proofs.Asking.{next-record, next-mark}
 use Rattle.rules.proofs.Marks.{same-queue}
 use Rattle.history.specs.Ledger.{Line, Ledger, ledgerView, isAt, withMark}
-use Rattle.history.specs.Acts.{Act, kept, marked, tookSend, tookMark, emptied, takeSend, play, isDropped, isAbsorbed}
-use Rattle.history.specs.Acts.{arrival, jobEvents, sendActs, storeActs, endActs, endsProcess, setsOff, takeActs}
-use Rattle.history.specs.Acts.{acts, sent, threadEnds, processEnds}
+use Rattle.history.specs.Acts.{Act, kept, marked, tookSend, tookMark, emptied, takeSend, play, isDropped}
+use Rattle.history.specs.Acts.{isAbsorbed, arrival, jobEvents, sendActs, storeActs, endActs, endsProcess, isReset}
+use Rattle.history.specs.Acts.{setsOff, takeActs, acts, sent, threadEnds, processEnds}
 use Rattle.history.specs.Demand3.{TookSend, TookMark, Right, RightActs, AnswerBy, AnswersBy}
 
 -- ---- acts that take nothing
@@ -101,7 +101,7 @@ off-quiet : (t : Thread) (a : Action) (s : ℕ) → All Quiet (setsOff t a s)
 unfolding setsOff
 off-quiet t a s =
     event-quiet (eqb (a .handler) sigDfl) _ _ (event-quiet (endsProcess (outcome s)) _ _ (tt, tt) tt)
-    (event-quiet (resets a s && ignoring s) _ _ (tt, tt) tt)
+    (event-quiet (isReset a s && ignoring s) _ _ (tt, tt) tt)
 
 -- ---- a call takes nothing, or is a take
 
@@ -186,11 +186,14 @@ module _ (k : Ledger) (t : ℕ) (l : liveThread (ledgerView k) t ≡ true) where
     take-right noNext e = tt
     take-right (nextMark q s) e =
         (subst (λ (m : ℕ). TookMark k m q s) (sym i) (mark-right q s e), sets-off s (play (tookMark (it .id) q s) k))
-    take-right (nextRecord q s r) e =
-        (subst (λ (m : ℕ). TookSend k m q s r) (sym i) (send-right q s r e), sets-off s (play (tookSend (it .id) q s r) k))
+    take-right (nextRecord q s r) e = (
+      subst (λ (m : ℕ). TookSend k m q s r) (sym i) (send-right q s r e),
+      sets-off s (play (tookSend (it .id) q s r) k),
+    )
 
     -- the answer is by the thread that the act names
-    by-thread : (s : ℕ) (r : Siginfo) → AnswerBy v (Accepted (Taken (delivered it (threadAction v it s) r))) (it .id) s r
+    by-thread : (s : ℕ) (r : Siginfo)
+        → AnswerBy v (Accepted (Taken (delivered it (threadAction v it s) r))) (it .id) s r
     by-thread s r =
         ap (λ (x : Thread). Accepted (Taken (delivered x (threadAction v x s) r))) (sym (ap (theThread v) i))
 

@@ -19,27 +19,28 @@ use Rattle.types.specs.declared.Reply.the-variants.{Sent}
 use Rattle.types.specs.declared.Answer.{Answer}
 use Rattle.types.specs.declared.Answer.the-variants.{Accepted}
 use Rattle.rules.specs.Types.{Call, kill, sigqueue}
-use Rattle.rules.specs.View.{View, Change, removeProcess, setStopped, discard, liveProcess, theProcess}
-use Rattle.rules.specs.Store.{Store, view, applyAll}
-use Rattle.rules.specs.Sending.{generation, infoOf, jobControl, sendChanges, sendAnswer, needsRecord}
-use Rattle.rules.specs.Refusals.{overLast, noProcessLive, mayNot, noRoom, rows, isClear}
+use Rattle.rules.specs.View.{View, Change, removeProcess, setStopped, discard, liveProcess}
+use Rattle.rules.specs.Store.{applyAll}
+use Rattle.rules.specs.Sending.{generation, infoOf, jobControl, sendChanges, sendAnswer}
+use Rattle.rules.specs.Refusals.{overLast, noProcessLive, mayNot, rows, isClear}
 use Rattle.rules.specs.Calls.{send, changes, reply}
-use Rattle.rules.proofs.RefusalTable.{Off, none-given}
+use Rattle.rules.specs.Machine.{machine}
+use Rattle.rules.proofs.RefusalTable.{Off, none-given, room-for}
 use Rattle.rules.proofs.Marks.{process-named}
 use Rattle.rules.proofs.Queues.{target-process}
 use Rattle.rules.proofs.Steps as steps
 use Rattle.queue.specs.Queue.{slotsOf}
-use Rattle.sound.specs.Lent.{Lent, decoded, viewOf}
-use Rattle.answers.specs.Step.{refusalOn}
+use Rattle.sound.specs.Lent.{Lent, decoded, viewOf, soundTables}
+use Rattle.answers.specs.Step.{refusalOn, stepOn}
 use Rattle.answers.proofs.Endings.{rows-given, rows-sound, accepted-rules, accepted-step}
 use Rattle.boundary.specs.Boundary.{Arguments, callsOf, isCall, numbered, written, accepted, serveOn}
 use Rattle.rrezhbuta.specs.Entry.{Host, lentBy, callOn}
-use Rattle.history.specs.Demand1.{isSend, InWidth, MaySend, Ended}
+use Rattle.history.specs.Demand1.{isSend, InWidth, MaySend, Ended, Stopped}
 use Rattle.history.proofs.Widths.{Widths}
-use Rattle.history.proofs.Encoded.{decoded-on}
+use Rattle.history.proofs.Encoded.{decoded-on, sound-on}
 use Rattle.history.proofs.Entry.{numbered-machine, served-accepted, entry-words, entry-tables}
 use Rattle.history.proofs.Returns.{accepted-errno, has-room}
-use Rattle.history.proofs.Ended.{ended, stopped-live, stopped-now}
+use Rattle.history.proofs.Ended.{ended, stopped}
 
 -- ---- the two sends
 
@@ -63,11 +64,10 @@ each-send g P k q = each-number (λ (n : ℕ). P (numbered n g)) k q
 
 -- ---- what it does in the rules
 
--- KILL and STOP are no numbers over the last, and need no room
-unmaskable-row : (v : View) (to t s : ℕ) → isUnmaskable s ≡ true → (overLast s ≡ false) × (noRoom v to t s ≡ false)
-unfolding overLast noRoom generation needsRecord
-unmaskable-row v to t =
-    each-unmaskable (λ (s : ℕ). (overLast s ≡ false) × (noRoom v to t s ≡ false)) (refl, refl) (refl, refl)
+-- KILL and STOP are no numbers over the last
+within-last : (s : ℕ) → isUnmaskable s ≡ true → overLast s ≡ false
+unfolding overLast
+within-last = each-unmaskable (λ (s : ℕ). overLast s ≡ false) refl refl
 
 module _ (v : View) (by to t value : ℕ) where
   -- both sends of them answer "acted"
@@ -121,12 +121,13 @@ module _ (h : Host) (n : ℕ) (g : Arguments) (e : isSend n ≡ true) (u : isUnm
   send-accepted : refusalOn c l ≡ 0
   unfolding isClear rows noProcessLive mayNot
   send-accepted =
-      let row = unmaskable-row (viewOf l) (g .b) (g .c) (g .d) u in
+      let last = within-last (g .d) u in
+      let room = room-for (viewOf l) (g .b) (g .c) (g .d) u in
       let live = or-both (ap not (m .sender)) (m .target) in
       let may = ap not (m .allowed) in
       each-send g (λ (k : Call). refusalOn k l ≡ 0)
-      (not-refused (kill (g .a) (g .b) (g .c) (g .d)) refl (row .0, (live, (may, tt))))
-      (not-refused (sigqueue (g .a) (g .b) (g .c) (g .d) (g .x)) refl (row .0, (live, (may, (row .1, tt))))) n e
+      (not-refused (kill (g .a) (g .b) (g .c) (g .d)) refl (last, (live, (may, tt))))
+      (not-refused (sigqueue (g .a) (g .b) (g .c) (g .d) (g .x)) refl (last, (live, (may, (room, tt))))) n e
 
   -- it is answered "acted"
   send-acts : reply (viewOf l) c ≡ Sent Acted
@@ -163,12 +164,20 @@ module _ (h : Host) (n : ℕ) (g : Arguments) (e : isSend n ≡ true) (u : isUnm
           processBuffer = fits-slots bufferRecords (h .processBuffer) (w .processBuffer);
         }
 
-    -- the tables say the store that its changes leave
+    machine-call : machine c ≡ true
+    machine-call = numbered-machine n g (w .arguments)
+
+    -- the host's tables are those that the call leaves; they are sound, and say the store that its changes leave
+    call-tables : lentBy (callOn n g h .0) ≡ stepOn c l .0
+    call-tables = entry-tables n g h machine-call ∙ ap (λ (x : Lent × Answer). x .0) (served-accepted n g h taken-up)
+
+    call-sound : soundTables (lentBy (callOn n g h .0)) ≡ true
+    call-sound = ap soundTables call-tables ∙ sound-on c l machine-call (m .sound) record-widths
+
     call-changes : decoded (lentBy (callOn n g h .0)) ≡ applyAll (changes (viewOf l) c) (decoded l)
     call-changes =
-        ap decoded (entry-tables n g h (numbered-machine n g (w .arguments))
-        ∙ ap (λ (x : Lent × Answer). x .0) (served-accepted n g h taken-up))
-        ∙ decoded-on c l (numbered-machine n g (w .arguments)) (m .sound) record-widths
+        ap decoded call-tables
+        ∙ decoded-on c l machine-call (m .sound) record-widths
         ∙ steps.accepted-step c (decoded l) (accepted-rules c l send-accepted)
 
     -- the same of changes that are known
@@ -183,17 +192,11 @@ module _ (h : Host) (n : ℕ) (g : Arguments) (e : isSend n ≡ true) (u : isUnm
     pub call-kills : g .d ≡ SIGKILL → Ended (lentBy (callOn n g h .0)) (g .b)
     unfolding applyAll
     call-kills k =
-        ended (lentBy (callOn n g h .0)) (decoded l) (g .b) (process-named (decoded l) (g .b) target-live)
+        ended (lentBy (callOn n g h .0)) (decoded l) (g .b) call-sound (process-named (decoded l) (g .b) target-live)
         (changed-by (killing (g .b)) (kill-changes (viewOf l) g n e k))
 
     -- "STOP .. stops it"
-    pub call-stops : g .d ≡ SIGSTOP
-        → (liveProcess (viewOf (lentBy (callOn n g h .0))) (g .b) ≡ true)
-        × (theProcess (viewOf (lentBy (callOn n g h .0))) (g .b) .stopped ≡ 1)
+    pub call-stops : g .d ≡ SIGSTOP → Stopped (lentBy (callOn n g h .0)) (g .b)
     call-stops k =
-        let after = changed-by (stopping (g .b)) (stop-changes (viewOf l) g n e k) in (
-          ap (λ (st : Store). liveProcess (view st) (g .b)) after
-              ∙ stopped-live (decoded l) (g .b) (ofSignal SIGCONT) target-live,
-          ap (λ (st : Store). theProcess (view st) (g .b) .stopped) after
-              ∙ stopped-now (decoded l) (g .b) (ofSignal SIGCONT) target-live,
-        )
+        stopped (decoded l) (g .b) target-live (lentBy (callOn n g h .0))
+        (changed-by (stopping (g .b)) (stop-changes (viewOf l) g n e k))

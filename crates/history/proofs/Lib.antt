@@ -18,6 +18,7 @@ pub mod Played
 pub mod Judged
 pub mod Tallied
 pub mod Turns
+pub mod Said
 pub mod Answered
 pub mod Looks
 pub mod Demand3

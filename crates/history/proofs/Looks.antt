@@ -108,7 +108,8 @@ module _ (h : Host) where
   abbrev lies : Store
   lies = decoded (lentBy h)
 
-  thread-slot : (i : ℕ) → i < bufferRecords → bytesAt h (slotNumber (threadSlot i)) ≡ partBytes (lentBy h) (threadSlot i)
+  thread-slot : (i : ℕ) → i < bufferRecords
+      → bytesAt h (slotNumber (threadSlot i)) ≡ partBytes (lentBy h) (threadSlot i)
   unfolding bytesAt slotNumber partBytes
   thread-slot i l = cond-true _ _ (lt-ltb i bufferRecords l)
 
@@ -129,8 +130,11 @@ module _ (h : Host) where
       (λ z.
       let rs : List Siginfo = used (slotsOf (h .threadBuffer)) in
       rw z (thread-slot (find (inQueue q s) rs)
-      (omega (arith, any-inside (inQueue q s) rs (length rs) refl (some-first (inQueue q s) rs r (rw z at e)),
-      length-slots (h .threadBuffer)))))
+      (omega (
+        arith,
+        any-inside (inQueue q s) rs (length rs) refl (some-first (inQueue q s) rs r (rw z at e)),
+        length-slots (h .threadBuffer),
+      ))))
 
   next-slot : (n : Next)
       → ((q : Queue) (s : ℕ) (r : Siginfo) → n ≡ nextRecord q s r → first (inQueue q s) (recordsFor q lies) ≡ some r)
@@ -152,6 +156,7 @@ module _ (h : Host) where
     where
       coming : Next
       coming = next (view lies) (theThread (view lies) t)
+
       part-slot : (b : Bool) → bytesAt h (slotNumber (cond b (partOf lies coming) emptyPart))
           ≡ partBytes (lentBy h) (cond b (partOf lies coming) emptyPart)
       part-slot true = next-slot coming (λ q s r e. next-record (view lies) (theThread (view lies) t) q s r e .1)

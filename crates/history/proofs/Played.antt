@@ -2,38 +2,38 @@
 -- away that no act does. Assumes nothing.
 use Prim.Native.Nat.{ℕ, _+_}
 use mathlib.Core.Path.{_≡_, refl, sym, ap, _∙_, subst}
-use mathlib.Core.Bool.{Bool, true, false, not, _&&_, _||_, cond}
+use mathlib.Core.Bool.{Bool, true, false, not, _&&_, cond}
 use mathlib.Core.List.{List, [], _∷_, _++_, map, append-nil}
 use mathlib.Core.Option.{Option, some, none}
-use native.Mathlib.Omega.{arith}
 use lib.Dec.{eqb, leb}
 use lib.ListN.{length}
 use borrow.Author.Tests.{eqb-true, leb-true, le-leb}
-use Rattle.limits.specs.Limits.{signals, SIGKILL, SIGCONT, SIGSTOP, SIGCHLD, SIGTSTP, SIGTTIN, SIGTTOU, SIGURG, SIGWINCH}
-use Rattle.limits.specs.Limits.{sigDfl, sigSetmask}
+use Rattle.limits.specs.Limits.{signals, SIGKILL, SIGCONT, SIGSTOP, SIGCHLD, SIGTSTP, SIGTTIN, SIGTTOU, SIGURG}
+use Rattle.limits.specs.Limits.{SIGWINCH, sigDfl, sigSetmask}
 use Rattle.lists.specs.Lists.{any, change, keep, range, sum}
-use Rattle.lists.proofs.Bools.{split, clash, and-fst, and-snd, and-both, or-cases, or-both, cond-true, cond-false}
+use Rattle.lists.proofs.Bools.{split, clash, and-fst, and-snd, and-both, or-cases}
 use Rattle.sigset.specs.declared.SigSet.{SigSet}
 use Rattle.sigset.specs.Set.{Signal, has, setOf, ofSignal}
 use Rattle.sigset.proofs.Laws.{has-set, has-beyond, set-lt}
 use Rattle.types.specs.declared.Action.{Action}
 use Rattle.types.specs.declared.Siginfo.{Siginfo}
-use Rattle.rules.specs.Types.{Process, Thread, Queue, Next, noNext, nextMark, nextRecord, Call, clear, addProcess, addThread}
-use Rattle.rules.specs.Types.{endProcess, endThread, kill, sigqueue, sigaction, sigmask, sigpending, look, who, take}
-use Rattle.rules.specs.Types.{sigreturn}
+use Rattle.rules.specs.Types.{Process, Thread, Queue, Next, noNext, nextMark, nextRecord, Call, clear, addProcess}
+use Rattle.rules.specs.Types.{addThread, endProcess, endThread, kill, sigqueue, sigaction, sigmask, sigpending, look}
+use Rattle.rules.specs.Types.{who, take, sigreturn}
 use Rattle.rules.specs.Signals.{Outcome, ignores, stops, continues, ends, outcome, ignoring, stopSignal, ignored}
-use Rattle.rules.specs.View.{View, Change, setStopped, setAction, setMask, setMark, processQueue, append, discard, isThread, targetQueue, actionOf}
-use Rattle.rules.specs.View.{theProcess, theThread, threadAction, threadQueue}
+use Rattle.rules.specs.View.{View, Change, setStopped, setAction, setMask, setMark, processQueue, append, discard}
+use Rattle.rules.specs.View.{isThread, targetQueue, actionOf, theProcess, theThread, threadAction, threadQueue}
 use Rattle.rules.specs.Store.{withMask, isFreeProcess, isFreeThread}
-use Rattle.rules.specs.Sending.{Generation, generation, absorbs, infoOf, jobControl, sendChanges}
+use Rattle.rules.specs.Sending.{generation, absorbs, infoOf, jobControl, sendChanges}
 use Rattle.rules.specs.Actions.{stored, storeChanges, actionChanges, maskChanges}
 use Rattle.rules.specs.Taking.{next, handlerMask, resets, reset, resetChanges, outcomeChanges, deliver, takeChanges}
 use Rattle.rules.specs.Adding.{addProcessChanges, addThreadChanges, otherThread, endThreadChanges}
 use Rattle.rules.specs.Calls.{send, changes}
 use Rattle.history.specs.Ledger.{Ledger, queues, pendingWhere, onLines, withTotal, place, placeAll}
-use Rattle.history.specs.Acts.{processEnds, tookSend, tookMark, emptyLine, stopSent, contSent, nowIgnored, empties, Act, kept, marked, emptied}
-use Rattle.history.specs.Acts.{emptying, play, playAll, sent, isDropped, isAbsorbed, arrival, jobEvents, sendActs}
-use Rattle.history.specs.Acts.{storeActs, endActs, endsProcess, setsOff, takeActs, acts}
+use Rattle.history.specs.Acts.{processEnds, tookSend, tookMark, emptyLine, stopSent, contSent, nowIgnored}
+use Rattle.history.specs.Acts.{empties, Act, kept, marked, emptied, emptying, play, playAll, sent, isDropped}
+use Rattle.history.specs.Acts.{isAbsorbed, arrival, jobEvents, sendActs, storeActs, endActs, endsProcess, isReset}
+use Rattle.history.specs.Acts.{setsOff, takeActs, acts}
 use Rattle.history.proofs.Notes.{ofSignals, note, noteAll}
 
 -- ---- sets by their tests
@@ -157,14 +157,16 @@ module _ (v : View) (l : Ledger) (by to t value : ℕ) where
   -- no more than job control
   only-job : (s : ℕ) → eqb s SIGKILL ≡ false → Same l (jobControl to s) (jobEvents to s ++ [])
   only-job s k =
-      ap (λ (xs : List Act). placeAll (jobControl to s) (playAll xs l)) (append-nil (jobEvents to s)) ∙ job-alone l to s k
+      ap (λ (xs : List Act). placeAll (jobControl to s) (playAll xs l)) (append-nil (jobEvents to s))
+      ∙ job-alone l to s k
 
   tested : (queued : Bool) → Sent queued 0
   unfolding generation sendChanges infoOf sendActs sent jobEvents stopSignal arrival placeAll playAll noteAll
   tested queued = refl
 
   killed : (queued : Bool) → Sent queued SIGKILL
-  unfolding generation sendChanges infoOf sendActs sent jobEvents arrival placeAll place playAll play empties noteAll note
+  unfolding generation sendChanges infoOf sendActs sent jobEvents arrival placeAll place playAll play empties noteAll
+      note
   killed queued = refl
 
   stopped : (queued : Bool) → Sent queued SIGSTOP
@@ -230,7 +232,8 @@ masked-queues n m (t ∷ ts) =
     (λ f. rw f (masked-queues n m ts))
     (λ f. rw f (ap (λ (qs : List Queue). threadQueue t ∷ qs) (masked-queues n m ts)))))
 
-masked-pending : (n : ℕ) (m : SigSet) (l : Ledger) (p : Where) → pendingWhere (place (setMask n m) l) p ≡ pendingWhere l p
+masked-pending : (n : ℕ) (m : SigSet) (l : Ledger) (p : Where)
+    → pendingWhere (place (setMask n m) l) p ≡ pendingWhere l p
 unfolding pendingWhere queues place
 masked-pending n m l p =
     ap (λ (qs : List Queue). sum (λ q. sum (λ s. cond (p q s) (length (l .lines q s .sends)) 0) (range 1 signals))
@@ -264,8 +267,8 @@ module _ (l : Ledger) (t : Thread) (s : ℕ) where
         (sym (masked-pending (t .id) m l (ofSignals (t .process) (ofSignal s))))
 
     reset-played : (a : Action) → Same l (masks ∷ resetChanges (t .process) s a)
-        (cond (resets a s && ignoring s) (emptied (nowIgnored (t .process) s) ∷ []) [])
-    unfolding resetChanges storeChanges reset ignored placeAll place playAll noteAll note
+        (cond (isReset a s && ignoring s) (emptied (nowIgnored (t .process) s) ∷ []) [])
+    unfolding resetChanges storeChanges resets isReset reset ignored placeAll place playAll noteAll note
     reset-played a =
         split (resets a s)
         (λ e. rw e (split (ignoring s) (λ i. rw i (reset-emptied (reset a) i)) (λ i. rw i)))

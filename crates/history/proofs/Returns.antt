@@ -16,20 +16,22 @@ use Rattle.types.specs.declared.Answer.{Answer}
 use Rattle.types.specs.declared.Answer.the-variants.{Refused}
 use Rattle.rules.specs.Types.{Call, clear}
 use Rattle.rules.specs.View.{View}
-use Rattle.rules.specs.Refusals.{refusal, rows, isClear, fault, table, refusalOf}
 use Rattle.rules.specs.Actions.{actionChanges, maskChanges}
 use Rattle.rules.specs.Calls.{changes}
 use Rattle.rules.proofs.RefusalTable.{only-listed}
 use Rattle.sound.specs.Lent.{Lent, decoded, viewOf, lengthsAre}
 use Rattle.answers.specs.Step.{refusalOn, stepOn}
-use Rattle.answers.proofs.Endings.{places-right, accepted-step, refused-answer, refused-tables, tables-same}
+use Rattle.answers.proofs.Endings.{accepted-step, refused-answer, refused-tables, tables-of}
+use Rattle.calls.proofs.Asked.{asked}
 use Rattle.boundary.specs.Boundary.{Arguments, callsOf, isCall, numbered, wordsOf, errnoOf, written, usable, accepted}
 use Rattle.boundary.specs.Boundary.{serveOn, servedBy, served}
 use Rattle.boundary.proofs.Numbers.{none-given, at-number}
 use Rattle.threads.specs.Records.{recordsOf}
 use Rattle.threads.proofs.Words.{records-back}
 use Rattle.rrezhbuta.specs.Entry.{Host, host, lentBy, handedBack, callOn}
+use Rattle.history.specs.History.{lending}
 use Rattle.history.specs.Demand1.{isListed, onlyAsks}
+use Rattle.history.proofs.Encoded.{clear-accepted}
 use Rattle.history.proofs.Entry.{served-accepted, served-not, entry-returned, entry-words}
 
 -- ---- what is returned
@@ -40,7 +42,7 @@ inTable n = eqb n 0 || isListed n
 
 module _ (c : Call) (l : Lent) where
   -- a call on the tables returns its refusal
-  step-errno : errnoOf (stepOn c l .1) ≡ refusalOn c l
+  pub step-errno : errnoOf (stepOn c l .1) ≡ refusalOn c l
   unfolding errnoOf
   step-errno =
       let r = refusalOn c l in
@@ -54,14 +56,6 @@ module _ (c : Call) (l : Lent) where
   step-listed : inTable (refusalOn c l) ≡ true
   unfolding refusalOn any
   step-listed = split (lengthsAre l) (λ k. rw k (only-listed (decoded l) c)) (λ k. rw k)
-
-  -- a call that changes nothing leaves the tables, refused or not
-  step-same : Bytes (l .threadBuffer) → Bytes (l .processBuffer) → changes (viewOf l) c ≡ [] → stepOn c l .0 ≡ l
-  step-same bt bp h =
-      let r = refusalOn c l in
-      split (eqb r 0)
-      (λ k. sym (tables-same c l (eqb-true r 0 k) bt bp h))
-      (λ k. sym (refused-tables c l (eqb-false r 0 k)))
 
 -- so have 22 and 14
 turned-away : (b : Bool) → inTable (errnoOf (Refused (cond b EINVAL EFAULT))) ≡ true
@@ -96,9 +90,7 @@ module _ (h : Host) (n : ℕ) (g : Arguments) where
   -- ---- what is left
 
   -- where the tables are as they were, so is all but the words for the answer
-  all-but-words : outcome .0 ≡ lentBy h
-      → callOn n g h .0
-      ≡ host (h .processes) (h .threadBuffer) (h .processBuffer) (callOn n g h .0 .answer) (h .threads)
+  all-but-words : outcome .0 ≡ lentBy h → callOn n g h .0 ≡ lending (callOn n g h .0 .answer) h
   unfolding callOn handedBack served servedBy
   all-but-words e =
       let out = written (outcome .1) (h .answer) in
@@ -127,7 +119,7 @@ module _ (h : Host) (n : ℕ) (g : Arguments) where
     pub call-refused : callOn n g h .0 ≡ h
     call-refused =
         all-but-words refused-left
-        ∙ ap (λ (ws : List ℕ). host (h .processes) (h .threadBuffer) (h .processBuffer) ws (h .threads)) refused-words
+        ∙ ap (λ (ws : List ℕ). lending ws h) refused-words
 
 -- ---- calls that only ask
 
@@ -179,13 +171,12 @@ module _ (h : Host) (n : ℕ) (g : Arguments) (bt : Bytes (h .threadBuffer)) (bp
       split (accepted n (length (h .answer)))
       (λ k.
       ap (λ (x : Lent × Answer). x .0) (served-accepted n g h k)
-      ∙ step-same (numbered n g) (lentBy h) bt bp (asks (viewOf (lentBy h)) g n e))
+      ∙ sym (tables-of (asked (numbered n g) (lentBy h) (stepOn (numbered n g) (lentBy h) .1) refl bt bp
+      (asks (viewOf (lentBy h)) g n e))))
       (λ k. ap (λ (x : Lent × Answer). x .0) (served-not n g h k))
 
-  pub call-asking : (lentBy (callOn n g h .0) ≡ lentBy h) × (callOn n g h .0 .threads ≡ h .threads)
-  call-asking =
-      let same = all-but-words h n g asking-left in
-      (ap lentBy same, ap (λ (x : Host). x .threads) same)
+  pub call-asking : callOn n g h .0 ≡ lending (callOn n g h .0 .answer) h
+  call-asking = all-but-words h n g asking-left
 
 -- ---- clearing
 
@@ -196,8 +187,8 @@ has-room n room e l = and-both e (ap not (le-ltb room answerWords l))
 
 -- "clearing checks lengths only"
 clear-refusal : (l : Lent) → lengthsAre l ≡ true → refusalOn clear l ≡ 0
-unfolding refusalOn refusalOf table refusal fault rows isClear
-clear-refusal l e = rw (e, places-right l)
+unfolding refusalOn
+clear-refusal l e = rw e (clear-accepted l)
 
 -- so a host's clearing returns 0
 pub call-clears : (h : Host) (g : Arguments) → lengthsAre (lentBy h) ≡ true → answerWords ≤ length (h .answer)

@@ -1,7 +1,7 @@
 -- The ledger's totals: what was kept is what was taken, what was discarded, and what the buffers hold;
 -- each change keeps it so. Assumes nothing.
-use Prim.Native.Nat.{ℕ, _+_, _≤_}
-use mathlib.Core.Path.{_≡_, refl, sym, ap, ap₂, _∙_}
+use Prim.Native.Nat.{ℕ, _+_}
+use mathlib.Core.Path.{_≡_, sym, ap, ap₂, _∙_}
 use mathlib.Core.Bool.{Bool, true, not, cond}
 use mathlib.Core.List.{List, [], _∷_, _++_}
 use native.Mathlib.Omega.{arith}
@@ -10,8 +10,7 @@ use lib.ListN.{length, length-append}
 use Rattle.limits.specs.Limits.{bufferRecords}
 use Rattle.lists.specs.Lists.{all, any, count, keep, dropFirst}
 use Rattle.lists.proofs.Bools.{split}
-use Rattle.lists.proofs.Lists.{all-end, any-count, count-keep, count-not, isSome-first, leading-replicate}
-use Rattle.lists.proofs.Lists.{length-dropFirst}
+use Rattle.lists.proofs.Lists.{all-end, count-keep, count-not, isSome-first, leading-replicate, length-dropFirst}
 use Rattle.lists.proofs.Sublists.{keep-within, dropFirst-within, all-within}
 use Rattle.types.specs.declared.Siginfo.{Siginfo}
 use Rattle.types.specs.Values.{noSiginfo}

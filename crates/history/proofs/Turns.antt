@@ -1,17 +1,14 @@
 -- The tables and the ledger hold side by side after the turns of a call, and its acts are right. Assumes nothing.
-use Prim.Native.Nat.{ℕ, _≤_}
-use mathlib.Core.Path.{_≡_, refl, sym, ap, _∙_, subst}
-use mathlib.Core.Bool.{Bool, true, false}
-use mathlib.Core.List.{List, [], _∷_, _++_, append-nil}
-use mathlib.Core.Option.{Option}
+use Prim.Native.Nat.{ℕ}
+use mathlib.Core.Path.{_≡_, sym, ap, _∙_, subst}
+use mathlib.Core.Bool.{true}
+use mathlib.Core.List.{append-nil}
 use native.Mathlib.Omega.{arith}
 use lib.Dec.{eqb}
 use borrow.Author.Tests.{eqb-false, ltb-false, not-false}
 use Rattle.limits.specs.Limits.{signals}
-use Rattle.lists.specs.Lists.{All, isSome}
+use Rattle.lists.specs.Lists.{All}
 use Rattle.lists.proofs.Bools.{or-fst-false, or-snd-false}
-use Rattle.sigset.specs.Set.{Signal, isUnmaskable}
-use Rattle.types.specs.declared.Action.{Action}
 use Rattle.types.specs.declared.Answer.the-variants.{Accepted}
 use Rattle.rules.specs.Types.{Call, sigaction, take}
 use Rattle.rules.specs.View.{View, liveThread, theThread}
@@ -21,8 +18,8 @@ use Rattle.rules.specs.Machine.{machine}
 use Rattle.rules.specs.Calls.{changes, reply}
 use Rattle.rules.proofs.Marks.{the-thread-id}
 use Rattle.rules.proofs.RefusalTable.{accepted-off}
-use Rattle.history.specs.Ledger.{Ledger, ledgerView, placeAll}
-use Rattle.history.specs.Acts.{Act, playAll, acts, turns, takeTurn, takeTurns, actsOf}
+use Rattle.history.specs.Ledger.{Ledger, ledgerView}
+use Rattle.history.specs.Acts.{acts, turns, takeTurn, takeTurns, actsOf}
 use Rattle.history.specs.Demand3.{RightTurns, AnswersBy}
 use Rattle.history.proofs.Notes.{noteAll}
 use Rattle.history.proofs.Holds.{Holds, same-view, holds-accepted}
@@ -62,8 +59,10 @@ module _ (c : Call) (st : Store) (k : Ledger) (e : refusalOf st c ≡ 0) (h : Ho
   unfolding turns
   right-turns = (judged k c taker, tt)
 
-  pub answers-turns : All (AnswersBy (ledgerView k) (Accepted (reply (ledgerView k) c))) (actsOf (turns (ledgerView k) c) k)
+  pub answers-turns : All (AnswersBy (ledgerView k) (Accepted (reply (ledgerView k) c)))
+      (actsOf (turns (ledgerView k) c) k)
   unfolding turns actsOf
   answers-turns =
-      subst (All (AnswersBy (ledgerView k) (Accepted (reply (ledgerView k) c)))) (sym (append-nil (acts (ledgerView k) c)))
+      subst (All (AnswersBy (ledgerView k) (Accepted (reply (ledgerView k) c))))
+      (sym (append-nil (acts (ledgerView k) c)))
       (answered-by k c taker)

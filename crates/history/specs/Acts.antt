@@ -6,7 +6,7 @@ use mathlib.Core.List.{List, [], _∷_, _++_, tail}
 use mathlib.Core.Option.{Option, some, none}
 use lib.Dec.{eqb}
 use lib.ListN.{length}
-use Rattle.limits.specs.Limits.{SIGKILL, SIGCONT, SIGSTOP, sigDfl, siQueue}
+use Rattle.limits.specs.Limits.{SIGILL, SIGTRAP, SIGKILL, SIGCONT, SIGSTOP, sigDfl, saResethand, siQueue}
 use Rattle.lists.specs.Lists.{any}
 use Rattle.sigset.specs.Set.{isUnmaskable}
 use Rattle.types.specs.declared.Action.{Action}
@@ -18,7 +18,8 @@ use Rattle.rules.specs.Signals as signals
 use Rattle.rules.specs.Signals.{standard, stopSignal, Outcome, ignores, stops, continues, ends, outcome, ignored}
 use Rattle.rules.specs.View.{View, Stage, belongsTo, queueOf, inQueue, actionOf, theProcess, theThread, threadAction}
 use Rattle.rules.specs.View.{pendingIn}
-use Rattle.rules.specs.Taking.{next, resets}
+use Rattle.rules.specs.Actions.{hasFlag}
+use Rattle.rules.specs.Taking.{next}
 use Rattle.rules.specs.Calls.{changes}
 use Rattle.history.specs.Ledger.{Line, Ledger, pendingWhere, ledgerView, onLines, withTotal, withMark, isAt}
 use Rattle.history.specs.Ledger.{placeAll}
@@ -139,12 +140,16 @@ endsProcess stops = false
 endsProcess continues = false
 endsProcess ends = true
 
+-- "RESETHAND .. sets the handler number to 0 ..; ILL 4 and TRAP 5 are not reset"
+unfoldable pub isReset : Action → (signal : ℕ) → Bool
+isReset a s = hasFlag a saResethand && not (eqb s SIGILL || eqb s SIGTRAP)
+
 -- what a taken signal sets off: by default the end, or a handler that is reset to an ignoring default
 unfoldable pub setsOff : Thread → Action → (signal : ℕ) → List Act
 setsOff t a s =
     cond (eqb (a .handler) sigDfl)
     (cond (endsProcess (outcome s)) (emptied (processEnds (t .process)) ∷ []) [])
-    (cond (resets a s && signals.ignoring s) (emptied (nowIgnored (t .process) s) ∷ []) [])
+    (cond (isReset a s && signals.ignoring s) (emptied (nowIgnored (t .process) s) ∷ []) [])
 
 module _ (v : View) where
   -- "process id 4, thread id 4 .., signal 4, code 4 (-1, queued), sender id 4, sender real user id 4, value 8"

@@ -3,12 +3,12 @@
 -- beforehand; SIGKILL and SIGSTOP are never turned away.
 use Prim.Native.Nat.{ℕ, _≤_}
 use mathlib.Core.Path.{_≡_}
-use mathlib.Core.Bool.{Bool, true, false, not, _&&_, _||_}
-use mathlib.Core.List.{List, []}
+use mathlib.Core.Bool.{Bool, true, false, _&&_, _||_}
+use mathlib.Core.List.{[]}
 use lib.Dec.{eqb}
 use lib.ListN.{length}
-use Rattle.limits.specs.Limits.{SIGKILL, SIGSTOP, answerWords, callClear, callKill, callSigqueue, callSigaction}
-use Rattle.limits.specs.Limits.{callSigmask, callSigpending, callLook, callWho}
+use Rattle.limits.specs.Limits.{SIGKILL, SIGCONT, SIGSTOP, answerWords, callClear, callKill, callSigqueue}
+use Rattle.limits.specs.Limits.{callSigaction, callSigmask, callSigpending, callLook, callWho}
 use Rattle.lists.specs.Lists.{any, keep}
 use Rattle.sigset.specs.Set.{isUnmaskable, has}
 use Rattle.siginfo.specs.Bytes.{Bytes}
@@ -16,14 +16,14 @@ use Rattle.types.specs.declared.Sent.the-variants.{Acted}
 use Rattle.types.specs.declared.Reply.the-variants.{Sent}
 use Rattle.types.specs.declared.Answer.the-variants.{Accepted}
 use Rattle.rules.specs.Types.{Queue}
-use Rattle.rules.specs.View.{View, belongsTo, inQueue, actionOf, liveProcess, theProcess, theThread}
+use Rattle.rules.specs.View.{belongsTo, inQueue, actionOf, liveProcess, theProcess, theThread, pendingIn}
 use Rattle.rules.specs.Store.{recordsFor, markIn}
 use Rattle.rules.specs.Sending.{maySignal}
 use Rattle.rules.specs.Refusals.{tableOrder, badTarget}
 use Rattle.sound.specs.Lent.{Lent, decoded, viewOf, lengthsAre, soundTables}
 use Rattle.boundary.specs.Boundary.{Arguments, written}
 use Rattle.rrezhbuta.specs.Entry.{Host, lentBy, callOn}
-use Rattle.history.specs.History.{machineArguments}
+use Rattle.history.specs.History.{lending, machineArguments}
 
 -- an errno of document 01's table
 abbrev pub isListed : ℕ → Bool
@@ -55,10 +55,18 @@ pub record MaySend (h : Host) (by to thread signal : ℕ) : Type 0 where
 
 -- "KILL ends the process: its threads, marks, records and actions go, places become zero."
 pub record Ended (l : Lent) (n : ℕ) : Type 0 where
+  -- of a sound store a place that is not live is all zero
+  pub sound : soundTables l ≡ true
   pub process : liveProcess (viewOf l) n ≡ false
   pub threads : any (belongsTo n) (viewOf l .threads) ≡ false
   pub marks : (q : Queue) (s : ℕ) → q .process ≡ n → markIn (decoded l) q s ≡ false
   pub records : (q : Queue) (s : ℕ) → q .process ≡ n → keep (inQueue q s) (recordsFor q (decoded l)) ≡ []
+
+-- "STOP discards every pending CONT of the process and stops it."
+pub record Stopped (l : Lent) (n : ℕ) : Type 0 where
+  pub live : liveProcess (viewOf l) n ≡ true
+  pub stopped : theProcess (viewOf l) n .stopped ≡ 1
+  pub noCont : (q : Queue) → q .process ≡ n → pendingIn (viewOf l) q SIGCONT ≡ false
 
 -- no mask, mark or action mask has the signal
 pub record NowhereMasked (l : Lent) (s : ℕ) : Type 0 where
@@ -71,9 +79,9 @@ pub record Demand1 : Type 0 where
   pub listed : (h : Host) (n : ℕ) (g : Arguments) → (eqb (callOn n g h .1) 0 || isListed (callOn n g h .1)) ≡ true
   -- "a refusal writes nothing": no table, and no word of the answer
   pub refused : (h : Host) (n : ℕ) (g : Arguments) → eqb (callOn n g h .1) 0 ≡ false → callOn n g h .0 ≡ h
-  -- a call that only asks leaves every table as it was
+  -- a call that only asks leaves all but the words of its answer as it was
   pub asking : (h : Host) (n : ℕ) (g : Arguments) → InWidth h g → onlyAsks n g ≡ true
-      → lentBy (callOn n g h .0) ≡ lentBy h × (callOn n g h .0 .threads ≡ h .threads)
+      → callOn n g h .0 ≡ lending (callOn n g h .0 .answer) h
   -- "nobody checks anything beforehand": clearing asks for lengths alone
   pub clears : (h : Host) (g : Arguments) → lengthsAre (lentBy h) ≡ true → answerWords ≤ length (h .answer)
       → callOn callClear g h .1 ≡ 0
@@ -86,8 +94,6 @@ pub record Demand1 : Type 0 where
       → MaySend h (g .a) (g .b) (g .c) (g .d) → Ended (lentBy (callOn n g h .0)) (g .b)
   -- "STOP .. stops it"
   pub stopped : (h : Host) (n : ℕ) (g : Arguments) → InWidth h g → isSend n ≡ true → g .d ≡ SIGSTOP
-      → MaySend h (g .a) (g .b) (g .c) (g .d)
-      → (liveProcess (viewOf (lentBy (callOn n g h .0))) (g .b) ≡ true)
-      × (theProcess (viewOf (lentBy (callOn n g h .0))) (g .b) .stopped ≡ 1)
+      → MaySend h (g .a) (g .b) (g .c) (g .d) → Stopped (lentBy (callOn n g h .0)) (g .b)
   -- in every sound store, so in every one that a list of calls reaches (Demand3's `sound`)
   pub unmaskable : (l : Lent) → soundTables l ≡ true → (s : ℕ) → isUnmaskable s ≡ true → NowhereMasked l s

@@ -13,7 +13,7 @@ use Rattle.types.specs.declared.Siginfo.{Siginfo}
 use Rattle.types.specs.declared.Reply.the-variants.{Taken}
 use Rattle.types.specs.declared.Answer.{Answer}
 use Rattle.types.specs.declared.Answer.the-variants.{Accepted}
-use Rattle.rules.specs.Types.{Thread, Queue, Call, kill}
+use Rattle.rules.specs.Types.{Queue, Call, kill}
 use Rattle.rules.specs.View.{View, inQueue, targetQueue, liveThread, theThread, threadAction}
 use Rattle.rules.specs.Store.{held, used, recordsFor, markIn}
 use Rattle.rules.specs.Sending.{generation, needsRecord}
@@ -25,10 +25,11 @@ use Rattle.answers.specs.Step.{encoded}
 use Rattle.boundary.specs.Boundary.{Arguments, errnoOf, written}
 use Rattle.rrezhbuta.specs.Entry.{Host, lentBy, callOn, lookAt, slotAt}
 use Rattle.history.specs.Ledger.{Ledger, ofProcess, ledgerView, ledgerRefusal, ledgerAnswer, pendingWhere}
-use Rattle.history.specs.Acts.{Act, kept, marked, tookSend, tookMark, emptied, play, Turn, turns, takeTurn, actsOf}
+use Rattle.history.specs.Acts.{Act, kept, marked, tookSend, tookMark, emptied, play, Turn, turns, takeTurn}
+use Rattle.history.specs.Acts.{actsOf}
 use Rattle.history.specs.Tally.{keptSince, takenSince, isKeep, keepsAt, isTake, takesAt}
 use Rattle.history.specs.History.{Past, Item, lending, after, cleared, machineItem, rowThread, heard, lookedBytes}
-use Rattle.history.specs.History.{bytesAt}
+use Rattle.history.specs.History.{bytesAt, isSent, isKept}
 
 -- ---- what a take is, on the ledger at its turn
 
@@ -129,7 +130,9 @@ module _ (h : Host) (k : Ledger) (done : List Act) where
     -- "Each taken record went once, to one thread of that process that did not block it,
     -- while the process was not stopped": of any call, every take, of marks too
     pub takes : (c : Call) → ledgerRefusal k c ≡ 0 → RightTurns (turns seen c) k
-    pub answersBy : (c : Call) → ledgerRefusal k c ≡ 0 → All (AnswersBy seen (ledgerAnswer k c)) (actsOf (turns seen c) k)
+    -- "and answers by it"
+    pub answersBy : (c : Call) → ledgerRefusal k c ≡ 0
+        → All (AnswersBy seen (ledgerAnswer k c)) (actsOf (turns seen c) k)
     -- "Asking a live thread for a signal yields one exactly when its process is not stopped and a signal that it does
     -- not block is pending for it or for its process."
     pub asking : (g : Arguments) (out : List ℕ) → answerWords ≤ length out → liveThread seen (g .a) ≡ true
@@ -146,6 +149,9 @@ module _ (h : Host) (k : Ledger) (done : List Act) where
     pub takenCounted : (q : Queue) (s : ℕ) → k .lines q s .counts .taken ≡ count (takesAt q s) done
     pub keptTotal : k .total .kept ≡ count isKeep done
     pub takenTotal : k .total .taken ≡ count isTake done
+    -- a send that is answered "kept" keeps one, and no other send does
+    pub keptSaid : (c : Call) → ledgerRefusal k c ≡ 0 → isSent (ledgerAnswer k c) ≡ true
+        → count isKeep (actsOf (turns seen c) k) ≡ cond (isKept (ledgerAnswer k c)) 1 0
     -- "and room given back is used again": a queued send is refused for room exactly when a plain one would pass,
     -- it needs a record, and the sends pending for the process are 32 then; they are never more
     pub room : (g : Arguments) (out : List ℕ) → answerWords ≤ length out

@@ -1,17 +1,20 @@
 -- A list of what a host does, from a `clear` on, and what the ledger is told of it.
 use Prim.Native.Nat.{ℕ, zero, suc, _-_}
-use mathlib.Core.Bool.{Bool, true, not, _&&_, cond}
+use mathlib.Core.Bool.{Bool, true, false, not, _&&_, cond}
 use mathlib.Core.List.{List, [], _∷_}
 use lib.Dec.{eqb, ltb}
 use lib.ListN.{length}
-use Rattle.limits.specs.Limits.{EINVAL, bufferRecords, recordBytes, callClear, answerNothing}
+use Rattle.limits.specs.Limits.{EINVAL, bufferRecords, recordBytes, callClear}
 use Rattle.lists.specs.Rows.{row}
 use Rattle.siginfo.specs.Bytes.{bytesOf}
+use Rattle.types.specs.declared.Sent.{Sent}
+use Rattle.types.specs.declared.Sent.the-variants.{Tested, Acted, Dropped, Absorbed, Marked, Kept}
 use Rattle.types.specs.declared.Answer.{Answer}
 use Rattle.types.specs.declared.Answer.the-variants.{Refused}
 use Rattle.rules.specs.Types.{Thread, Call, look, Next, noNext, nextMark, nextRecord}
 use Rattle.rules.specs.View.{theThread}
 use Rattle.rules.specs.Taking.{next}
+use Rattle.rules.specs.Asking.{onAccepted}
 use Rattle.rules.specs.Machine.{isU32, isU64}
 use Rattle.boundary.specs.Boundary.{Arguments, accepted, numbered}
 use Rattle.threads.specs.declared.Thread as records
@@ -107,6 +110,24 @@ machineArguments g =
 unfoldable pub machineItem : Item → Bool
 machineItem (call n g out) = machineArguments g
 machineItem (slotLook t) = true
+
+-- ---- what an answer says of a send
+
+-- it is a send's answer
+abbrev pub isSent : Answer → Bool
+isSent = onAccepted (λ _. true) (λ _. false)
+
+unfoldable pub isKeptSend : Sent → Bool
+isKeptSend Tested = false
+isKeptSend Acted = false
+isKeptSend Dropped = false
+isKeptSend Absorbed = false
+isKeptSend Marked = false
+isKeptSend Kept = true
+
+-- the send is kept
+abbrev pub isKept : Answer → Bool
+isKept = onAccepted isKeptSend (λ _. false)
 
 -- ---- what is read of the host, and in the ledger
 

@@ -1,24 +1,22 @@
 -- Demand 3's ledger. It "gets the calls' arguments and which were refused, nothing of the tables":
 -- no type here has a table in it.
-use Prim.Native.Nat.{ℕ, _+_}
-use mathlib.Core.Bool.{Bool, true, false, not, _&&_, cond}
-use mathlib.Core.List.{List, [], _∷_, _++_, map, head?, tail}
+use Prim.Native.Nat.{ℕ}
+use mathlib.Core.Bool.{Bool, false, not, _&&_, cond}
+use mathlib.Core.List.{List, [], _∷_, _++_, map, head?}
 use lib.Dec.{eqb}
 use lib.ListN.{length, replicate}
 use Rattle.limits.specs.Limits.{processPlaces, threadPlaces, signals}
 use Rattle.lists.specs.Lists.{change, keep, range, replaceFirst, sum}
-use Rattle.sigset.specs.declared.SigSet.{SigSet}
-use Rattle.sigset.specs.Set.{has}
 use Rattle.types.specs.declared.Siginfo.{Siginfo}
 use Rattle.types.specs.declared.Answer.{Answer}
 use Rattle.types.specs.declared.Answer.the-variants.{Refused, Accepted}
 use Rattle.rules.specs.Types.{Process, Thread, Queue, Call, noProcess, noThread}
-use Rattle.rules.specs.View.{View, Stage, Change, forget, newProcess, newThread, removeProcess, removeThread}
-use Rattle.rules.specs.View.{setStopped, setAction, setMask, setMark, clearMark, append, dropOldest, discard, isProcess}
-use Rattle.rules.specs.View.{isThread, belongsTo, sameQueue, processQueue, threadQueue, inQueue}
+use Rattle.rules.specs.View.{View, Change, forget, newProcess, newThread, removeProcess, removeThread, setStopped}
+use Rattle.rules.specs.View.{setAction, setMask, setMark, clearMark, append, dropOldest, discard, isProcess, isThread}
+use Rattle.rules.specs.View.{belongsTo, sameQueue, processQueue, threadQueue}
 use Rattle.rules.specs.Store.{withStopped, withAction, withMask, isFreeProcess, isFreeThread}
 use Rattle.rules.specs.Refusals.{refusal, rows}
-use Rattle.rules.specs.Calls.{reply, stages}
+use Rattle.rules.specs.Calls.{reply}
 
 -- ---- what it holds
 

@@ -169,7 +169,7 @@ is-clear c e = cleared-by (kindOf c) e
 
 -- ---- KILL and STOP are never turned away for want of room
 
-room-for : (v : View) (to t s : ℕ) → isUnmaskable s ≡ true → noRoom v to t s ≡ false
+pub room-for : (v : View) (to t s : ℕ) → isUnmaskable s ≡ true → noRoom v to t s ≡ false
 unfolding noRoom generation needsRecord
 room-for v to t = each-unmaskable (λ (s : ℕ). noRoom v to t s ≡ false) refl refl
 

@@ -73,10 +73,6 @@ isTaken (taken.End s) = true
 isTaken (taken.Stop s) = true
 isTaken (taken.NoAction s) = true
 
--- a take "yields one": it answers a signal
-abbrev pub yieldsOne : Answer → Bool
-yieldsOne = onAccepted (λ _. false) isTaken
-
 -- what is next for the thread of a take; for another call nothing
 abbrev pub takenOf : View → {c : Call} → Kind c → Next
 takenOf v clearing = noNext
