@@ -41,7 +41,7 @@ fn kept_since(done: &[Act], key: Key) -> Vec<Record> {
         .collect()
 }
 
-/// How many threads have taken there since.
+/// How many sends threads have taken there since.
 fn taken_since(done: &[Act], key: Key) -> usize {
     since_emptied(done, key)
         .iter()
