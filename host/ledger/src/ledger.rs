@@ -1,9 +1,10 @@
 //! The ledger: it starts empty and is told of each call its arguments and whether it was refused, and nothing of the
-//! tables.
+//! tables. The acts of a call change its lists.
 
-use crate::call::{AddProcess, Call, Send};
+use crate::acts::Act;
+use crate::call::{AddProcess, Call};
 use crate::limits::*;
-use crate::reading::Fate;
+use crate::reading::reset;
 use crate::side::{bit, Action, Process, Queue, Record, Side, Thread};
 use std::collections::{BTreeMap, VecDeque};
 
@@ -53,17 +54,56 @@ fn remove<T>(places: &mut [Option<T>], gone: impl Fn(&T) -> bool) {
 }
 
 impl Ledger {
-    pub fn enter(&mut self, call: &Call, refused: bool) {
+    /// A refused call leaves it alone. Any other has its acts, which are given back. What it makes of processes and
+    /// threads is judged on the lists before them, so they are played last.
+    pub fn enter(&mut self, call: &Call, refused: bool) -> Vec<Act> {
         if refused {
-            return;
+            return vec![];
         }
+        let acts = self.acts(call);
+        self.place(call);
+        for act in &acts {
+            self.play(act);
+        }
+        acts
+    }
+
+    /// What an act does to the lists, the marks and the counts; nothing else changes them.
+    pub fn play(&mut self, act: &Act) {
+        match *act {
+            Act::Kept(record) => {
+                let line = self.line(record.queue, record.signal);
+                line.sends.push_back(record);
+                line.counts.kept += 1;
+            }
+            Act::Marked { queue, signal } => self.line(queue, signal).mark = true,
+            Act::TookSend { queue, signal, .. } => {
+                let line = self.line(queue, signal);
+                line.sends.pop_front();
+                line.counts.taken += 1;
+            }
+            Act::TookMark { queue, signal, .. } => self.line(queue, signal).mark = false,
+            Act::Emptied(event) => {
+                for (&(queue, signal), line) in &mut self.lines {
+                    if event.empties(queue, signal) {
+                        line.counts.discarded += line.sends.len();
+                        line.sends.clear();
+                        line.mark = false;
+                    }
+                }
+            }
+        }
+    }
+
+    /// What a call makes of processes and threads.
+    fn place(&mut self, call: &Call) {
         match *call {
             Call::Clear => self.clear(),
             Call::AddProcess(new) => self.add_process(new),
             Call::AddThread { creator, id } => self.add_thread(creator, id),
             Call::EndProcess { id } => self.end_process(id),
             Call::EndThread { id } => self.end_thread(id),
-            Call::Send(send) => self.send(send),
+            Call::Send(send) => self.job_control(send.to, send.signal),
             Call::Sigaction {
                 process,
                 signal,
@@ -82,11 +122,11 @@ impl Ledger {
         }
     }
 
-    /// The counts of each queue and signal for which a send was ever kept.
+    /// The counts of each queue and signal that has any.
     pub fn counts(&self) -> BTreeMap<(Queue, u32), Counts> {
         self.lines
             .iter()
-            .filter(|(_, line)| line.counts.kept > 0)
+            .filter(|(_, line)| line.counts != Counts::default())
             .map(|(&key, line)| (key, line.counts))
             .collect()
     }
@@ -112,21 +152,6 @@ impl Ledger {
         side
     }
 
-    /// An emptying event: the sends of these queues and signals are discarded, and their marks go.
-    fn discard(&mut self, doomed: impl Fn(Queue, u32) -> bool) {
-        for (&(queue, signal), line) in &mut self.lines {
-            if doomed(queue, signal) {
-                line.counts.discarded += line.sends.len();
-                line.sends.clear();
-                line.mark = false;
-            }
-        }
-    }
-
-    fn discard_signals(&mut self, process: u32, signals: &[u32]) {
-        self.discard(|queue, signal| queue.process == process && signals.contains(&signal));
-    }
-
     fn line(&mut self, queue: Queue, signal: u32) -> &mut Line {
         self.lines.entry((queue, signal)).or_default()
     }
@@ -149,7 +174,6 @@ impl Ledger {
     }
 
     fn clear(&mut self) {
-        self.discard(|_, _| true);
         self.processes.clear();
         self.threads.clear();
     }
@@ -180,7 +204,6 @@ impl Ledger {
     }
 
     fn end_process(&mut self, id: u32) {
-        self.discard(|queue, _| queue.process == id);
         remove(&mut self.processes, |process| process.id == id);
         remove(&mut self.threads, |thread| thread.process == id);
     }
@@ -192,40 +215,16 @@ impl Ledger {
         if self.threads_of(process).count() == 1 {
             self.end_process(process);
         } else {
-            self.discard(|queue, _| queue.thread == id);
             remove(&mut self.threads, |thread| thread.id == id);
         }
     }
 
-    /// Document 01's five steps; the fate is that of the send before they change anything.
-    fn send(&mut self, send: Send) {
-        let fate = self.fate(send);
-        self.act(send.to, send.signal);
-        match fate {
-            Fate::Marked => self.line(send.queue(), send.signal).mark = true,
-            Fate::Kept => {
-                let record = self.record(send);
-                let line = self.line(send.queue(), send.signal);
-                line.sends.push_back(record);
-                line.counts.kept += 1;
-            }
-            Fate::Tested | Fate::Acted | Fate::Dropped | Fate::Absorbed => {}
-        }
-    }
-
     /// Steps 1 and 2.
-    fn act(&mut self, process: u32, signal: u32) {
+    fn job_control(&mut self, process: u32, signal: u32) {
         match signal {
             SIGKILL => self.end_process(process),
-            SIGSTOP => {
-                self.discard_signals(process, &[SIGCONT]);
-                self.set_stopped(process, true);
-            }
-            SIGTSTP | SIGTTIN | SIGTTOU => self.discard_signals(process, &[SIGCONT]),
-            SIGCONT => {
-                self.discard_signals(process, &[SIGTSTP, SIGTTIN, SIGTTOU]);
-                self.set_stopped(process, false);
-            }
+            SIGSTOP => self.set_stopped(process, true),
+            SIGCONT => self.set_stopped(process, false),
             _ => {}
         }
     }
@@ -242,9 +241,6 @@ impl Ledger {
                 process.actions.insert(signal, stored);
             }
         }
-        if self.is_ignored(process, signal) {
-            self.discard_signals(process, &[signal]);
-        }
     }
 
     fn change_mask(&mut self, thread: u32, way: u32, set: u64) {
@@ -258,17 +254,11 @@ impl Ledger {
         }
     }
 
-    /// The oldest send goes or, with none, the mark; then comes what it sets off.
+    /// What the signal that is taken sets off.
     fn take(&mut self, thread: u32) {
         let Some((queue, signal)) = self.next(thread) else {
             return;
         };
-        let line = self.line(queue, signal);
-        if line.sends.pop_front().is_some() {
-            line.counts.taken += 1;
-        } else {
-            line.mark = false;
-        }
         let action = self.action(queue.process, signal);
         if action.handler != SIG_DFL {
             return self.handle(thread, queue.process, signal, action);
@@ -287,13 +277,8 @@ impl Ledger {
             0
         };
         self.change_mask(thread, SIG_BLOCK, action.mask | deferred);
-        if action.flags & SA_RESETHAND != 0 && !matches!(signal, SIGILL | SIGTRAP) {
-            let reset = Action {
-                handler: SIG_DFL,
-                flags: action.flags & !SA_SIGINFO,
-                mask: action.mask,
-            };
-            self.store(process, signal, reset);
+        if let Some(left) = reset(action, signal) {
+            self.store(process, signal, left);
         }
     }
 }

@@ -6,9 +6,11 @@ pub mod limits {
     include!("../../../crates/limits/src/lib.rt");
 }
 
+pub mod acts;
 pub mod call;
 pub mod history;
 pub mod ledger;
 pub mod page;
 mod reading;
 pub mod side;
+pub mod tally;

@@ -1,8 +1,10 @@
 //! The page: every call with the ledger and the tables after it. There is none where the two do not agree.
 
+use crate::acts::Act;
 use crate::history::Step;
 use crate::ledger::{Counts, Ledger};
 use crate::side::{difference, members, Process, Queue, Record, Side, Thread};
+use crate::tally::disagreement;
 use std::collections::{BTreeMap, BTreeSet};
 use std::fmt::Write;
 
@@ -11,46 +13,69 @@ const INTRODUCTION: &str = "\
 
 This page is written by a program and not by hand. `crates/worked` makes the calls below through the dispatcher, one
 after the other, and after each writes the call, its answer and what the four tables say. `host/ledger` reads that and
-writes the page; `.ci/history` does it again and compares.
+writes the page; `.ci/history` does it again and compares. The page is written only where all of this holds after every
+call. Both columns agree in everything they show, and also in user ids, sessions and the other fields of a record. Every
+answer, refusals too, is the one that the ledger gives. What the tables have queued of a signal in a queue is, in order,
+what was kept there since that queue was last emptied of that signal, less as many of the oldest as were taken since,
+and never were more taken than kept; that is worked out from the list of all acts so far. The counts of kept and taken
+sends are the tallies of those acts. Every count balances, kept = taken + discarded + pending, with the tables' pending.
 
 The ledger is the one of document 01's demand 3. It starts empty. Of a call it gets the arguments and whether it was
 refused, and nothing of the tables: what its column says it has worked out from the calls above. It holds processes with
 their actions, threads with their masks, and for each queue and signal the queued sends, the oldest first, and the mark,
-with counts of the sends kept, taken and discarded. A refused call leaves it alone.
+with counts of the sends kept, taken and discarded. A refused call leaves it alone. Of any other it works out the acts,
+from the arguments and from what it holds, and only these change its lists, marks and counts. There are four kinds of
+them: a send is kept in its queue; a mark is set; a thread takes the oldest send of a signal in a queue or, with none,
+the mark; an event empties queues. Events are clearing, a stop signal sent (it empties the queues of the process of
+CONT), CONT sent (it empties them of the stop signals), a signal now ignored, the end of a thread and the end of a
+process. Sends that an event removes are discarded.
 
-Each call stands with its answer, and under it what each side has after the call. The left column says of what, the
-middle one is the ledger's, the right one is read from the words and bytes of the tables. A mask is in hexadecimal,
-signal s being bit s-1, and its signals follow. A queued send is signal:value. A count is of one queue and signal over
-the whole history, and the tables' share in it is what they have pending. The page is written only where both columns
-agree in everything they show, and also in user ids, sessions and the other fields of a record; where every count
-balances, kept = taken + discarded + pending, with the tables' pending; and where every answer, refusals too, is the one
-that the ledger gives.
+Each call stands with its answer. Under it are its acts in order, where it has any, and what each side has after the
+call. The left column says of what, the middle one is the ledger's, the right one is read from the words and bytes of
+the tables, which have no acts. A mask is in hexadecimal, signal s being bit s-1, and its signals follow. A queued send
+is signal:value. A count is of one queue and signal over the whole history, and the tables' share in it is what they
+have pending.
 ";
+
+/// The ledger with the acts of all calls so far.
+#[derive(Default)]
+struct Book {
+    ledger: Ledger,
+    done: Vec<Act>,
+}
 
 pub fn page(steps: &[Step]) -> Result<String, String> {
     let mut page = String::from(INTRODUCTION);
-    let mut ledger = Ledger::default();
+    let mut book = Book::default();
     for (at, step) in steps.iter().enumerate() {
         let heading = format!("{}. `{}` → {}", at + 1, step.text, step.answer);
-        enter(&mut ledger, step).map_err(|why| format!("{heading}: {why}"))?;
-        page += &format!("\n## {heading}\n\n{}", table(&ledger, &step.tables));
+        let acts = enter(&mut book, step).map_err(|why| format!("{heading}: {why}"))?;
+        let table = table(&acts, &book.ledger, &step.tables);
+        page += &format!("\n## {heading}\n\n{table}");
     }
     Ok(page)
 }
 
-/// The call in the ledger; an error where the two sides then differ.
-fn enter(ledger: &mut Ledger, step: &Step) -> Result<(), String> {
+/// The call in the ledger, and its acts; an error where the two sides then differ.
+fn enter(book: &mut Book, step: &Step) -> Result<Vec<Act>, String> {
+    let Book { ledger, done } = book;
     let answer = ledger.answer(&step.call);
     if answer != step.answer {
         return Err(format!("the ledger answers {answer}"));
     }
-    ledger.enter(&step.call, step.is_refused());
-    if let Some(why) = difference(&ledger.side(), &step.tables) {
-        return Err(why);
-    }
-    match imbalance(&ledger.counts(), &step.tables) {
-        Some(why) => Err(why),
-        None => Ok(()),
+    let acts = ledger.enter(&step.call, step.is_refused());
+    done.extend(&acts);
+    let counts = ledger.counts();
+    let wrong = [
+        difference(&ledger.side(), &step.tables),
+        disagreement(done, &counts, &step.tables),
+        imbalance(&counts, &step.tables),
+    ];
+    let said = joined(wrong.into_iter().flatten(), "; ");
+    if said.is_empty() {
+        Ok(acts)
+    } else {
+        Err(said)
     }
 }
 
@@ -119,9 +144,12 @@ impl Rows {
     }
 }
 
-fn table(ledger: &Ledger, tables: &Side) -> String {
+fn table(acts: &[Act], ledger: &Ledger, tables: &Side) -> String {
     let here = ledger.side();
     let mut rows = Rows("| | ledger | tables |\n|---|---|---|\n".into());
+    if !acts.is_empty() {
+        rows.row("acts", &joined(acts.iter().map(Act::to_string), "; "), "-");
+    }
     rows.both(
         &here.processes,
         &tables.processes,
@@ -174,14 +202,13 @@ fn numbers(signals: &BTreeSet<u32>) -> String {
     if signals.is_empty() {
         return "none".into();
     }
-    let said: Vec<String> = signals.iter().map(u32::to_string).collect();
-    said.join(" ")
+    joined(signals.iter().map(u32::to_string), " ")
 }
 
 fn queued(records: &[Record]) -> String {
-    let said: Vec<String> = records
-        .iter()
-        .map(|record| format!("{}:{}", record.signal, record.value))
-        .collect();
-    said.join(" ")
+    joined(records.iter().map(Record::short), " ")
+}
+
+fn joined(said: impl Iterator<Item = String>, between: &str) -> String {
+    said.collect::<Vec<String>>().join(between)
 }

@@ -246,7 +246,7 @@ impl Ledger {
             .is_some_and(|line| line.mark)
     }
 
-    fn oldest(&self, queue: Queue, signal: u32) -> Option<Record> {
+    pub(crate) fn oldest(&self, queue: Queue, signal: u32) -> Option<Record> {
         self.lines.get(&(queue, signal))?.sends.front().copied()
     }
 
@@ -277,13 +277,28 @@ impl Ledger {
             .unwrap_or_default()
     }
 
-    pub(crate) fn is_ignored(&self, process: u32, signal: u32) -> bool {
-        match self.action(process, signal).handler {
-            SIG_IGN => true,
-            SIG_DFL => matches!(signal, SIGCHLD | SIGURG | SIGWINCH),
-            _ => false,
-        }
+    fn is_ignored(&self, process: u32, signal: u32) -> bool {
+        is_ignored_by(self.action(process, signal), signal)
     }
+}
+
+/// The action is ignore, or default with an ignoring signal.
+pub(crate) fn is_ignored_by(action: Action, signal: u32) -> bool {
+    match action.handler {
+        SIG_IGN => true,
+        SIG_DFL => matches!(signal, SIGCHLD | SIGURG | SIGWINCH),
+        _ => false,
+    }
+}
+
+/// What RESETHAND leaves of an action whose signal a handler takes.
+pub(crate) fn reset(action: Action, signal: u32) -> Option<Action> {
+    let resets = action.flags & SA_RESETHAND != 0 && !matches!(signal, SIGILL | SIGTRAP);
+    resets.then_some(Action {
+        handler: SIG_DFL,
+        flags: action.flags & !SA_SIGINFO,
+        mask: action.mask,
+    })
 }
 
 /// A thread's own queue, then its process's.

@@ -73,6 +73,13 @@ pub fn members(set: u64) -> impl Iterator<Item = u32> {
     (1..=SIGNALS).filter(move |&s| set & bit(s) != 0)
 }
 
+impl Record {
+    /// Its signal:value.
+    pub fn short(&self) -> String {
+        format!("{}:{}", self.signal, self.value)
+    }
+}
+
 impl Side {
     pub fn pending(&self, queue: Queue, signal: u32) -> usize {
         self.records.get(&(queue, signal)).map_or(0, Vec::len)

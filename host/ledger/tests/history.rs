@@ -25,6 +25,43 @@ fn the_two_sides_agree_after_every_call() {
     ));
 }
 
+/// The rows of the n-th call's table.
+fn rows(page: &str, n: usize) -> Vec<&str> {
+    let section = page.split("\n## ").nth(n).expect("a section");
+    section.lines().filter(|l| l.starts_with("| ")).collect()
+}
+
+#[test]
+fn each_call_has_its_acts_in_order() {
+    let page = page_of(WRITTEN).expect("a page");
+    for (call, acts) in [
+        (1, "emptied: all is cleared"),
+        (7, "40:1 is kept for process 100"),
+        (10, "the mark of 2 is set for process 100"),
+        (
+            13,
+            "emptied: a stop signal is sent to process 100; 20:4 is kept for thread 201",
+        ),
+        (
+            14,
+            "emptied: CONT is sent to process 100; the mark of 18 is set for process 100",
+        ),
+        (15, "emptied: a stop signal is sent to process 100"),
+        (19, "thread 200 takes the mark of 18 for process 100"),
+        (21, "thread 201 takes the oldest send for process 100, 40:1"),
+        (23, "emptied: process 100 now ignores 40"),
+        (26, "emptied: process 100 ends"),
+    ] {
+        let row = format!("| acts | {acts} | - |");
+        assert_eq!(rows(&page, call)[1], row, "call {call}");
+    }
+    // one that is absorbed, one that is refused, one that takes nothing, one that only asks
+    for call in [11, 12, 16, 25] {
+        let rows = rows(&page, call);
+        assert!(!rows.iter().any(|row| row.contains("acts")), "call {call}");
+    }
+}
+
 /// What is wrong, what stands in its place, and what is said of it.
 const WRONGS: [(&str, &str, &str); 17] = [
     // the tables
@@ -81,10 +118,15 @@ fn a_take_that_drains_the_queue_is_reported() {
     let drained = drained.join("\n");
     let why = page_of(&format!("{kept}\ncall take{drained}\ncall return{after}"));
     let why = why.expect_err("drained");
-    assert!(
-        why.contains("take thread=201") && why.contains("the records of"),
-        "{why}"
-    );
+    // by the ledger's list, by the acts and by the count
+    for said in [
+        "take thread=201",
+        "the records of",
+        "signal 40 of process 100: the acts leave",
+        "signal 40 of process 100 does not balance",
+    ] {
+        assert!(why.contains(said), "{said}: {why}");
+    }
 }
 
 #[test]
