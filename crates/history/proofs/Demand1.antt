@@ -9,7 +9,7 @@ use Rattle.rules.proofs.Unmaskable.{unmasked-has}
 use Rattle.sound.specs.Lent.{Lent, decoded, viewOf, soundTables}
 use Rattle.sound.proofs.Facts.{store-sound}
 use Rattle.history.specs.Demand1.{NowhereMasked, Demand1}
-use Rattle.history.proofs.Returns.{call-listed, call-refused, call-asking, call-clears}
+use Rattle.history.proofs.Returns.{call-listed, call-answered, call-refused, call-asking, call-clears}
 use Rattle.history.proofs.KillStop.{call-acts, call-kills, call-stops}
 
 -- a sound store has neither of the pair in a mask, a mark or an action's mask
@@ -27,10 +27,11 @@ pub demand1 : Demand1
 demand1 =
     record {
       listed = call-listed;
+      answered = call-answered;
       refused = call-refused;
-      asking = λ h n g w e. call-asking h n g (w .threadBuffer) (w .processBuffer) e;
+      onlyAsked = λ h n g w e. call-asking h n g (w .threadBuffer) (w .processBuffer) e;
       clears = call-clears;
-      acts = call-acts;
+      acted = call-acts;
       killed = λ h n g w e k m. call-kills h n g e (ap isUnmaskable k) m w k;
       stopped = λ h n g w e k m. call-stops h n g e (ap isUnmaskable k) m w k;
       unmaskable = nowhere-masked;

@@ -37,23 +37,24 @@ use Rattle.rrezhbuta.specs.Entry.{Host, lentBy, callOn, lookAt}
 use Rattle.history.specs.Ledger.{Ledger, emptyLedger, ofProcess, pendingWhere, ledgerView, ledgerRefusal}
 use Rattle.history.specs.Ledger.{ledgerAnswer}
 use Rattle.history.specs.Acts.{acts, turns, actsOf}
-use Rattle.history.specs.Tally.{isKeep}
+use Rattle.history.specs.Tally.{isKeep, marksAt, takesEither}
 use Rattle.history.specs.History.{Book, emptyBook, entered, enter, enterAll, Item, call, slotLook, lending}
 use Rattle.history.specs.History.{hostAfter, told, Past, after, cleared, machineArguments, machineItem, heard}
-use Rattle.history.specs.History.{lookedBytes, isSent, isKept}
-use Rattle.history.specs.Demand3.{AnswersBy, yields, Claim, Demand3}
+use Rattle.history.specs.History.{lookedBytes, isSent, isKept, isMarked}
+use Rattle.history.specs.Demand3.{TakenBy, AnswersBy, yields, Claim, Demand3}
 use Rattle.history.proofs.Answered.{same-refusal, same-answer, never-fault, room-counted, pending-limit}
 use Rattle.history.proofs.Encoded.{answer-on, decoded-on, sound-on, encoded-on, decoded-cleared, encoded-cleared}
-use Rattle.history.proofs.Encoded.{sound-clearedTables, clearedTables, clear-clears}
+use Rattle.history.proofs.Encoded.{sound-clearedTables, clearedTables}
 use Rattle.history.proofs.Entry.{entry-returned, entry-words, entry-tables, served-accepted, served-not}
 use Rattle.history.proofs.Entry.{numbered-machine, row-threads, row-length}
 use Rattle.history.proofs.Holds.{Holds, holds-start}
+use Rattle.history.proofs.Judged.{itself}
 use Rattle.history.proofs.Looks.{same-look, same-slot}
 use Rattle.history.proofs.Relation.{Agrees}
-use Rattle.history.proofs.Returns.{step-errno, has-room}
-use Rattle.history.proofs.Said.{kept-said}
+use Rattle.history.proofs.Returns.{step-errno, has-room, cleared-tables}
+use Rattle.history.proofs.Said.{kept-said, marked-said, takes-one}
 use Rattle.history.proofs.Tallied.{Tallies, tallies-start, tallies-turns}
-use Rattle.history.proofs.Turns.{holds-turns, right-turns, answers-turns}
+use Rattle.history.proofs.Turns.{taker, holds-turns, right-turns, answers-turns}
 use Rattle.history.proofs.Widths.{Widths, widths-cleared, widths-step}
 
 -- ---- what every list of calls keeps
@@ -241,13 +242,34 @@ module _ (h : Host) (b : Book) (r : Reached (lentBy h) b) where
         subst (λ (a : Answer). All (AnswersBy seen a) (actsOf (turns seen c) ledger)) (sym ledger-accepts)
         (answers-turns c (decoded tables) ledger passes (r .holds))
 
+    -- its acts are those of one turn
+    one-turn : actsOf (turns seen c) ledger ≡ acts seen c
+    unfolding turns actsOf
+    one-turn = append-nil (acts seen c)
+
     kept-counted : isSent (ledgerAnswer ledger c) ≡ true
         → count isKeep (actsOf (turns seen c) ledger) ≡ cond (isKept (ledgerAnswer ledger c)) 1 0
-    unfolding turns actsOf
     kept-counted i =
-        ap (count isKeep) (append-nil (acts seen c))
+        ap (count isKeep) one-turn
         ∙ kept-said seen c (ap isSent (sym ledger-accepts) ∙ i)
         ∙ ap (λ (a : Answer). cond (isKept a) 1 0) (sym ledger-accepts)
+
+  marked-counted : (by to t s : ℕ) → ledgerRefusal ledger (kill by to t s) ≡ 0
+      → count (marksAt (targetQueue to t) s) (actsOf (turns seen (kill by to t s)) ledger)
+      ≡ cond (isMarked (ledgerAnswer ledger (kill by to t s))) 1 0
+  marked-counted by to t s e =
+      ap (count (marksAt (targetQueue to t) s)) (one-turn (kill by to t s) e)
+      ∙ marked-said seen by to t s
+      ∙ ap (λ (a : Answer). cond (isMarked a) 1 0) (sym (ledger-accepts (kill by to t s) e))
+
+  module _ (t : ℕ) (e : ledgerRefusal ledger (take t) ≡ 0) where
+    one-taken : count takesEither (actsOf (turns seen (take t)) ledger) ≡ cond (hasOffer seen (theThread seen t)) 1 0
+    one-taken = ap (count takesEither) (one-turn (take t) e) ∙ takes-one seen t
+
+    taken-itself : All (TakenBy t) (actsOf (turns seen (take t)) ledger)
+    taken-itself =
+        subst (All (TakenBy t)) (sym (one-turn (take t) e))
+        (itself ledger t (taker (take t) (decoded tables) ledger (passes (take t) e) (r .holds) t refl))
 
   take-passes : (t : ℕ) → liveThread seen t ≡ true → ledgerRefusal ledger (take t) ≡ 0
   unfolding ledgerRefusal rows refusal noThreadLive
@@ -307,24 +329,18 @@ module _ (h : Host) (b : Book) (r : Reached (lentBy h) b) where
         keptTotal = r .tallies .kept;
         takenTotal = r .tallies .taken;
         keptSaid = kept-counted;
+        markedSaid = marked-counted;
+        takesOne = one-taken;
+        takesItself = taken-itself;
         room = room;
         limit = pending-limit (decoded tables) ledger (r .holds);
       }
 
 -- ---- from a clear on
 
--- clearing leaves all zero, whatever the tables hold
-cleared-tables : (g : Arguments) (h : Host) → lengthsAre (lentBy h) ≡ true → answerWords ≤ length (h .answer)
-    → lentBy (callOn callClear g h .0) ≡ clearedTables
-unfolding numbered callsOf isCall machine
-cleared-tables g h e o =
-    entry-tables callClear g h refl
-    ∙ ap (λ (x : Lent × Answer). x .0) (served-accepted callClear g h (has-room callClear (length (h .answer)) refl o))
-    ∙ clear-clears (lentBy h) e
-
 pub demand3 : Demand3
 unfolding cleared
 demand3 h g e o xs u =
     claim (after xs (cleared g h) .host) (after xs (cleared g h) .book)
     (reached-list xs (cleared g h) u
-    (subst (λ (l : Lent). Reached l emptyBook) (sym (cleared-tables g h e o)) reached-start))
+    (subst (λ (l : Lent). Reached l emptyBook) (sym (cleared-tables h g e o)) reached-start))

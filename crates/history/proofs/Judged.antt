@@ -30,7 +30,7 @@ use Rattle.history.specs.Ledger.{Line, Ledger, ledgerView, isAt, withMar
 use Rattle.history.specs.Acts.{Act, kept, marked, tookSend, tookMark, emptied, takeSend, play, isDropped}
 use Rattle.history.specs.Acts.{isAbsorbed, arrival, jobEvents, sendActs, storeActs, endActs, endsProcess, isReset}
 use Rattle.history.specs.Acts.{setsOff, takeActs, acts, sent, threadEnds, processEnds}
-use Rattle.history.specs.Demand3.{TookSend, TookMark, Right, RightActs, AnswerBy, AnswersBy}
+use Rattle.history.specs.Demand3.{TookSend, TookMark, Right, RightActs, TakenBy, AnswerBy, AnswersBy}
 
 -- ---- acts that take nothing
 
@@ -58,6 +58,13 @@ quiet-answers v x (marked j s) q = tt
 quiet-answers v x (tookSend t j s r) q = absurd q
 quiet-answers v x (tookMark t j s) q = absurd q
 quiet-answers v x (emptied e) q = tt
+
+quiet-taken : (t : ℕ) (a : Act) → Quiet a → TakenBy t a
+quiet-taken t (kept r) q = tt
+quiet-taken t (marked j s) q = tt
+quiet-taken t (tookSend m j s r) q = absurd q
+quiet-taken t (tookMark m j s) q = absurd q
+quiet-taken t (emptied e) q = tt
 
 -- an event, or none
 event-quiet : (b : Bool) (xs ys : List Act) → All Quiet xs → All Quiet ys → All Quiet (cond b xs ys)
@@ -138,7 +145,7 @@ headless [] e = refl
 headless (x ∷ rs) e = let z : _≡_ {A = ℕ} 0 1 = cc e in absurd (omega arith)
 
 -- the line of a queue and a signal is at that queue and signal
-at-itself : (q : Queue) (s : ℕ) → isAt q s q s ≡ true
+pub at-itself : (q : Queue) (s : ℕ) → isAt q s q s ≡ true
 at-itself q s = and-both (same-queue q q refl) (eq-eqb s s refl)
 
 module _ (k : Ledger) (t : ℕ) (l : liveThread (ledgerView k) t ≡ true) where
@@ -180,6 +187,10 @@ module _ (k : Ledger) (t : ℕ) (l : liveThread (ledgerView k) t ≡ true) where
   sets-off : (s : ℕ) (x : Ledger) → RightActs (setsOff it (threadAction v it s) s) x
   sets-off s = all-right (setsOff it (threadAction v it s) s) (off-quiet it (threadAction v it s) s)
 
+  nobody : (s : ℕ) → All (TakenBy t) (setsOff it (threadAction v it s) s)
+  nobody s =
+      All-imp Quiet (TakenBy t) (quiet-taken t) (setsOff it (threadAction v it s) s) (off-quiet it (threadAction v it s) s)
+
   module _ (i : it .id ≡ t) where
     take-right : (n : Next) → next v it ≡ n → RightActs (takeActs v it n) k
     unfolding takeActs
@@ -196,6 +207,13 @@ module _ (k : Ledger) (t : ℕ) (l : liveThread (ledgerView k) t ≡ true) where
         → AnswerBy v (Accepted (Taken (delivered it (threadAction v it s) r))) (it .id) s r
     by-thread s r =
         ap (λ (x : Thread). Accepted (Taken (delivered x (threadAction v x s) r))) (sym (ap (theThread v) i))
+
+    -- each take of the call is by that thread
+    take-itself : (n : Next) → All (TakenBy t) (takeActs v it n)
+    unfolding takeActs
+    take-itself noNext = tt
+    take-itself (nextMark q s) = (i, nobody s)
+    take-itself (nextRecord q s r) = (i, nobody s)
 
     quiet-off : (s : ℕ) (x : Answer) → All (AnswersBy v x) (setsOff it (threadAction v it s) s)
     quiet-off s x =
@@ -242,3 +260,7 @@ module _ (k : Ledger) (c : Call) (h : (t : ℕ) → c ≡ take t → Taker k t) 
           subst (λ (x : Call). All (AnswersBy seen (Accepted (reply seen x))) (acts seen x)) (sym e)
           (unfold acts reply in
           take-answers k t (h t e .live) (h t e .named) (next seen (theThread seen t)))
+
+pub itself : (k : Ledger) (t : ℕ) → Taker k t → All (TakenBy t) (acts (ledgerView k) (take t))
+unfolding acts
+itself k t h = take-itself k t (h .live) (h .named) (next (ledgerView k) (theThread (ledgerView k) t))

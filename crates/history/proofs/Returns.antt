@@ -10,14 +10,16 @@ use borrow.Author.Tests.{eqb-true, eqb-false, le-ltb}
 use Rattle.limits.specs.Limits.{EFAULT, EINVAL, answerWords, callClear, callSigaction, callSigmask, callSigpending}
 use Rattle.limits.specs.Limits.{callLook, callWho}
 use Rattle.lists.specs.Lists.{any, padded}
-use Rattle.lists.proofs.Bools.{split, and-fst, and-snd, and-both, or-cases, cond-false}
+use Rattle.lists.proofs.Bools.{split, clash, and-fst, and-snd, and-both, or-cases, cond-false}
 use Rattle.siginfo.specs.Bytes.{Bytes}
 use Rattle.types.specs.declared.Answer.{Answer}
 use Rattle.types.specs.declared.Answer.the-variants.{Refused}
 use Rattle.rules.specs.Types.{Call, clear}
 use Rattle.rules.specs.View.{View}
 use Rattle.rules.specs.Actions.{actionChanges, maskChanges}
-use Rattle.rules.specs.Calls.{changes}
+use Rattle.rules.specs.Machine.{machine}
+use Rattle.rules.specs.Store.{cleared}
+use Rattle.rules.specs.Calls.{changes, reply}
 use Rattle.rules.proofs.RefusalTable.{only-listed}
 use Rattle.sound.specs.Lent.{Lent, decoded, viewOf, lengthsAre}
 use Rattle.answers.specs.Step.{refusalOn, stepOn}
@@ -30,9 +32,9 @@ use Rattle.threads.specs.Records.{recordsOf}
 use Rattle.threads.proofs.Words.{records-back}
 use Rattle.rrezhbuta.specs.Entry.{Host, host, lentBy, handedBack, callOn}
 use Rattle.history.specs.History.{lending}
-use Rattle.history.specs.Demand1.{isListed, onlyAsks}
-use Rattle.history.proofs.Encoded.{clear-accepted}
-use Rattle.history.proofs.Entry.{served-accepted, served-not, entry-returned, entry-words}
+use Rattle.history.specs.Demand1.{isListed, onlyAsks, AnswerIn}
+use Rattle.history.proofs.Encoded.{clearedTables, clear-accepted, clear-clears, decoded-cleared}
+use Rattle.history.proofs.Entry.{served-accepted, served-not, entry-returned, entry-words, entry-tables}
 
 -- ---- what is returned
 
@@ -63,6 +65,11 @@ unfolding errnoOf any
 turned-away true = refl
 turned-away false = refl
 
+not-zero : (b : Bool) → eqb (errnoOf (Refused (cond b EINVAL EFAULT))) 0 ≡ false
+unfolding errnoOf
+not-zero true = refl
+not-zero false = refl
+
 module _ (h : Host) (n : ℕ) (g : Arguments) where
   abbrev c : Call
   c = numbered n g
@@ -77,6 +84,25 @@ module _ (h : Host) (n : ℕ) (g : Arguments) where
       entry-returned n g h
       ∙ ap (λ (x : Lent × Answer). errnoOf (x .1)) (served-accepted n g h k)
       ∙ step-errno c (lentBy h)
+
+  -- where it is 0, the words are an answer's
+  pub call-answered : eqb (callOn n g h .1) 0 ≡ true → AnswerIn (callOn n g h .0 .answer) (h .answer)
+  unfolding errnoOf
+  call-answered z =
+      split (accepted n (length (h .answer)))
+      (λ k.
+      let e = sym (accepted-errno k) ∙ eqb-true (callOn n g h .1) 0 z in
+      record {
+        reply = reply (viewOf (lentBy h)) c;
+        says =
+            entry-words n g h
+            ∙ ap (λ (x : Lent × Answer). written (x .1) (h .answer))
+            (served-accepted n g h k ∙ accepted-step c (lentBy h) e);
+      })
+      (λ k.
+      clash z (ap (λ (m : ℕ). eqb m 0)
+      (entry-returned n g h ∙ ap (λ (x : Lent × Answer). errnoOf (x .1)) (served-not n g h k))
+      ∙ not-zero (usable n (lentBy h))))
 
   -- every call returns 0 or an errno of the table
   pub call-listed : (eqb (callOn n g h .1) 0 || isListed (callOn n g h .1)) ≡ true
@@ -190,9 +216,21 @@ clear-refusal : (l : Lent) → lengthsAre l ≡ true → refusalOn clear l ≡ 0
 unfolding refusalOn
 clear-refusal l e = rw e (clear-accepted l)
 
--- so a host's clearing returns 0
-pub call-clears : (h : Host) (g : Arguments) → lengthsAre (lentBy h) ≡ true → answerWords ≤ length (h .answer)
-    → callOn callClear g h .1 ≡ 0
-unfolding numbered callsOf isCall
-call-clears h g e l =
-    accepted-errno h callClear g (has-room callClear (length (h .answer)) refl l) ∙ clear-refusal (lentBy h) e
+module _ (h : Host) (g : Arguments) (e : lengthsAre (lentBy h) ≡ true) (l : answerWords ≤ length (h .answer)) where
+  -- so a host's clearing returns 0
+  clear-returns : callOn callClear g h .1 ≡ 0
+  unfolding numbered callsOf isCall
+  clear-returns =
+      accepted-errno h callClear g (has-room callClear (length (h .answer)) refl l) ∙ clear-refusal (lentBy h) e
+
+  -- and leaves all zero, whatever the tables hold
+  pub cleared-tables : lentBy (callOn callClear g h .0) ≡ clearedTables
+  unfolding numbered callsOf isCall machine
+  cleared-tables =
+      entry-tables callClear g h refl
+      ∙ ap (λ (x : Lent × Answer). x .0)
+      (served-accepted callClear g h (has-room callClear (length (h .answer)) refl l))
+      ∙ clear-clears (lentBy h) e
+
+  pub call-clears : (callOn callClear g h .1 ≡ 0) × (decoded (lentBy (callOn callClear g h .0)) ≡ cleared)
+  call-clears = (clear-returns, ap decoded cleared-tables ∙ decoded-cleared)

@@ -1,85 +1,167 @@
--- A send that is answered "kept" keeps one, and no other send does. Assumes nothing.
-use Prim.Native.Nat.{ℕ}
-use mathlib.Core.Path.{_≡_, refl, sym, subst}
-use mathlib.Core.Bool.{Bool, true, false, _||_, cond}
+-- What an answer says of a call's acts: a send that is answered "kept" keeps one, one that is answered "marked" sets
+-- its mark, and a take takes one where one is offered. Assumes nothing.
+use Prim.Native.Nat.{ℕ, _+_}
+use mathlib.Core.Path.{_≡_, refl, sym, ap, ap₂, _∙_, subst}
+use mathlib.Core.Bool.{Bool, true, false, _&&_, _||_, cond}
 use mathlib.Core.List.{List, [], _∷_, _++_}
 use mathlib.Core.Option.{Option, some, none}
 use native.Mathlib.Omega.{arith}
 use lib.Dec.{eqb}
 use borrow.Author.Tests.{eqb-true}
-use Rattle.limits.specs.Limits.{SIGKILL, SIGCONT, SIGSTOP}
+use Rattle.limits.specs.Limits.{SIGKILL, SIGCONT, SIGSTOP, sigDfl}
 use Rattle.lists.specs.Lists.{count}
 use Rattle.lists.proofs.Bools.{split, clash}
 use Rattle.lists.proofs.Lists.{count-append}
+use Rattle.types.specs.declared.Action.{Action}
+use Rattle.types.specs.declared.Siginfo.{Siginfo}
 use Rattle.types.specs.declared.Answer.the-variants.{Accepted}
-use Rattle.rules.specs.Types.{Thread, Call, clear, addProcess, addThread, endProcess, endThread, kill, sigqueue}
-use Rattle.rules.specs.Types.{sigaction, sigmask, sigpending, look, who, take, sigreturn}
-use Rattle.rules.specs.Signals.{stopSignal, ignored}
-use Rattle.rules.specs.View.{View, targetQueue, actionOf, theProcess}
-use Rattle.rules.specs.Sending.{marking, keeping, generation, absorbs, sendAnswer}
-use Rattle.rules.specs.Taking.{whoAnswer, taker}
-use Rattle.rules.specs.Asking.{onReply, onAccepted}
+use Rattle.rules.specs.Types.{Thread, Queue, Next, noNext, nextMark, nextRecord, Call, clear, addProcess, addThread}
+use Rattle.rules.specs.Types.{endProcess, endThread, kill, sigqueue, sigaction, sigmask, sigpending, look, who, take}
+use Rattle.rules.specs.Types.{sigreturn}
+use Rattle.rules.specs.Signals.{outcome, ignoring, stopSignal, ignored}
+use Rattle.rules.specs.View.{View, targetQueue, queueOf, actionOf, theProcess, theThread, threadAction}
+use Rattle.rules.specs.Sending.{Generation, testing, killing, stopping, dropping, absorbing, marking, keeping}
+use Rattle.rules.specs.Sending.{generation, absorbs, sendAnswer}
+use Rattle.rules.specs.Taking.{whoAnswer, taker, next, markInfo, takeAnswer}
+use Rattle.rules.specs.Asking.{hasOffer, onReply, onAccepted, isTaken}
 use Rattle.rules.specs.Calls.{reply}
-use Rattle.history.specs.Acts.{Act, kept, marked, sent, isDropped, isAbsorbed, arrival, jobEvents, sendActs, acts}
-use Rattle.history.specs.Tally.{isKeep}
-use Rattle.history.specs.History.{isSent, isKeptSend, isKept}
+use Rattle.rules.proofs.Asking.{delivered-yields, asking-yields}
+use Rattle.history.specs.Ledger.{isAt}
+use Rattle.history.specs.Acts.{Event, stopSent, contSent, processEnds, Act, kept, marked, emptied, endsProcess}
+use Rattle.history.specs.Acts.{isReset, setsOff, takeActs, sent, isDropped, isAbsorbed, arrival, jobEvents}
+use Rattle.history.specs.Acts.{sendActs, acts}
+use Rattle.history.specs.Tally.{isKeep, marksAt, takesEither}
+use Rattle.history.specs.History.{isSent, isKeptSend, isMarkedSend, isKept, isMarked}
+use Rattle.history.proofs.Judged.{at-itself}
 
--- job control keeps none
-job-keeps : (p s : ℕ) → count isKeep (jobEvents p s) ≡ 0
-unfolding jobEvents count isKeep
-job-keeps p s =
-    split (eqb s SIGKILL)
-    (λ a. rw a)
-    (λ a.
-    split (eqb s SIGCONT)
-    (λ b. rw (a, b))
-    (λ b. split (eqb s SIGSTOP || stopSignal s) (λ c. rw (a, b, c)) (λ c. rw (a, b, c))))
+-- ---- acts of a send that pass a test which no event passes
 
-module _ (v : View) (by to t value : ℕ) where
-  -- what a send's answer says
-  abbrev Said : Bool → ℕ → Type 0
-  Said queued s =
-      count isKeep (sendActs v queued (sent v by to t s value))
-      ≡ cond (isKeptSend (sendAnswer (generation v queued (targetQueue to t) s))) 1 0
+module _ (p : Act → Bool) (none : (e : Event) → p (emptied e) ≡ false) where
+  -- one act, as it passes
+  one : Act → ℕ
+  one a = cond (p a) 1 0
 
-  -- what arrives after job control
-  then-keeps : (s n : ℕ) (xs : List Act) → count isKeep xs ≡ n → count isKeep (jobEvents to s ++ xs) ≡ n
-  then-keeps s n xs e = omega (arith, count-append isKeep (jobEvents to s) xs, job-keeps to s, e)
+  -- by what the generation of the signal comes to
+  arrives : Siginfo → Generation → ℕ
+  arrives r testing = 0
+  arrives r killing = 0
+  arrives r stopping = 0
+  arrives r dropping = 0
+  arrives r absorbing = 0
+  arrives r marking = one (marked (queueOf r) (r .signal))
+  arrives r keeping = one (kept r)
 
-  tested : (queued : Bool) → Said queued 0
-  unfolding generation sendAnswer isKeptSend sendActs sent jobEvents stopSignal arrival count
-  tested queued = refl
+  event-none : (e : Event) → count p (emptied e ∷ []) ≡ 0
+  unfolding count
+  event-none e = ap (λ (b : Bool). cond b 1 0 + 0) (none e)
 
-  acted : (queued : Bool) → Said queued SIGKILL × Said queued SIGSTOP
-  unfolding generation sendAnswer isKeptSend sendActs sent jobEvents arrival count isKeep
-  acted queued = (refl, refl)
-
-  other-said : (queued : Bool) (s : ℕ) → eqb s 0 ≡ false → eqb s SIGKILL ≡ false → eqb s SIGSTOP ≡ false → Said queued s
-  unfolding generation sendAnswer isKeptSend sendActs sent arrival isDropped isAbsorbed absorbs count isKeep
-  other-said queued s e0 e1 e2 =
-      split (ignored (actionOf (theProcess v to) s) s)
-      (λ e3. rw (e0, e1, e2, e3) (then-keeps s 0 [] refl))
-      (λ e3.
-      split (absorbs v queued (targetQueue to t) s)
-      (λ e4. rw (e0, e1, e2, e3, e4) (then-keeps s 0 [] refl))
-      (λ e4. rw (e0, e1, e2, e3, e4) (arrived queued)))
-    where
-      arrived : (b : Bool) → count isKeep (jobEvents to s ++ (cond b (kept (sent v by to t s value))
-          (marked (targetQueue to t) s) ∷ [])) ≡ cond (isKeptSend (sendAnswer (cond b keeping marking))) 1 0
-      arrived true = unfold sent sendAnswer isKeptSend count isKeep in then-keeps s 1 _ refl
-      arrived false = unfold sent sendAnswer isKeptSend count isKeep in then-keeps s 0 _ refl
-
-  send-said : (queued : Bool) (s : ℕ) → Said queued s
-  send-said queued s =
-      split (eqb s 0)
-      (λ e. subst (Said queued) (sym (eqb-true s 0 e)) (tested queued))
-      (λ e0.
+  job-none : (to s : ℕ) → count p (jobEvents to s) ≡ 0
+  unfolding jobEvents count
+  job-none to s =
       split (eqb s SIGKILL)
-      (λ e. subst (Said queued) (sym (eqb-true s SIGKILL e)) (acted queued .0))
-      (λ e1.
-      split (eqb s SIGSTOP)
-      (λ e. subst (Said queued) (sym (eqb-true s SIGSTOP e)) (acted queued .1))
-      (λ e2. other-said queued s e0 e1 e2)))
+      (λ a. rw a (event-none (processEnds to)))
+      (λ a.
+      split (eqb s SIGCONT)
+      (λ b. rw (a, b) (event-none (contSent to)))
+      (λ b. split (eqb s SIGSTOP || stopSignal s) (λ c. rw (a, b, c) (event-none (stopSent to))) (λ c. rw (a, b, c))))
+
+  -- what comes after job control
+  then : (to s n : ℕ) (xs : List Act) → count p xs ≡ n → count p (jobEvents to s ++ xs) ≡ n
+  then to s n xs e = omega (arith, count-append p (jobEvents to s) xs, job-none to s, e)
+
+  module _ (v : View) (by to t value : ℕ) where
+    abbrev Counted : Bool → ℕ → Type 0
+    Counted queued s =
+        count p (sendActs v queued (sent v by to t s value))
+        ≡ arrives (sent v by to t s value) (generation v queued (targetQueue to t) s)
+
+    tested : (queued : Bool) → Counted queued 0
+    unfolding generation arrives sendActs sent arrival count
+    tested queued = then to 0 0 [] refl
+
+    acted : (queued : Bool) → Counted queued SIGKILL × Counted queued SIGSTOP
+    unfolding generation arrives sendActs sent arrival count
+    acted queued = (then to SIGKILL 0 [] refl, then to SIGSTOP 0 [] refl)
+
+    arrived : (b : Bool) (s : ℕ) → count p (jobEvents to s
+        ++ (cond b (kept (sent v by to t s value)) (marked (targetQueue to t) s) ∷ []))
+        ≡ arrives (sent v by to t s value) (cond b keeping marking)
+    unfolding arrives one sent count
+    arrived true s = then to s _ _ (omega arith)
+    arrived false s = then to s _ _ (omega arith)
+
+    other-counted : (queued : Bool) (s : ℕ) → eqb s 0 ≡ false → eqb s SIGKILL ≡ false → eqb s SIGSTOP ≡ false
+        → Counted queued s
+    unfolding generation arrives sendActs sent arrival isDropped isAbsorbed absorbs count
+    other-counted queued s e0 e1 e2 =
+        split (ignored (actionOf (theProcess v to) s) s)
+        (λ e3. rw (e0, e1, e2, e3) (then to s 0 [] refl))
+        (λ e3.
+        split (absorbs v queued (targetQueue to t) s)
+        (λ e4. rw (e0, e1, e2, e3, e4) (then to s 0 [] refl))
+        (λ e4. rw (e0, e1, e2, e3, e4) (arrived queued s)))
+
+    send-counted : (queued : Bool) (s : ℕ) → Counted queued s
+    send-counted queued s =
+        split (eqb s 0)
+        (λ e. subst (Counted queued) (sym (eqb-true s 0 e)) (tested queued))
+        (λ e0.
+        split (eqb s SIGKILL)
+        (λ e. subst (Counted queued) (sym (eqb-true s SIGKILL e)) (acted queued .0))
+        (λ e1.
+        split (eqb s SIGSTOP)
+        (λ e. subst (Counted queued) (sym (eqb-true s SIGSTOP e)) (acted queued .1))
+        (λ e2. other-counted queued s e0 e1 e2)))
+
+-- ---- what the answer says
+
+no-keep : (e : Event) → isKeep (emptied e) ≡ false
+unfolding isKeep
+no-keep e = refl
+
+-- the send is kept where its answer says so
+keeps : (r : Siginfo) (f : Generation) → arrives isKeep no-keep r f ≡ cond (isKeptSend (sendAnswer f)) 1 0
+unfolding arrives one isKeep isKeptSend sendAnswer
+keeps r testing = refl
+keeps r killing = refl
+keeps r stopping = refl
+keeps r dropping = refl
+keeps r absorbing = refl
+keeps r marking = refl
+keeps r keeping = refl
+
+module _ (q : Queue) (s : ℕ) where
+  no-mark : (e : Event) → marksAt q s (emptied e) ≡ false
+  unfolding marksAt
+  no-mark e = refl
+
+  -- the mark is set where its answer says so
+  marks : (r : Siginfo) → queueOf r ≡ q → r .signal ≡ s → (f : Generation)
+      → arrives (marksAt q s) no-mark r f ≡ cond (isMarkedSend (sendAnswer f)) 1 0
+  unfolding arrives one marksAt isMarkedSend sendAnswer
+  marks r i j testing = refl
+  marks r i j killing = refl
+  marks r i j stopping = refl
+  marks r i j dropping = refl
+  marks r i j absorbing = refl
+  marks r i j marking =
+      ap (λ (b : Bool). cond b 1 0)
+      (ap₂ (λ (x : Queue) (n : ℕ). isAt x n q s) i j ∙ at-itself q s)
+  marks r i j keeping = refl
+
+send-keeps : (v : View) (by to t value : ℕ) (queued : Bool) (s : ℕ)
+    → count isKeep (sendActs v queued (sent v by to t s value))
+    ≡ cond (isKeptSend (sendAnswer (generation v queued (targetQueue to t) s))) 1 0
+send-keeps v by to t value queued s =
+    send-counted isKeep no-keep v by to t value queued s ∙ keeps (sent v by to t s value) _
+
+pub marked-said : (v : View) (by to t s : ℕ)
+    → count (marksAt (targetQueue to t) s) (acts v (kill by to t s))
+    ≡ cond (isMarked (Accepted (reply v (kill by to t s)))) 1 0
+unfolding acts reply onAccepted onReply sent
+marked-said v by to t s =
+    send-counted (marksAt (targetQueue to t) s) (no-mark (targetQueue to t) s) v by to t 0 false s
+    ∙ marks (targetQueue to t) s (sent v by to t s 0) refl refl _
 
 -- who can take a signal is no send's answer
 who-says : (v : View) (o : Option Thread) → isSent (Accepted (whoAnswer v o)) ≡ false
@@ -95,8 +177,8 @@ kept-said v (addProcess new) e = clash e refl
 kept-said v (addThread creator id) e = clash e refl
 kept-said v (endProcess id) e = clash e refl
 kept-said v (endThread id) e = clash e refl
-kept-said v (kill by to t s) e = send-said v by to t 0 false s
-kept-said v (sigqueue by to t s value) e = send-said v by to t value true s
+kept-said v (kill by to t s) e = send-keeps v by to t 0 false s
+kept-said v (sigqueue by to t s value) e = send-keeps v by to t value true s
 kept-said v (sigaction p s new) e = clash e refl
 kept-said v (sigmask t way set) e = clash e refl
 kept-said v (sigpending t) e = clash e refl
@@ -104,3 +186,29 @@ kept-said v (look t) e = clash e refl
 kept-said v (who p) e = clash e (who-says v _)
 kept-said v (take t) e = clash e refl
 kept-said v (sigreturn t saved) e = clash e refl
+
+-- ---- a take
+
+off-none : (t : Thread) (a : Action) (s : ℕ) → count takesEither (setsOff t a s) ≡ 0
+unfolding setsOff count takesEither
+off-none t a s =
+    split (eqb (a .handler) sigDfl)
+    (λ b. rw b (split (endsProcess (outcome s)) (λ c. rw c) (λ c. rw c)))
+    (λ b. rw b (split (isReset a s && ignoring s) (λ c. rw c) (λ c. rw c)))
+
+taken-once : (v : View) (t : Thread) (n : Next)
+    → count takesEither (takeActs v t n) ≡ cond (isTaken (takeAnswer v t n)) 1 0
+unfolding takeActs takeAnswer count takesEither isTaken
+taken-once v t noNext = refl
+taken-once v t (nextMark q s) = rw (delivered-yields v t (threadAction v t s) (markInfo q s))
+    (omega (arith, off-none t (threadAction v t s) s))
+taken-once v t (nextRecord q s r) = rw (delivered-yields v t (threadAction v t s) r)
+    (omega (arith, off-none t (threadAction v t s) s))
+
+-- a thread takes one where it is offered one
+pub takes-one : (v : View) (t : ℕ)
+    → count takesEither (acts v (take t)) ≡ cond (hasOffer v (theThread v t)) 1 0
+unfolding acts
+takes-one v t =
+    taken-once v (theThread v t) (next v (theThread v t))
+    ∙ ap (λ (b : Bool). cond b 1 0) (asking-yields v (theThread v t))

@@ -36,7 +36,7 @@ module _ (c : Call) (st : Store) (k : Ledger) (e : refusalOf st c ≡ 0) (h : Ho
       record { low = omega (arith, eqb-false s 0 z); high = ltb-false signals s (or-fst-false (overLast s) _ o) }
 
   -- a thread that takes is live, and found by its id
-  taker : (t : ℕ) → c ≡ take t → Taker k t
+  pub taker : (t : ℕ) → c ≡ take t → Taker k t
   unfolding table rows noThreadLive
   taker t i =
       let v : view st ≡ ledgerView k = same-view st k h in

@@ -152,7 +152,8 @@ setsOff t a s =
     (cond (isReset a s && signals.ignoring s) (emptied (nowIgnored (t .process) s) ∷ []) [])
 
 module _ (v : View) where
-  -- "process id 4, thread id 4 .., signal 4, code 4 (-1, queued), sender id 4, sender real user id 4, value 8"
+  -- "process id 4, thread id 4 .., signal 4, code 4 (-1, queued), sender id 4, sender real user id 4, value 8";
+  -- of a plain send only its queue and signal are used
   unfoldable pub sent : (by to thread signal value : ℕ) → Siginfo
   sent by to t s value =
       record {

@@ -1,10 +1,11 @@
--- Demand 1: what holds of every call that a host makes, whatever its tables hold. The proof is proofs/Demand1.
--- The demand: a call answers or gives one of document 01's refusals; a refusal writes nothing; nobody checks anything
--- beforehand; SIGKILL and SIGSTOP are never turned away.
+-- Demand 1: "Whatever bytes the tables hold and whatever the arguments, a call answers or gives one of document 01's
+-- refusals; a refusal writes nothing; nobody checks anything beforehand. SIGKILL and SIGSTOP are never turned away."
+-- The proof is proofs/Demand1. `callOn` is the call as a host makes it: the contract of `rrezhbuta_call` says that it
+-- leaves and returns just that, and asks nothing. h is what the host holds, n the number and g the arguments of a call.
 use Prim.Native.Nat.{ℕ, _≤_}
 use mathlib.Core.Path.{_≡_}
 use mathlib.Core.Bool.{Bool, true, false, _&&_, _||_}
-use mathlib.Core.List.{[]}
+use mathlib.Core.List.{List, []}
 use lib.Dec.{eqb}
 use lib.ListN.{length}
 use Rattle.limits.specs.Limits.{SIGKILL, SIGCONT, SIGSTOP, answerWords, callClear, callKill, callSigqueue}
@@ -13,11 +14,12 @@ use Rattle.lists.specs.Lists.{any, keep}
 use Rattle.sigset.specs.Set.{isUnmaskable, has}
 use Rattle.siginfo.specs.Bytes.{Bytes}
 use Rattle.types.specs.declared.Sent.the-variants.{Acted}
+use Rattle.types.specs.declared.Reply.{Reply}
 use Rattle.types.specs.declared.Reply.the-variants.{Sent}
 use Rattle.types.specs.declared.Answer.the-variants.{Accepted}
 use Rattle.rules.specs.Types.{Queue}
 use Rattle.rules.specs.View.{belongsTo, inQueue, actionOf, liveProcess, theProcess, theThread, pendingIn}
-use Rattle.rules.specs.Store.{recordsFor, markIn}
+use Rattle.rules.specs.Store.{recordsFor, markIn, cleared}
 use Rattle.rules.specs.Sending.{maySignal}
 use Rattle.rules.specs.Refusals.{tableOrder, badTarget}
 use Rattle.sound.specs.Lent.{Lent, decoded, viewOf, lengthsAre, soundTables}
@@ -45,6 +47,11 @@ pub record InWidth (h : Host) (g : Arguments) : Type 0 where
   pub processBuffer : Bytes (h .processBuffer)
   pub arguments : machineArguments g ≡ true
 
+-- the lent words have an answer from the first on
+pub record AnswerIn (words lent : List ℕ) : Type 0 where
+  pub reply : Reply
+  pub says : words ≡ written (Accepted reply) lent
+
 -- a live target, process or thread, of a live sender that may signal it, on sound tables, with room for the answer
 pub record MaySend (h : Host) (by to thread signal : ℕ) : Type 0 where
   pub sound : soundTables (lentBy h) ≡ true
@@ -53,7 +60,7 @@ pub record MaySend (h : Host) (by to thread signal : ℕ) : Type 0 where
   pub allowed : maySignal (theProcess (viewOf (lentBy h)) by) (theProcess (viewOf (lentBy h)) to) signal ≡ true
   pub room : answerWords ≤ length (h .answer)
 
--- "KILL ends the process: its threads, marks, records and actions go, places become zero."
+-- 01: "KILL ends the process: its threads, marks, records and actions go, places become zero."
 pub record Ended (l : Lent) (n : ℕ) : Type 0 where
   -- of a sound store a place that is not live is all zero
   pub sound : soundTables l ≡ true
@@ -62,13 +69,13 @@ pub record Ended (l : Lent) (n : ℕ) : Type 0 where
   pub marks : (q : Queue) (s : ℕ) → q .process ≡ n → markIn (decoded l) q s ≡ false
   pub records : (q : Queue) (s : ℕ) → q .process ≡ n → keep (inQueue q s) (recordsFor q (decoded l)) ≡ []
 
--- "STOP discards every pending CONT of the process and stops it."
+-- 01: "STOP discards every pending CONT of the process and stops it."
 pub record Stopped (l : Lent) (n : ℕ) : Type 0 where
   pub live : liveProcess (viewOf l) n ≡ true
   pub stopped : theProcess (viewOf l) n .stopped ≡ 1
   pub noCont : (q : Queue) → q .process ≡ n → pendingIn (viewOf l) q SIGCONT ≡ false
 
--- no mask, mark or action mask has the signal
+-- 01: "no mask, mark or action mask holds" the signal
 pub record NowhereMasked (l : Lent) (s : ℕ) : Type 0 where
   pub masks : (thread : ℕ) → has (theThread (viewOf l) thread .mask) s ≡ false
   pub marks : (q : Queue) → markIn (decoded l) q s ≡ false
@@ -77,22 +84,25 @@ pub record NowhereMasked (l : Lent) (s : ℕ) : Type 0 where
 pub record Demand1 : Type 0 where
   -- "a call answers or gives one of document 01's refusals"
   pub listed : (h : Host) (n : ℕ) (g : Arguments) → (eqb (callOn n g h .1) 0 || isListed (callOn n g h .1)) ≡ true
+  -- where it answers, the words are those of an answer, and the rest of what was lent for them stays
+  pub answered : (h : Host) (n : ℕ) (g : Arguments) → eqb (callOn n g h .1) 0 ≡ true
+      → AnswerIn (callOn n g h .0 .answer) (h .answer)
   -- "a refusal writes nothing": no table, and no word of the answer
   pub refused : (h : Host) (n : ℕ) (g : Arguments) → eqb (callOn n g h .1) 0 ≡ false → callOn n g h .0 ≡ h
   -- a call that only asks leaves all but the words of its answer as it was
-  pub asking : (h : Host) (n : ℕ) (g : Arguments) → InWidth h g → onlyAsks n g ≡ true
+  pub onlyAsked : (h : Host) (n : ℕ) (g : Arguments) → InWidth h g → onlyAsks n g ≡ true
       → callOn n g h .0 ≡ lending (callOn n g h .0 .answer) h
-  -- "nobody checks anything beforehand": clearing asks for lengths alone
+  -- 01: "clearing checks lengths only"; then the store is cleared, whatever was there
   pub clears : (h : Host) (g : Arguments) → lengthsAre (lentBy h) ≡ true → answerWords ≤ length (h .answer)
-      → callOn callClear g h .1 ≡ 0
-  -- "SIGKILL and SIGSTOP are never turned away": by either send, whatever is pending, masked or set
-  pub acts : (h : Host) (n : ℕ) (g : Arguments) → isSend n ≡ true → isUnmaskable (g .d) ≡ true
+      → (callOn callClear g h .1 ≡ 0) × (decoded (lentBy (callOn callClear g h .0)) ≡ cleared)
+  -- "SIGKILL and SIGSTOP are never turned away": by either send, whatever is pending, masked or set, on sound tables
+  pub acted : (h : Host) (n : ℕ) (g : Arguments) → isSend n ≡ true → isUnmaskable (g .d) ≡ true
       → MaySend h (g .a) (g .b) (g .c) (g .d)
       → (callOn n g h .1 ≡ 0) × (callOn n g h .0 .answer ≡ written (Accepted (Sent Acted)) (h .answer))
-  -- "KILL ends the process"
+  -- 01: "KILL ends the process"
   pub killed : (h : Host) (n : ℕ) (g : Arguments) → InWidth h g → isSend n ≡ true → g .d ≡ SIGKILL
       → MaySend h (g .a) (g .b) (g .c) (g .d) → Ended (lentBy (callOn n g h .0)) (g .b)
-  -- "STOP .. stops it"
+  -- 01: "STOP .. stops it"
   pub stopped : (h : Host) (n : ℕ) (g : Arguments) → InWidth h g → isSend n ≡ true → g .d ≡ SIGSTOP
       → MaySend h (g .a) (g .b) (g .c) (g .d) → Stopped (lentBy (callOn n g h .0)) (g .b)
   -- in every sound store, so in every one that a list of calls reaches (Demand3's `sound`)

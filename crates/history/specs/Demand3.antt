@@ -13,7 +13,7 @@ use Rattle.types.specs.declared.Siginfo.{Siginfo}
 use Rattle.types.specs.declared.Reply.the-variants.{Taken}
 use Rattle.types.specs.declared.Answer.{Answer}
 use Rattle.types.specs.declared.Answer.the-variants.{Accepted}
-use Rattle.rules.specs.Types.{Queue, Call, kill}
+use Rattle.rules.specs.Types.{Queue, Call, kill, take}
 use Rattle.rules.specs.View.{View, inQueue, targetQueue, liveThread, theThread, threadAction}
 use Rattle.rules.specs.Store.{held, used, recordsFor, markIn}
 use Rattle.rules.specs.Sending.{generation, needsRecord}
@@ -27,9 +27,9 @@ use Rattle.rrezhbuta.specs.Entry.{Host, lentBy, callOn, lookAt, slotAt}
 use Rattle.history.specs.Ledger.{Ledger, ofProcess, ledgerView, ledgerRefusal, ledgerAnswer, pendingWhere}
 use Rattle.history.specs.Acts.{Act, kept, marked, tookSend, tookMark, emptied, play, Turn, turns, takeTurn}
 use Rattle.history.specs.Acts.{actsOf}
-use Rattle.history.specs.Tally.{keptSince, takenSince, isKeep, keepsAt, isTake, takesAt}
+use Rattle.history.specs.Tally.{keptSince, takenSince, isKeep, keepsAt, marksAt, isTake, takesAt, takesEither}
 use Rattle.history.specs.History.{Past, Item, lending, after, cleared, machineItem, rowThread, heard, lookedBytes}
-use Rattle.history.specs.History.{bytesAt, isSent, isKept}
+use Rattle.history.specs.History.{bytesAt, isSent, isKept, isMarked}
 
 -- ---- what a take is, on the ledger at its turn
 
@@ -39,7 +39,7 @@ module _ (k : Ledger) where
     -- "to one thread of that process that did not block it, while the process was not stopped"
     pub live : liveThread (ledgerView k) t ≡ true
     pub allowed : MayTake (ledgerView k) (theThread (ledgerView k) t) q s
-    -- "A take removes the oldest send .. of the queue and signal chosen there"
+    -- 01: "A take removes the oldest send .. of the queue and signal chosen there"
     pub oldest : k .lines q s .sends ≡ r ∷ tail (k .lines q s .sends)
     -- "Each taken record went once": it is gone from its list
     pub gone : play (tookSend t q s r) k .lines q s .sends ≡ tail (k .lines q s .sends)
@@ -48,7 +48,7 @@ module _ (k : Ledger) where
   pub record TookMark (t : ℕ) (q : Queue) (s : ℕ) : Type 0 where
     pub live : liveThread (ledgerView k) t ≡ true
     pub allowed : MayTake (ledgerView k) (theThread (ledgerView k) t) q s
-    -- "or, with none, the mark"
+    -- 01: "or, with none, the mark"
     pub noSend : k .lines q s .sends ≡ []
     pub there : k .lines q s .mark ≡ true
     pub gone : play (tookMark t q s) k .lines q s .mark ≡ false
@@ -69,7 +69,15 @@ abbrev pub RightTurns : List Turn → Ledger → Type 0
 RightTurns [] k = Unit {0}
 RightTurns (x ∷ xs) k = RightActs (x .does (ledgerView k)) k × RightTurns xs (takeTurn x k)
 
--- "and answers by it": the answer is that of the send, or of the mark, which the act takes
+-- the thread of a take
+abbrev pub TakenBy : ℕ → Act → Type 0
+TakenBy t (kept r) = Unit {0}
+TakenBy t (marked q s) = Unit {0}
+TakenBy t (tookSend m q s r) = m ≡ t
+TakenBy t (tookMark m q s) = m ≡ t
+TakenBy t (emptied e) = Unit {0}
+
+-- 01: "and answers by it": the answer is that of the send, or of the mark, which the act takes
 module _ (v : View) (a : Answer) where
   abbrev pub AnswerBy : (thread : ℕ) → (signal : ℕ) → Siginfo → Type 0
   AnswerBy t s r = a ≡ Accepted (Taken (delivered (theThread v t) (threadAction v (theThread v t) s) r))
@@ -130,13 +138,17 @@ module _ (h : Host) (k : Ledger) (done : List Act) where
     -- "Each taken record went once, to one thread of that process that did not block it,
     -- while the process was not stopped": of any call, every take, of marks too
     pub takes : (c : Call) → ledgerRefusal k c ≡ 0 → RightTurns (turns seen c) k
-    -- "and answers by it"
+    -- 01: "and answers by it"
     pub answersBy : (c : Call) → ledgerRefusal k c ≡ 0
         → All (AnswersBy seen (ledgerAnswer k c)) (actsOf (turns seen c) k)
     -- "Asking a live thread for a signal yields one exactly when its process is not stopped and a signal that it does
     -- not block is pending for it or for its process."
     pub asking : (g : Arguments) (out : List ℕ) → answerWords ≤ length out → liveThread seen (g .a) ≡ true
         → yields (called callTake g out .0 .answer) ≡ hasOffer seen (theThread seen (g .a))
+    -- then the thread that asks takes one, and else none
+    pub takesOne : (t : ℕ) → ledgerRefusal k (take t) ≡ 0
+        → count takesEither (actsOf (turns seen (take t)) k) ≡ cond (hasOffer seen (theThread seen t)) 1 0
+    pub takesItself : (t : ℕ) → ledgerRefusal k (take t) ≡ 0 → All (TakenBy t) (actsOf (turns seen (take t)) k)
     -- "Of records, kept equals taken plus discarded plus pending": of a signal in a queue, and of all
     pub balance : (q : Queue) (s : ℕ)
         → k .lines q s .counts .kept
@@ -149,9 +161,13 @@ module _ (h : Host) (k : Ledger) (done : List Act) where
     pub takenCounted : (q : Queue) (s : ℕ) → k .lines q s .counts .taken ≡ count (takesAt q s) done
     pub keptTotal : k .total .kept ≡ count isKeep done
     pub takenTotal : k .total .taken ≡ count isTake done
-    -- a send that is answered "kept" keeps one, and no other send does
+    -- the answers say so: a send that is answered "kept" keeps one, and one that is answered "marked" sets its mark;
+    -- no other send does
     pub keptSaid : (c : Call) → ledgerRefusal k c ≡ 0 → isSent (ledgerAnswer k c) ≡ true
         → count isKeep (actsOf (turns seen c) k) ≡ cond (isKept (ledgerAnswer k c)) 1 0
+    pub markedSaid : (by to t s : ℕ) → ledgerRefusal k (kill by to t s) ≡ 0
+        → count (marksAt (targetQueue to t) s) (actsOf (turns seen (kill by to t s)) k)
+        ≡ cond (isMarked (ledgerAnswer k (kill by to t s))) 1 0
     -- "and room given back is used again": a queued send is refused for room exactly when a plain one would pass,
     -- it needs a record, and the sends pending for the process are 32 then; they are never more
     pub room : (g : Arguments) (out : List ℕ) → answerWords ≤ length out

@@ -74,6 +74,7 @@ lending out h = host (h .processes) (h .threadBuffer) (h .processBuffer) out (h 
 -- "Each gets the tables as the one before left them; nobody else writes them."
 unfoldable pub hostAfter : Item → Host → Host
 hostAfter (call n g out) h = callOn n g (lending out h) .0
+-- it is lent the tables to read only
 hostAfter (slotLook t) h = h
 
 -- "Its ledger gets the calls' arguments and which were refused, nothing of the tables": refused is what returns an
@@ -125,9 +126,20 @@ isKeptSend Absorbed = false
 isKeptSend Marked = false
 isKeptSend Kept = true
 
--- the send is kept
+unfoldable pub isMarkedSend : Sent → Bool
+isMarkedSend Tested = false
+isMarkedSend Acted = false
+isMarkedSend Dropped = false
+isMarkedSend Absorbed = false
+isMarkedSend Marked = true
+isMarkedSend Kept = false
+
+-- the send is kept; its mark is set
 abbrev pub isKept : Answer → Bool
 isKept = onAccepted isKeptSend (λ _. false)
+
+abbrev pub isMarked : Answer → Bool
+isMarked = onAccepted isMarkedSend (λ _. false)
 
 -- ---- what is read of the host, and in the ledger
 

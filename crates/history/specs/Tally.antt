@@ -28,7 +28,7 @@ takenSince q s (tookSend t j n r ∷ xs) = takenSince q s xs + cond (isAt j n q 
 takenSince q s (tookMark t j n ∷ xs) = takenSince q s xs
 takenSince q s (emptied e ∷ xs) = cond (empties e q s) 0 (takenSince q s xs)
 
--- ---- which acts keep a send, and which take one
+-- ---- which acts keep a send, set a mark, take
 
 unfoldable pub isKeep : Act → Bool
 isKeep (kept r) = true
@@ -44,12 +44,27 @@ keepsAt q s (tookSend t j n r) = false
 keepsAt q s (tookMark t j n) = false
 keepsAt q s (emptied e) = false
 
+unfoldable pub marksAt : Queue → ℕ → Act → Bool
+marksAt q s (kept r) = false
+marksAt q s (marked j n) = isAt j n q s
+marksAt q s (tookSend t j n r) = false
+marksAt q s (tookMark t j n) = false
+marksAt q s (emptied e) = false
+
 unfoldable pub isTake : Act → Bool
 isTake (kept r) = false
 isTake (marked q s) = false
 isTake (tookSend t q s r) = true
 isTake (tookMark t q s) = false
 isTake (emptied e) = false
+
+-- of a send or of a mark
+unfoldable pub takesEither : Act → Bool
+takesEither (kept r) = false
+takesEither (marked q s) = false
+takesEither (tookSend t q s r) = true
+takesEither (tookMark t q s) = true
+takesEither (emptied e) = false
 
 unfoldable pub takesAt : Queue → ℕ → Act → Bool
 takesAt q s (kept r) = false

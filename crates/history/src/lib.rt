@@ -1,1 +1,1 @@
-// Demand 3 stands in specs/ and its proof in proofs/. This crate has no code.
+// Demands 1 and 3 stand in specs/ and their proofs in proofs/. This crate has no code.
