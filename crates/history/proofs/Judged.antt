@@ -189,7 +189,8 @@ module _ (k : Ledger) (t : ℕ) (l : liveThread (ledgerView k) t ≡ true) where
 
   nobody : (s : ℕ) → All (TakenBy t) (setsOff it (threadAction v it s) s)
   nobody s =
-      All-imp Quiet (TakenBy t) (quiet-taken t) (setsOff it (threadAction v it s) s) (off-quiet it (threadAction v it s) s)
+      All-imp Quiet (TakenBy t) (quiet-taken t) (setsOff it (threadAction v it s) s)
+      (off-quiet it (threadAction v it s) s)
 
   module _ (i : it .id ≡ t) where
     take-right : (n : Next) → next v it ≡ n → RightActs (takeActs v it n) k
