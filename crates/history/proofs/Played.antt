@@ -100,6 +100,17 @@ ignored-empties p s h = discarded-by p (λ n. eqb n s) (one-signal s h)
 
 -- ---- a send
 
+-- a number is 0, KILL, STOP or another
+pub each-signal : (P : ℕ → Type 0) → P 0 → P SIGKILL → P SIGSTOP
+    → ((s : ℕ) → eqb s 0 ≡ false → eqb s SIGKILL ≡ false → eqb s SIGSTOP ≡ false → P s) → (s : ℕ) → P s
+each-signal P z k h o s =
+    split (eqb s 0)
+    (λ e. subst P (sym (eqb-true s 0 e)) z)
+    (λ e0.
+    split (eqb s SIGKILL)
+    (λ e. subst P (sym (eqb-true s SIGKILL e)) k)
+    (λ e1. split (eqb s SIGSTOP) (λ e. subst P (sym (eqb-true s SIGSTOP e)) h) (λ e2. o s e0 e1 e2)))
+
 -- the changes of job control with their events; KILL is apart
 job-both : (P : List Change → List Act → Type 0) (to s : ℕ) → eqb s SIGKILL ≡ false
     → P (discard to (setOf stopSignal) ∷ setStopped to 0 ∷ []) (emptied (contSent to) ∷ [])
@@ -190,16 +201,7 @@ module _ (v : View) (l : Ledger) (by to t value : ℕ) where
       (λ e4. arrived queued s e0 e1 e2 e3 e4))
 
   send-played : (queued : Bool) (s : ℕ) → Sent queued s
-  send-played queued s =
-      split (eqb s 0)
-      (λ e. subst (Sent queued) (sym (eqb-true s 0 e)) (tested queued))
-      (λ e0.
-      split (eqb s SIGKILL)
-      (λ e. subst (Sent queued) (sym (eqb-true s SIGKILL e)) (killed queued))
-      (λ e1.
-      split (eqb s SIGSTOP)
-      (λ e. subst (Sent queued) (sym (eqb-true s SIGSTOP e)) (stopped queued))
-      (λ e2. other-sent queued s e0 e1 e2)))
+  send-played queued = each-signal (Sent queued) (tested queued) (killed queued) (stopped queued) (other-sent queued)
 
 -- ---- a new action
 

@@ -1,14 +1,13 @@
 -- What an answer says of a call's acts: a send that is answered "kept" keeps one, one that is answered "marked" sets
 -- its mark, and a take takes one where one is offered. Assumes nothing.
 use Prim.Native.Nat.{ℕ, _+_}
-use mathlib.Core.Path.{_≡_, refl, sym, ap, ap₂, _∙_, subst}
+use mathlib.Core.Path.{_≡_, refl, ap, ap₂, _∙_}
 use mathlib.Core.Bool.{Bool, true, false, _&&_, _||_, cond}
 use mathlib.Core.List.{List, [], _∷_, _++_}
 use mathlib.Core.Option.{Option, some, none}
 use native.Mathlib.Omega.{arith}
 use lib.Dec.{eqb}
-use borrow.Author.Tests.{eqb-true}
-use Rattle.limits.specs.Limits.{SIGKILL, SIGCONT, SIGSTOP, sigDfl}
+use Rattle.limits.specs.Limits.{SIGKILL, SIGCONT, SIGSTOP, sigDfl, answerKept, answerMarked}
 use Rattle.lists.specs.Lists.{count}
 use Rattle.lists.proofs.Bools.{split, clash}
 use Rattle.lists.proofs.Lists.{count-append}
@@ -26,12 +25,14 @@ use Rattle.rules.specs.Taking.{whoAnswer, taker, next, markInfo, takeAnswer}
 use Rattle.rules.specs.Asking.{hasOffer, onReply, onAccepted, isTaken}
 use Rattle.rules.specs.Calls.{reply}
 use Rattle.rules.proofs.Asking.{delivered-yields, asking-yields}
+use Rattle.boundary.specs.Boundary.{sentWord}
 use Rattle.history.specs.Ledger.{isAt}
 use Rattle.history.specs.Acts.{Event, stopSent, contSent, processEnds, Act, kept, marked, emptied, endsProcess}
 use Rattle.history.specs.Acts.{isReset, setsOff, takeActs, sent, isDropped, isAbsorbed, arrival, jobEvents}
 use Rattle.history.specs.Acts.{sendActs, acts}
-use Rattle.history.specs.Tally.{isKeep, marksAt, takesEither}
-use Rattle.history.specs.History.{isSent, isKeptSend, isMarkedSend, isKept, isMarked}
+use Rattle.history.specs.Tally.{keepsWhere, isKeep, marksAt, takesWhere, takesEither}
+use Rattle.history.specs.History.{isSent, isSentAs, isKept, isMarked}
+use Rattle.history.proofs.Played.{each-signal}
 use Rattle.history.proofs.Judged.{at-itself}
 
 -- ---- acts of a send that pass a test which no event passes
@@ -102,26 +103,18 @@ module _ (p : Act → Bool) (none : (e : Event) → p (emptied e) ≡ false) whe
         (λ e4. rw (e0, e1, e2, e3, e4) (arrived queued s)))
 
     send-counted : (queued : Bool) (s : ℕ) → Counted queued s
-    send-counted queued s =
-        split (eqb s 0)
-        (λ e. subst (Counted queued) (sym (eqb-true s 0 e)) (tested queued))
-        (λ e0.
-        split (eqb s SIGKILL)
-        (λ e. subst (Counted queued) (sym (eqb-true s SIGKILL e)) (acted queued .0))
-        (λ e1.
-        split (eqb s SIGSTOP)
-        (λ e. subst (Counted queued) (sym (eqb-true s SIGSTOP e)) (acted queued .1))
-        (λ e2. other-counted queued s e0 e1 e2)))
+    send-counted queued =
+        each-signal (Counted queued) (tested queued) (acted queued .0) (acted queued .1) (other-counted queued)
 
 -- ---- what the answer says
 
 no-keep : (e : Event) → isKeep (emptied e) ≡ false
-unfolding isKeep
+unfolding keepsWhere
 no-keep e = refl
 
 -- the send is kept where its answer says so
-keeps : (r : Siginfo) (f : Generation) → arrives isKeep no-keep r f ≡ cond (isKeptSend (sendAnswer f)) 1 0
-unfolding arrives one isKeep isKeptSend sendAnswer
+keeps : (r : Siginfo) (f : Generation) → arrives isKeep no-keep r f ≡ cond (eqb (sentWord (sendAnswer f)) answerKept) 1 0
+unfolding arrives one keepsWhere sendAnswer sentWord
 keeps r testing = refl
 keeps r killing = refl
 keeps r stopping = refl
@@ -137,8 +130,8 @@ module _ (q : Queue) (s : ℕ) where
 
   -- the mark is set where its answer says so
   marks : (r : Siginfo) → queueOf r ≡ q → r .signal ≡ s → (f : Generation)
-      → arrives (marksAt q s) no-mark r f ≡ cond (isMarkedSend (sendAnswer f)) 1 0
-  unfolding arrives one marksAt isMarkedSend sendAnswer
+      → arrives (marksAt q s) no-mark r f ≡ cond (eqb (sentWord (sendAnswer f)) answerMarked) 1 0
+  unfolding arrives one marksAt sendAnswer sentWord
   marks r i j testing = refl
   marks r i j killing = refl
   marks r i j stopping = refl
@@ -151,14 +144,14 @@ module _ (q : Queue) (s : ℕ) where
 
 send-keeps : (v : View) (by to t value : ℕ) (queued : Bool) (s : ℕ)
     → count isKeep (sendActs v queued (sent v by to t s value))
-    ≡ cond (isKeptSend (sendAnswer (generation v queued (targetQueue to t) s))) 1 0
+    ≡ cond (eqb (sentWord (sendAnswer (generation v queued (targetQueue to t) s))) answerKept) 1 0
 send-keeps v by to t value queued s =
     send-counted isKeep no-keep v by to t value queued s ∙ keeps (sent v by to t s value) _
 
 pub marked-said : (v : View) (by to t s : ℕ)
     → count (marksAt (targetQueue to t) s) (acts v (kill by to t s))
     ≡ cond (isMarked (Accepted (reply v (kill by to t s)))) 1 0
-unfolding acts reply onAccepted onReply sent
+unfolding acts reply isSentAs onAccepted onReply sent
 marked-said v by to t s =
     send-counted (marksAt (targetQueue to t) s) (no-mark (targetQueue to t) s) v by to t 0 false s
     ∙ marks (targetQueue to t) s (sent v by to t s 0) refl refl _
@@ -171,7 +164,7 @@ who-says v (some t) = refl
 
 pub kept-said : (v : View) (c : Call) → isSent (Accepted (reply v c)) ≡ true
     → count isKeep (acts v c) ≡ cond (isKept (Accepted (reply v c))) 1 0
-unfolding reply acts taker onAccepted onReply
+unfolding reply acts taker isSentAs onAccepted onReply
 kept-said v clear e = clash e refl
 kept-said v (addProcess new) e = clash e refl
 kept-said v (addThread creator id) e = clash e refl
@@ -190,7 +183,7 @@ kept-said v (sigreturn t saved) e = clash e refl
 -- ---- a take
 
 off-none : (t : Thread) (a : Action) (s : ℕ) → count takesEither (setsOff t a s) ≡ 0
-unfolding setsOff count takesEither
+unfolding setsOff count takesWhere
 off-none t a s =
     split (eqb (a .handler) sigDfl)
     (λ b. rw b (split (endsProcess (outcome s)) (λ c. rw c) (λ c. rw c)))
@@ -198,7 +191,7 @@ off-none t a s =
 
 taken-once : (v : View) (t : Thread) (n : Next)
     → count takesEither (takeActs v t n) ≡ cond (isTaken (takeAnswer v t n)) 1 0
-unfolding takeActs takeAnswer count takesEither isTaken
+unfolding takeActs takeAnswer count takesWhere isTaken
 taken-once v t noNext = refl
 taken-once v t (nextMark q s) = rw (delivered-yields v t (threadAction v t s) (markInfo q s))
     (omega (arith, off-none t (threadAction v t s) s))

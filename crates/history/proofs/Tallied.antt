@@ -13,7 +13,7 @@ use Rattle.rules.specs.View.{setMask, setMark, clearMark, append, dropOldest, d
 use Rattle.history.specs.Ledger.{Counts, Line, Ledger, emptyLedger, ledgerView, withMark, isAt, place, placeAll}
 use Rattle.history.specs.Acts.{Act, kept, marked, tookSend, tookMark, emptied, empties, keepSend, takeSend}
 use Rattle.history.specs.Acts.{emptyLine, play, playAll, Turn, takeTurn, takeTurns, actsOf}
-use Rattle.history.specs.Tally.{keptSince, takenSince, isKeep, keepsAt, isTake, takesAt}
+use Rattle.history.specs.Tally.{keptSince, takenSince, keepsWhere, isKeep, keepsAt, takesWhere, isTake, takesAt}
 use Rattle.history.specs.History.{onto}
 use Rattle.history.specs.Demand3.{Right, RightActs, RightTurns}
 use Rattle.history.proofs.Records.{at-queue, at-signal}
@@ -107,7 +107,7 @@ tallies-start =
 
 -- an act that is right
 tallies-play : (a : Act) (k : Ledger) (done : List Act) → Right k a → Tallies k done → Tallies (play a k) (a ∷ done)
-unfolding play keptSince takenSince count keepsAt takesAt isKeep isTake
+unfolding play keptSince takenSince count keepsWhere takesWhere
 tallies-play (kept r) k done w h =
     record {
       line = λ q s. line-kept (k .lines q s) _ _ _ _ (h .line q s) r (inQueue q s r);

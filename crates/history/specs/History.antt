@@ -4,11 +4,9 @@ use mathlib.Core.Bool.{Bool, true, false, not, _&&_, cond}
 use mathlib.Core.List.{List, [], _∷_}
 use lib.Dec.{eqb, ltb}
 use lib.ListN.{length}
-use Rattle.limits.specs.Limits.{EINVAL, bufferRecords, recordBytes, callClear}
+use Rattle.limits.specs.Limits.{EINVAL, bufferRecords, recordBytes, callClear, answerKept, answerMarked}
 use Rattle.lists.specs.Rows.{row}
 use Rattle.siginfo.specs.Bytes.{bytesOf}
-use Rattle.types.specs.declared.Sent.{Sent}
-use Rattle.types.specs.declared.Sent.the-variants.{Tested, Acted, Dropped, Absorbed, Marked, Kept}
 use Rattle.types.specs.declared.Answer.{Answer}
 use Rattle.types.specs.declared.Answer.the-variants.{Refused}
 use Rattle.rules.specs.Types.{Thread, Call, look, Next, noNext, nextMark, nextRecord}
@@ -16,7 +14,7 @@ use Rattle.rules.specs.View.{theThread}
 use Rattle.rules.specs.Taking.{next}
 use Rattle.rules.specs.Asking.{onAccepted}
 use Rattle.rules.specs.Machine.{isU32, isU64}
-use Rattle.boundary.specs.Boundary.{Arguments, accepted, numbered}
+use Rattle.boundary.specs.Boundary.{Arguments, accepted, numbered, sentWord}
 use Rattle.threads.specs.declared.Thread as records
 use Rattle.rrezhbuta.specs.Entry.{Host, host, callOn}
 use Rattle.history.specs.Ledger.{Ledger, emptyLedger, ledgerView, ledgerRefusal, ledgerAnswer}
@@ -118,28 +116,16 @@ machineItem (slotLook t) = true
 abbrev pub isSent : Answer → Bool
 isSent = onAccepted (λ _. true) (λ _. false)
 
-unfoldable pub isKeptSend : Sent → Bool
-isKeptSend Tested = false
-isKeptSend Acted = false
-isKeptSend Dropped = false
-isKeptSend Absorbed = false
-isKeptSend Marked = false
-isKeptSend Kept = true
-
-unfoldable pub isMarkedSend : Sent → Bool
-isMarkedSend Tested = false
-isMarkedSend Acted = false
-isMarkedSend Dropped = false
-isMarkedSend Absorbed = false
-isMarkedSend Marked = true
-isMarkedSend Kept = false
+-- it is answered so, by its number
+unfoldable pub isSentAs : (answer : ℕ) → Answer → Bool
+isSentAs n = onAccepted (λ x. eqb (sentWord x) n) (λ _. false)
 
 -- the send is kept; its mark is set
 abbrev pub isKept : Answer → Bool
-isKept = onAccepted isKeptSend (λ _. false)
+isKept = isSentAs answerKept
 
 abbrev pub isMarked : Answer → Bool
-isMarked = onAccepted isMarkedSend (λ _. false)
+isMarked = isSentAs answerMarked
 
 -- ---- what is read of the host, and in the ledger
 

@@ -28,21 +28,14 @@ takenSince q s (tookSend t j n r ∷ xs) = takenSince q s xs + cond (isAt j n q 
 takenSince q s (tookMark t j n ∷ xs) = takenSince q s xs
 takenSince q s (emptied e ∷ xs) = cond (empties e q s) 0 (takenSince q s xs)
 
--- ---- which acts keep a send, set a mark, take
+-- ---- which acts keep a send, set a mark, take a send or a mark
 
-unfoldable pub isKeep : Act → Bool
-isKeep (kept r) = true
-isKeep (marked q s) = false
-isKeep (tookSend t q s r) = false
-isKeep (tookMark t q s) = false
-isKeep (emptied e) = false
-
-unfoldable pub keepsAt : Queue → ℕ → Act → Bool
-keepsAt q s (kept r) = inQueue q s r
-keepsAt q s (marked j n) = false
-keepsAt q s (tookSend t j n r) = false
-keepsAt q s (tookMark t j n) = false
-keepsAt q s (emptied e) = false
+unfoldable pub keepsWhere : (Siginfo → Bool) → Act → Bool
+keepsWhere p (kept r) = p r
+keepsWhere p (marked q s) = false
+keepsWhere p (tookSend t q s r) = false
+keepsWhere p (tookMark t q s) = false
+keepsWhere p (emptied e) = false
 
 unfoldable pub marksAt : Queue → ℕ → Act → Bool
 marksAt q s (kept r) = false
@@ -51,24 +44,27 @@ marksAt q s (tookSend t j n r) = false
 marksAt q s (tookMark t j n) = false
 marksAt q s (emptied e) = false
 
-unfoldable pub isTake : Act → Bool
-isTake (kept r) = false
-isTake (marked q s) = false
-isTake (tookSend t q s r) = true
-isTake (tookMark t q s) = false
-isTake (emptied e) = false
+-- a: of sends, b: of marks too
+unfoldable pub takesWhere : (a b : Queue → ℕ → Bool) → Act → Bool
+takesWhere a b (kept r) = false
+takesWhere a b (marked q s) = false
+takesWhere a b (tookSend t q s r) = a q s
+takesWhere a b (tookMark t q s) = b q s
+takesWhere a b (emptied e) = false
 
--- of a send or of a mark
-unfoldable pub takesEither : Act → Bool
-takesEither (kept r) = false
-takesEither (marked q s) = false
-takesEither (tookSend t q s r) = true
-takesEither (tookMark t q s) = true
-takesEither (emptied e) = false
+-- a send is kept, one of that signal in that queue
+abbrev pub isKeep : Act → Bool
+isKeep = keepsWhere (λ r. true)
 
-unfoldable pub takesAt : Queue → ℕ → Act → Bool
-takesAt q s (kept r) = false
-takesAt q s (marked j n) = false
-takesAt q s (tookSend t j n r) = isAt j n q s
-takesAt q s (tookMark t j n) = false
-takesAt q s (emptied e) = false
+abbrev pub keepsAt : Queue → ℕ → Act → Bool
+keepsAt q s = keepsWhere (inQueue q s)
+
+-- a send is taken, one of that signal in that queue; a send or a mark
+abbrev pub isTake : Act → Bool
+isTake = takesWhere (λ q s. true) (λ q s. false)
+
+abbrev pub takesAt : Queue → ℕ → Act → Bool
+takesAt q s = takesWhere (λ j n. isAt j n q s) (λ j n. false)
+
+abbrev pub takesEither : Act → Bool
+takesEither = takesWhere (λ q s. true) (λ q s. true)
