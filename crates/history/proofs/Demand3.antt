@@ -7,7 +7,7 @@ use lib.Dec.{eqb}
 use lib.ListN.{length}
 use borrow.Author.Tests.{eqb-true}
 use Rattle.limits.specs.Limits.{EINVAL, EFAULT, EAGAIN, recordLimit, answerWords, callClear, callSigqueue, callTake}
-use Rattle.lists.specs.Lists.{all, count, padded, All}
+use Rattle.lists.specs.Lists.{all, any, count, padded, All}
 use Rattle.lists.proofs.Bools.{split, and-fst, and-snd, cond-true, cond-false}
 use Rattle.types.specs.declared.Siginfo.{Siginfo}
 use Rattle.types.specs.declared.Taken.{Taken}
@@ -15,10 +15,9 @@ use Rattle.types.specs.declared.Taken.the-variants as taken
 use Rattle.types.specs.declared.Reply.the-variants as reply
 use Rattle.types.specs.declared.Answer.{Answer}
 use Rattle.types.specs.declared.Answer.the-variants.{Refused, Accepted}
-use Rattle.rules.specs.Types.{Call, kill, take}
+use Rattle.rules.specs.Types.{Call, kill, sigqueue, take}
 use Rattle.rules.specs.View.{View, targetQueue, liveThread, theThread}
 use Rattle.rules.specs.Store.{Store}
-use Rattle.rules.specs.Sending.{generation, needsRecord}
 use Rattle.rules.specs.Taking.{next, takeAnswer}
 use Rattle.rules.specs.Asking.{hasOffer, isTaken}
 use Rattle.rules.specs.Refusals.{refusal, rows, noThreadLive, refusalOf}
@@ -52,7 +51,7 @@ use Rattle.history.proofs.Judged.{itself}
 use Rattle.history.proofs.Looks.{same-look, same-slot}
 use Rattle.history.proofs.Relation.{Agrees}
 use Rattle.history.proofs.Returns.{step-errno, has-room, cleared-tables}
-use Rattle.history.proofs.Said.{kept-said, marked-said, takes-one}
+use Rattle.history.proofs.Said.{keeps-needed, kept-said, marked-said, takes-one}
 use Rattle.history.proofs.Tallied.{Tallies, tallies-start, tallies-turns}
 use Rattle.history.proofs.Turns.{taker, holds-turns, right-turns, answers-turns}
 use Rattle.history.proofs.Widths.{Widths, widths-cleared, widths-step}
@@ -288,12 +287,15 @@ module _ (h : Host) (b : Book) (r : Reached (lentBy h) b) where
   room : (g : Arguments) (out : List ℕ) → answerWords ≤ length out
       → eqb (callOn callSigqueue g (lending out h) .1) EAGAIN
       ≡ (eqb (refusal (rows seen (kill (g .a) (g .b) (g .c) (g .d)))) 0
-      && (needsRecord (generation seen true (targetQueue (g .b) (g .c)) (g .d))
+      && (any isKeep (acts seen (sigqueue (g .a) (g .b) (g .c) (g .d) (g .x)))
       && eqb (pendingWhere ledger (ofProcess (g .b))) recordLimit))
   unfolding numbered callsOf isCall
   room g out o =
       ap (λ (n : ℕ). eqb n EAGAIN) (returned callSigqueue g out ∙ ap errnoOf (heard-call callSigqueue g out refl o))
       ∙ room-counted (decoded tables) ledger (r .holds) (g .a) (g .b) (g .c) (g .d) (g .x)
+      ∙ ap (λ (b : Bool). eqb (refusal (rows seen (kill (g .a) (g .b) (g .c) (g .d)))) 0
+      && (b && eqb (pendingWhere ledger (ofProcess (g .b))) recordLimit))
+      (sym (keeps-needed seen (g .a) (g .b) (g .c) (g .d) (g .x)))
 
   claim : Claim h ledger (b .acts)
   unfolding lookAt

@@ -1,16 +1,16 @@
 -- What an answer says of a call's acts: a send that is answered "kept" keeps one, one that is answered "marked" sets
 -- its mark, and a take takes one where one is offered. Assumes nothing.
 use Prim.Native.Nat.{ℕ, _+_}
-use mathlib.Core.Path.{_≡_, refl, ap, ap₂, _∙_}
+use mathlib.Core.Path.{_≡_, refl, sym, ap, ap₂, _∙_}
 use mathlib.Core.Bool.{Bool, true, false, _&&_, _||_, cond}
 use mathlib.Core.List.{List, [], _∷_, _++_}
 use mathlib.Core.Option.{Option, some, none}
 use native.Mathlib.Omega.{arith}
 use lib.Dec.{eqb}
 use Rattle.limits.specs.Limits.{SIGKILL, SIGCONT, SIGSTOP, sigDfl, answerKept, answerMarked}
-use Rattle.lists.specs.Lists.{count}
+use Rattle.lists.specs.Lists.{any, count}
 use Rattle.lists.proofs.Bools.{split, clash}
-use Rattle.lists.proofs.Lists.{count-append}
+use Rattle.lists.proofs.Lists.{count-append, none-count, count-none}
 use Rattle.types.specs.declared.Action.{Action}
 use Rattle.types.specs.declared.Siginfo.{Siginfo}
 use Rattle.types.specs.declared.Answer.the-variants.{Accepted}
@@ -20,7 +20,7 @@ use Rattle.rules.specs.Types.{sigreturn}
 use Rattle.rules.specs.Signals.{outcome, ignoring, stopSignal, ignored}
 use Rattle.rules.specs.View.{View, targetQueue, queueOf, actionOf, theProcess, theThread, threadAction}
 use Rattle.rules.specs.Sending.{Generation, testing, killing, stopping, dropping, absorbing, marking, keeping}
-use Rattle.rules.specs.Sending.{generation, absorbs, sendAnswer}
+use Rattle.rules.specs.Sending.{generation, absorbs, sendAnswer, needsRecord}
 use Rattle.rules.specs.Taking.{whoAnswer, taker, next, markInfo, takeAnswer}
 use Rattle.rules.specs.Asking.{hasOffer, onReply, onAccepted, isTaken}
 use Rattle.rules.specs.Calls.{reply}
@@ -147,6 +147,30 @@ send-keeps : (v : View) (by to t value : ℕ) (queued : Bool) (s : ℕ)
     ≡ cond (eqb (sentWord (sendAnswer (generation v queued (targetQueue to t) s))) answerKept) 1 0
 send-keeps v by to t value queued s =
     send-counted isKeep no-keep v by to t value queued s ∙ keeps (sent v by to t s value) _
+
+-- a record is needed where one is kept
+record-needed : (f : Generation) → needsRecord f ≡ eqb (sentWord (sendAnswer f)) answerKept
+unfolding needsRecord sendAnswer sentWord
+record-needed testing = refl
+record-needed killing = refl
+record-needed stopping = refl
+record-needed dropping = refl
+record-needed absorbing = refl
+record-needed marking = refl
+record-needed keeping = refl
+
+any-one : (xs : List Act) (b : Bool) → count isKeep xs ≡ cond b 1 0 → any isKeep xs ≡ b
+any-one xs true e =
+    split (any isKeep xs) (λ f. f)
+    (λ f. absurd (omega (arith, e, none-count isKeep xs f)))
+any-one xs false e = count-none isKeep xs e
+
+pub keeps-needed : (v : View) (by to t s value : ℕ)
+    → any isKeep (acts v (sigqueue by to t s value)) ≡ needsRecord (generation v true (targetQueue to t) s)
+unfolding acts
+keeps-needed v by to t s value =
+    any-one (sendActs v true (sent v by to t s value)) _ (send-keeps v by to t value true s)
+    ∙ sym (record-needed (generation v true (targetQueue to t) s))
 
 pub marked-said : (v : View) (by to t s : ℕ)
     → count (marksAt (targetQueue to t) s) (acts v (kill by to t s))

@@ -8,15 +8,14 @@ use mathlib.Core.List.{List, [], _∷_, map, tail}
 use lib.Dec.{eqb}
 use lib.ListN.{length, drop, getD}
 use Rattle.limits.specs.Limits.{recordLimit, EAGAIN, EFAULT, answerWords, answerNothing, callSigqueue, callTake}
-use Rattle.lists.specs.Lists.{all, count, keep, All}
+use Rattle.lists.specs.Lists.{all, any, count, keep, All}
 use Rattle.types.specs.declared.Siginfo.{Siginfo}
 use Rattle.types.specs.declared.Reply.the-variants.{Taken}
 use Rattle.types.specs.declared.Answer.{Answer}
 use Rattle.types.specs.declared.Answer.the-variants.{Accepted}
-use Rattle.rules.specs.Types.{Queue, Call, kill, take}
+use Rattle.rules.specs.Types.{Queue, Call, kill, sigqueue, take}
 use Rattle.rules.specs.View.{View, inQueue, targetQueue, liveThread, theThread, threadAction}
 use Rattle.rules.specs.Store.{held, used, recordsFor, markIn}
-use Rattle.rules.specs.Sending.{generation, needsRecord}
 use Rattle.rules.specs.Taking.{delivered, markInfo}
 use Rattle.rules.specs.Asking.{MayTake, hasOffer}
 use Rattle.rules.specs.Refusals.{refusal, rows}
@@ -25,7 +24,7 @@ use Rattle.answers.specs.Step.{encoded}
 use Rattle.boundary.specs.Boundary.{Arguments, errnoOf, written}
 use Rattle.rrezhbuta.specs.Entry.{Host, lentBy, callOn, lookAt, slotAt}
 use Rattle.history.specs.Ledger.{Ledger, ofProcess, ledgerView, ledgerRefusal, ledgerAnswer, pendingWhere}
-use Rattle.history.specs.Acts.{Act, kept, marked, tookSend, tookMark, emptied, play, Turn, turns, takeTurn}
+use Rattle.history.specs.Acts.{acts, Act, kept, marked, tookSend, tookMark, emptied, play, Turn, turns, takeTurn}
 use Rattle.history.specs.Acts.{actsOf}
 use Rattle.history.specs.Tally.{keptSince, takenSince, isKeep, keepsAt, marksAt, isTake, takesAt, takesEither}
 use Rattle.history.specs.History.{Past, Item, lending, after, cleared, machineItem, rowThread, heard, lookedBytes}
@@ -63,7 +62,7 @@ module _ (k : Ledger) where
 -- each act on the ledger that those before it left
 abbrev pub RightActs : List Act → Ledger → Type 0
 RightActs [] k = Unit {0}
-RightActs (a ∷ done) k = Right k a × RightActs done (play a k)
+RightActs (a ∷ xs) k = Right k a × RightActs xs (play a k)
 
 abbrev pub RightTurns : List Turn → Ledger → Type 0
 RightTurns [] k = Unit {0}
@@ -169,11 +168,11 @@ module _ (h : Host) (k : Ledger) (done : List Act) where
         → count (marksAt (targetQueue to t) s) (actsOf (turns seen (kill by to t s)) k)
         ≡ cond (isMarked (ledgerAnswer k (kill by to t s))) 1 0
     -- "and room given back is used again": a queued send is refused for room exactly when a plain one would pass,
-    -- it needs a record, and the sends pending for the process are 32 then; they are never more
+    -- it would keep one, and the sends pending for the process are 32 then; they are never more
     pub room : (g : Arguments) (out : List ℕ) → answerWords ≤ length out
         → eqb (called callSigqueue g out .1) EAGAIN
         ≡ (eqb (refusal (rows seen (kill (g .a) (g .b) (g .c) (g .d)))) 0
-        && (needsRecord (generation seen true (targetQueue (g .b) (g .c)) (g .d))
+        && (any isKeep (acts seen (sigqueue (g .a) (g .b) (g .c) (g .d) (g .x)))
         && eqb (pendingWhere k (ofProcess (g .b))) recordLimit))
     pub limit : (n : ℕ) → pendingWhere k (ofProcess n) ≤ recordLimit
 
