@@ -14,7 +14,7 @@ use Rattle.lists.specs.Lists.{all}
 use Rattle.lists.specs.Rows.{flat}
 use Rattle.lists.proofs.Bools.{split, and-fst, and-snd, and-both, cond-true, cond-false}
 use Rattle.lists.proofs.Lists.{all-getD}
-use Rattle.lists.proofs.Rows.{length-rows, flat-rows, spelled}
+use Rattle.lists.proofs.Rows.{flat-rows, spelled}
 use Rattle.sigset.specs.declared.SigSet.{SigSet}
 use Rattle.types.specs.declared.Action.{Action}
 use Rattle.types.specs.declared.Answer.{Answer}
@@ -208,12 +208,7 @@ module _ (n : ℕ) (g : Arguments) (h : Host) where
   unfolding callOn handedBack served servedBy
   entry-words = refl
 
-  -- the row keeps its length
-  pub entry-row : length (callOn n g h .0 .threads) ≡ length (h .threads)
-  unfolding callOn handedBack recordsOf
-  entry-row = length-rows recordFrom threadWords (length (h .threads)) _
-
-  -- so do its words
+  -- the row has as many words as before
   served-threads : machine (numbered n g) ≡ true → length (outcome .0 .threads) ≡ length (wordsOf (h .threads))
   served-threads u =
       let long : Lent × Answer → ℕ = λ x. length (x .0 .threads) in

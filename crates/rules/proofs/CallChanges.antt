@@ -60,26 +60,16 @@ plain-generation false false false true e = refl
 plain-generation false false false false true = refl
 plain-generation false false false false false = refl
 
-pub plain-send : (v : View) (q : Queue) (s : ℕ) → needsRecord (generation v false q s) ≡ false
+plain-send : (v : View) (q : Queue) (s : ℕ) → needsRecord (generation v false q s) ≡ false
 unfolding generation
 plain-send v q s =
     plain-generation (eqb s 0) (eqb s SIGKILL) (eqb s SIGSTOP) (ignored (actionOf (theProcess v (q .process)) s) s)
     (absorbs v false q s)
 
 -- a record is needed where one is kept
-pub needs-keeping : (f : Generation) → f ≡ keeping → needsRecord f ≡ true
+needs-keeping : (f : Generation) → f ≡ keeping → needsRecord f ≡ true
 unfolding needsRecord
 needs-keeping f e = ap needsRecord e
-
-pub keeping-needs : (f : Generation) → needsRecord f ≡ true → f ≡ keeping
-unfolding needsRecord
-keeping-needs testing e = clash e refl
-keeping-needs killing e = clash e refl
-keeping-needs stopping e = clash e refl
-keeping-needs dropping e = clash e refl
-keeping-needs absorbing e = clash e refl
-keeping-needs marking e = clash e refl
-keeping-needs keeping e = refl
 
 module _ (P : Change → Type 0) (h : Quiet P) where
   store-made : (p s : ℕ) (a : Action) → All P (storeChanges p s a)
@@ -97,7 +87,7 @@ module _ (P : Change → Type 0) (h : Quiet P) where
   mask-made v t way none = tt
   mask-made v t way (some m) = (h .masks t _, tt)
 
-  pub job-made : (p s : ℕ) → All P (jobControl p s)
+  job-made : (p s : ℕ) → All P (jobControl p s)
   unfolding jobControl
   job-made p s =
       split (eqb s SIGCONT)
@@ -132,7 +122,7 @@ module _ (P : Change → Type 0) (h : Quiet P) where
   outcome-made continues p = tt
   outcome-made ends p = (h .ended p, tt)
 
-  pub deliver-made : (t : Thread) (a : Action) (s : ℕ) → All P (deliver t a s)
+  deliver-made : (t : Thread) (a : Action) (s : ℕ) → All P (deliver t a s)
   unfolding deliver
   deliver-made t a s =
       split (eqb (a .handler) sigDfl)
