@@ -113,7 +113,8 @@ unfolding keepsWhere
 no-keep e = refl
 
 -- the send is kept where its answer says so
-keeps : (r : Siginfo) (f : Generation) → arrives isKeep no-keep r f ≡ cond (eqb (sentWord (sendAnswer f)) answerKept) 1 0
+keeps : (r : Siginfo) (f : Generation)
+    → arrives isKeep no-keep r f ≡ cond (eqb (sentWord (sendAnswer f)) answerKept) 1 0
 unfolding arrives one keepsWhere sendAnswer sentWord
 keeps r testing = refl
 keeps r killing = refl

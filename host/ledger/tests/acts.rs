@@ -1,21 +1,15 @@
 //! The acts of a call, what an act does to the ledger, and what the acts of many calls come to.
 
+mod beginning;
 mod common;
 
+use beginning::{begin, make_all, PROCESS, THREAD};
 use common::{call, make};
 use rrezhbuta_ledger::acts::{Act, Event};
 use rrezhbuta_ledger::ledger::{Counts, Ledger};
 use rrezhbuta_ledger::side::{Queue, Record};
 use rrezhbuta_ledger::tally::disagreement;
 
-const PROCESS: Queue = Queue {
-    process: 100,
-    thread: 0,
-};
-const THREAD: Queue = Queue {
-    process: 100,
-    thread: 200,
-};
 const ENDS: Act = Act::Emptied(Event::ProcessEnds { process: 100 });
 const STOP_SENT: Act = Act::Emptied(Event::StopSent { process: 100 });
 const CONT_SENT: Act = Act::Emptied(Event::ContSent { process: 100 });
@@ -60,22 +54,10 @@ fn took_mark(queue: Queue, signal: u32) -> Act {
     }
 }
 
-/// Process 1 of user 0 with thread 2; process 100 with threads 200, which blocks everything, and 201.
-const BEGINNING: [&str; 5] = [
-    "clear",
-    "add_process id=1 real=5 effective=0 saved=0 session=1 thread=2 mask=0",
-    "add_process id=100 real=1000 effective=1000 saved=1000 session=7 thread=200 mask=18446744073709551615",
-    "add_thread creator=200 id=201",
-    "mask thread=201 way=2 set=0",
-];
-
 /// What stands after the beginning and these calls, none of which is refused.
 fn after(calls: &[&str]) -> Ledger {
-    let mut ledger = Ledger::default();
-    for text in BEGINNING.iter().chain(calls) {
-        let answer = make(&mut ledger, text);
-        assert!(!answer.starts_with("refused"), "{text}: {answer}");
-    }
+    let mut ledger = begin();
+    make_all(&mut ledger, calls);
     ledger
 }
 
@@ -393,7 +375,7 @@ fn what_an_act_does() {
     then(ENDS, &[], false, [4, 2, 2]);
 }
 
-/// A history with every kind of act in it.
+/// A history with every kind of act but clearing in it.
 const CALLS: [&str; 26] = [
     "action process=100 signal=40 handler=5000 flags=1073741824 mask=0",
     "action process=100 signal=17 handler=5000 flags=2147483648 mask=0",
@@ -425,8 +407,8 @@ const CALLS: [&str; 26] = [
 
 /// The calls made, and all their acts.
 fn history() -> (Ledger, Vec<Act>) {
-    let (mut ledger, mut done) = (Ledger::default(), vec![]);
-    for text in BEGINNING.iter().chain(&CALLS) {
+    let (mut ledger, mut done) = (begin(), vec![]);
+    for text in CALLS {
         let call = call(text);
         let answer = ledger.answer(&call);
         assert!(!answer.starts_with("refused"), "{text}: {answer}");
@@ -451,8 +433,8 @@ fn the_lists_are_what_the_acts_make_of_them() {
 
 #[test]
 fn the_acts_come_to_what_is_pending_and_to_the_counts() {
-    let (mut ledger, mut done) = (Ledger::default(), vec![]);
-    for text in BEGINNING.iter().chain(&CALLS) {
+    let (mut ledger, mut done) = (begin(), vec![]);
+    for text in CALLS {
         done.extend(ledger.enter(&call(text), false));
         let wrong = disagreement(&done, &ledger.counts(), &ledger.side());
         assert_eq!(wrong, None, "{text}");

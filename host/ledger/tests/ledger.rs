@@ -1,43 +1,12 @@
 //! What document 01 says of the ledger: sends kept, taken and discarded, and what a refused call leaves.
 
+mod beginning;
 mod common;
 
+use beginning::{begin, make_all, PROCESS, THREAD};
 use common::{call, make};
 use rrezhbuta_ledger::ledger::{Counts, Ledger};
 use rrezhbuta_ledger::side::{Queue, Side};
-
-const PROCESS: Queue = Queue {
-    process: 100,
-    thread: 0,
-};
-const THREAD: Queue = Queue {
-    process: 100,
-    thread: 200,
-};
-
-/// Process 1 of user 0 with thread 2; process 100 of user 1000 with threads 200, which blocks everything, and 201.
-fn begin() -> Ledger {
-    after(&[
-        "add_process id=1 real=0 effective=0 saved=0 session=1 thread=2 mask=0",
-        "add_process id=100 real=1000 effective=1000 saved=1000 session=7 thread=200 mask=18446744073709551615",
-        "add_thread creator=200 id=201",
-        "mask thread=201 way=2 set=0",
-    ])
-}
-
-fn after(calls: &[&str]) -> Ledger {
-    let mut ledger = Ledger::default();
-    make_all(&mut ledger, calls);
-    ledger
-}
-
-/// Calls none of which is refused.
-fn make_all(ledger: &mut Ledger, calls: &[&str]) {
-    for text in calls {
-        let answer = make(ledger, text);
-        assert!(!answer.starts_with("refused"), "{text}: {answer}");
-    }
-}
 
 fn counts(ledger: &Ledger, queue: Queue, signal: u32) -> Counts {
     ledger
