@@ -226,7 +226,7 @@ fn a_take_takes_the_oldest_then_the_mark() {
         ],
     );
     let takes = [
-        "handler 5000 signal 40 record (100 0 40 -1 1 0 7) flags 0 saved 0",
+        "handler 5000 signal 40 record (100 0 40 -1 1 5 7) flags 0 saved 0",
         "handler 5000 signal 40 record (100 0 40 -1 100 1000 8) flags 0 saved 0",
         "handler 5000 signal 40 record (100 0 40 0 0 0 0) flags 0 saved 0",
     ];
