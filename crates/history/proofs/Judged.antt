@@ -20,7 +20,7 @@ use Rattle.types.specs.declared.Answer.the-variants.{Accepted}
 use Rattle.rules.specs.Types.{Thread, Queue, Next, noNext, nextMark, nextRecord, Call, clear, addProcess, addThread}
 use Rattle.rules.specs.Types.{endProcess, endThread, kill, sigqueue, sigaction, sigmask, sigpending, look, who, take}
 use Rattle.rules.specs.Types.{sigreturn}
-use Rattle.rules.specs.Signals.{outcome, ignoring, stopSignal, ignored}
+use Rattle.rules.specs.Signals.{outcome, stopSignal, ignored}
 use Rattle.rules.specs.View.{View, queueOf, belongsTo, liveThread, theThread, threadAction, pendingIn}
 use Rattle.rules.specs.Taking.{next, markInfo, delivered, takeAnswer}
 use Rattle.rules.specs.Calls.{reply}
@@ -28,8 +28,8 @@ use Rattle.rules.proofs.Asking.{next-record, next-mark}
 use Rattle.rules.proofs.Marks.{same-queue}
 use Rattle.history.specs.Ledger.{Line, Ledger, ledgerView, isAt, withMark}
 use Rattle.history.specs.Acts.{Act, kept, marked, tookSend, tookMark, emptied, takeSend, play, isDropped}
-use Rattle.history.specs.Acts.{isAbsorbed, arrival, jobEvents, sendActs, storeActs, endActs, endsProcess, isReset}
-use Rattle.history.specs.Acts.{setsOff, takeActs, acts, sent, threadEnds, processEnds}
+use Rattle.history.specs.Acts.{isAbsorbed, arrival, jobEvents, sendActs, storeActs, endActs, endsProcess}
+use Rattle.history.specs.Acts.{resetToIgnore, setsOff, takeActs, acts, sent, threadEnds, processEnds}
 use Rattle.history.specs.Demand3.{TookSend, TookMark, Right, RightActs, TakenBy, AnswerBy, AnswersBy}
 
 -- ---- acts that take nothing
@@ -108,7 +108,7 @@ off-quiet : (t : Thread) (a : Action) (s : ℕ) → All Quiet (setsOff t a s)
 unfolding setsOff
 off-quiet t a s =
     event-quiet (eqb (a .handler) sigDfl) _ _ (event-quiet (endsProcess (outcome s)) _ _ (tt, tt) tt)
-    (event-quiet (isReset a s && ignoring s) _ _ (tt, tt) tt)
+    (event-quiet (resetToIgnore a s) _ _ (tt, tt) tt)
 
 -- ---- a call takes nothing, or is a take
 

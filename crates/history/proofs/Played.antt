@@ -32,8 +32,8 @@ use Rattle.rules.specs.Calls.{send, changes}
 use Rattle.history.specs.Ledger.{Ledger, queues, pendingWhere, onLines, withTotal, place, placeAll}
 use Rattle.history.specs.Acts.{processEnds, tookSend, tookMark, emptyLine, stopSent, contSent, nowIgnored}
 use Rattle.history.specs.Acts.{empties, Act, kept, marked, emptied, emptying, play, playAll, sent, isDropped}
-use Rattle.history.specs.Acts.{isAbsorbed, arrival, jobEvents, sendActs, storeActs, endActs, endsProcess, isReset}
-use Rattle.history.specs.Acts.{setsOff, takeActs, acts}
+use Rattle.history.specs.Acts.{isAbsorbed, arrival, jobEvents, sendActs, storeActs, endActs, endsProcess}
+use Rattle.history.specs.Acts.{resetToIgnore, setsOff, takeActs, acts}
 use Rattle.history.proofs.Notes.{ofSignals, note, noteAll}
 
 -- ---- sets by their tests
@@ -269,8 +269,8 @@ module _ (l : Ledger) (t : Thread) (s : ℕ) where
         (sym (masked-pending (t .id) m l (ofSignals (t .process) (ofSignal s))))
 
     reset-played : (a : Action) → Same l (masks ∷ resetChanges (t .process) s a)
-        (cond (isReset a s && ignoring s) (emptied (nowIgnored (t .process) s) ∷ []) [])
-    unfolding resetChanges storeChanges resets isReset reset ignored placeAll place playAll noteAll note
+        (cond (resetToIgnore a s) (emptied (nowIgnored (t .process) s) ∷ []) [])
+    unfolding resetChanges storeChanges resets resetToIgnore reset ignored placeAll place playAll noteAll note
     reset-played a =
         split (resets a s)
         (λ e. rw e (split (ignoring s) (λ i. rw i (reset-emptied (reset a) i)) (λ i. rw i)))

@@ -2,7 +2,7 @@
 -- its mark, and a take takes one where one is offered. Assumes nothing.
 use Prim.Native.Nat.{ℕ, _+_}
 use mathlib.Core.Path.{_≡_, refl, sym, ap, ap₂, _∙_}
-use mathlib.Core.Bool.{Bool, true, false, _&&_, _||_, cond}
+use mathlib.Core.Bool.{Bool, true, false, _||_, cond}
 use mathlib.Core.List.{List, [], _∷_, _++_}
 use mathlib.Core.Option.{Option, some, none}
 use native.Mathlib.Omega.{arith}
@@ -17,7 +17,7 @@ use Rattle.types.specs.declared.Answer.the-variants.{Accepted}
 use Rattle.rules.specs.Types.{Thread, Queue, Next, noNext, nextMark, nextRecord, Call, clear, addProcess, addThread}
 use Rattle.rules.specs.Types.{endProcess, endThread, kill, sigqueue, sigaction, sigmask, sigpending, look, who, take}
 use Rattle.rules.specs.Types.{sigreturn}
-use Rattle.rules.specs.Signals.{outcome, ignoring, stopSignal, ignored}
+use Rattle.rules.specs.Signals.{outcome, stopSignal, ignored}
 use Rattle.rules.specs.View.{View, targetQueue, queueOf, actionOf, theProcess, theThread, threadAction}
 use Rattle.rules.specs.Sending.{Generation, testing, killing, stopping, dropping, absorbing, marking, keeping}
 use Rattle.rules.specs.Sending.{generation, absorbs, sendAnswer, needsRecord}
@@ -28,7 +28,7 @@ use Rattle.rules.proofs.Asking.{delivered-yields, asking-yields}
 use Rattle.boundary.specs.Boundary.{sentWord}
 use Rattle.history.specs.Ledger.{isAt}
 use Rattle.history.specs.Acts.{Event, stopSent, contSent, processEnds, Act, kept, marked, emptied, endsProcess}
-use Rattle.history.specs.Acts.{isReset, setsOff, takeActs, sent, isDropped, isAbsorbed, arrival, jobEvents}
+use Rattle.history.specs.Acts.{resetToIgnore, setsOff, takeActs, sent, isDropped, isAbsorbed, arrival, jobEvents}
 use Rattle.history.specs.Acts.{sendActs, acts}
 use Rattle.history.specs.Tally.{keepsWhere, isKeep, marksAt, takesWhere, takesEither}
 use Rattle.history.specs.History.{isSent, isSentAs, isKept, isMarked}
@@ -212,7 +212,7 @@ unfolding setsOff count takesWhere
 off-none t a s =
     split (eqb (a .handler) sigDfl)
     (λ b. rw b (split (endsProcess (outcome s)) (λ c. rw c) (λ c. rw c)))
-    (λ b. rw b (split (isReset a s && ignoring s) (λ c. rw c) (λ c. rw c)))
+    (λ b. rw b (split (resetToIgnore a s) (λ c. rw c) (λ c. rw c)))
 
 taken-once : (v : View) (t : Thread) (n : Next)
     → count takesEither (takeActs v t n) ≡ cond (isTaken (takeAnswer v t n)) 1 0

@@ -140,16 +140,17 @@ endsProcess stops = false
 endsProcess continues = false
 endsProcess ends = true
 
--- "RESETHAND .. sets the handler number to 0 ..; ILL 4 and TRAP 5 are not reset"
-unfoldable pub isReset : Action → (signal : ℕ) → Bool
-isReset a s = hasFlag a saResethand && not (eqb s SIGILL || eqb s SIGTRAP)
+-- a handler that is reset to a default that ignores: "RESETHAND .. sets the handler number to 0 ..;
+-- ILL 4 and TRAP 5 are not reset"
+unfoldable pub resetToIgnore : Action → (signal : ℕ) → Bool
+resetToIgnore a s = (hasFlag a saResethand && not (eqb s SIGILL || eqb s SIGTRAP)) && signals.ignoring s
 
--- what a taken signal sets off: by default the end, or a handler that is reset to an ignoring default
+-- what a taken signal sets off
 unfoldable pub setsOff : Thread → Action → (signal : ℕ) → List Act
 setsOff t a s =
     cond (eqb (a .handler) sigDfl)
     (cond (endsProcess (outcome s)) (emptied (processEnds (t .process)) ∷ []) [])
-    (cond (isReset a s && signals.ignoring s) (emptied (nowIgnored (t .process) s) ∷ []) [])
+    (cond (resetToIgnore a s) (emptied (nowIgnored (t .process) s) ∷ []) [])
 
 module _ (v : View) where
   -- "process id 4, thread id 4 .., signal 4, code 4 (-1, queued), sender id 4, sender real user id 4, value 8";
