@@ -37,9 +37,9 @@ use Rattle.history.specs.Ledger.{Ledger, emptyLedger, ofProcess, pending
 use Rattle.history.specs.Ledger.{ledgerAnswer}
 use Rattle.history.specs.Acts.{acts, turns, actsOf}
 use Rattle.history.specs.Tally.{isKeep, marksAt, takesEither}
-use Rattle.history.specs.History.{Book, emptyBook, entered, enter, enterAll, Item, call, slotLook, lending}
-use Rattle.history.specs.History.{hostAfter, told, Past, after, cleared, machineArguments, machineItem, heard}
-use Rattle.history.specs.History.{lookedBytes, isSent, isKept, isMarked}
+use Rattle.history.specs.History.{Book, emptyBook, entered, enter, Item, call, slotLook, lending, hostAfter, told}
+use Rattle.history.specs.History.{Past, after, cleared, machineArguments, machineItem, heard, lookedBytes, isSent}
+use Rattle.history.specs.History.{isKept, isMarked}
 use Rattle.history.specs.Demand3.{TakenBy, AnswersBy, yields, Claim, Demand3}
 use Rattle.history.proofs.Answered.{same-refusal, same-answer, never-fault, room-counted, pending-limit}
 use Rattle.history.proofs.Encoded.{answer-on, decoded-on, sound-on, encoded-on, decoded-cleared, encoded-cleared}
@@ -132,9 +132,8 @@ module _ (h : Host) (b : Book) (r : Reached (lentBy h) b) (n : ℕ) (g : Argumen
   lent′ = lending out h
 
   reached-call : (y : Bool) → accepted n (length out) ≡ y
-      → Reached (lentBy (callOn n g lent′ .0)) (enterAll (cond y
-      (record { call = numbered n g; refused = not (eqb (callOn n g lent′ .1) 0) } ∷ []) []) b)
-  unfolding enterAll
+      → Reached (lentBy (callOn n g lent′ .0))
+      (cond y (enter (record { call = numbered n g; refused = not (eqb (callOn n g lent′ .1) 0) }) b) b)
   reached-call true y =
       let s = served-accepted n g lent′ y in
       subst (λ (l : Lent). Reached l (enter
@@ -149,8 +148,8 @@ module _ (h : Host) (b : Book) (r : Reached (lentBy h) b) (n : ℕ) (g : Argumen
       r
 
 reached-item : (x : Item) (h : Host) (b : Book) → machineItem x ≡ true → Reached (lentBy h) b
-    → Reached (lentBy (hostAfter x h)) (enterAll (told x h) b)
-unfolding machineItem hostAfter told enterAll
+    → Reached (lentBy (hostAfter x h)) (told x h b)
+unfolding machineItem hostAfter told
 reached-item (call n g out) h b u r = reached-call h b r n g out u (accepted n (length out)) refl
 reached-item (slotLook t) h b u r = r
 
@@ -159,7 +158,7 @@ reached-list : (xs : List Item) (p : Past) → all machineItem xs ≡ true → R
 unfolding after all
 reached-list [] p u r = r
 reached-list (x ∷ xs) p u r =
-    reached-list xs (record { host = hostAfter x (p .host); book = enterAll (told x (p .host)) (p .book) })
+    reached-list xs (record { host = hostAfter x (p .host); book = told x (p .host) (p .book) })
     (and-snd (machineItem x) (all machineItem xs) u)
     (reached-item x (p .host) (p .book) (and-fst (machineItem x) (all machineItem xs) u) r)
 

@@ -15,7 +15,11 @@ use Rattle.history.specs.Ledger.{Line, queues, pendingWhere, ledgerView,
 use Rattle.history.specs.Acts.{empties, play, playAll, sent, isDropped, isAbsorbed, arrival, jobEvents, sendActs}
 use Rattle.history.specs.Acts.{storeActs, endActs, endsProcess, resetToIgnore, setsOff, takeActs, acts, turns}
 use Rattle.history.specs.Acts.{takeTurn, takeTurns, kept, tookSend, emptied, allCleared, nowIgnored, actsOf}
-use Rattle.history.specs.History.{Entry, emptyBook, onto, entered, enter, enterAll}
+use Rattle.history.specs.History.{Entry, Book, emptyBook, onto, entered, enter}
+
+enterAll : List Entry → Book → Book
+enterAll [] b = b
+enterAll (e ∷ es) b = enterAll es (enter e b)
 
 accepted : Call → Entry
 accepted c = record { call = c; refused = false }

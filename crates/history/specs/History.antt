@@ -53,10 +53,6 @@ entered c b =
 unfoldable pub enter : Entry → Book → Book
 enter e b = cond (e .refused) b (entered (e .call) b)
 
-unfoldable pub enterAll : List Entry → Book → Book
-enterAll [] b = b
-enterAll (e ∷ es) b = enterAll es (enter e b)
-
 -- ---- what a host does
 
 pub data Item : Type 0 where
@@ -77,11 +73,11 @@ hostAfter (slotLook t) h = h
 
 -- "Its ledger gets the calls' arguments and which were refused, nothing of the tables": refused is what returns an
 -- errno; a number that is no call's, or too few words for an answer, tells it nothing
-unfoldable pub told : Item → Host → List Entry
-told (call n g out) h =
+unfoldable pub told : Item → Host → Book → Book
+told (call n g out) h b =
     cond (accepted n (length out))
-    (record { call = numbered n g; refused = not (eqb (callOn n g (lending out h) .1) 0) } ∷ []) []
-told (slotLook t) h = []
+    (enter (record { call = numbered n g; refused = not (eqb (callOn n g (lending out h) .1) 0) }) b) b
+told (slotLook t) h b = b
 
 -- ---- after a list
 
@@ -92,7 +88,7 @@ pub record Past : Type 0 where
 unfoldable pub after : List Item → Past → Past
 after [] p = p
 after (x ∷ xs) p =
-    after xs (record { host = hostAfter x (p .host); book = enterAll (told x (p .host)) (p .book) })
+    after xs (record { host = hostAfter x (p .host); book = told x (p .host) (p .book) })
 
 -- "Start from a cleared store": a `clear` on whatever the host holds, with the ledger empty then
 unfoldable pub cleared : Arguments → Host → Past
