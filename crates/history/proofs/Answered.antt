@@ -2,7 +2,7 @@
 -- Assumes nothing.
 use Prim.Native.Nat.{ℕ, zero, suc, _≤_}
 use mathlib.Core.Path.{_≡_, refl, sym, ap, ap₂, _∙_}
-use mathlib.Core.Bool.{Bool, true, false, _&&_, cond}
+use mathlib.Core.Bool.{Bool, true, false, not, _&&_, _||_, cond}
 use mathlib.Core.List.{[], _∷_}
 use native.Mathlib.Omega.{arith}
 use lib.Dec.{eqb, leb, eqb·suc-zero}
@@ -10,11 +10,15 @@ use borrow.Author.Tests.{eqb-true, eq-eqb, leb-true, le-leb, not-true}
 use Rattle.limits.specs.Limits.{recordLimit, EAGAIN, EFAULT}
 use Rattle.lists.proofs.Bools.{split, same-test, cond-false}
 use Rattle.types.specs.declared.Answer.the-variants.{Refused, Accepted}
-use Rattle.rules.specs.Types.{Call, kill, sigqueue}
-use Rattle.rules.specs.View.{View, targetQueue}
-use Rattle.rules.specs.Store.{Store, view}
+use Rattle.types.specs.declared.NewProcess.{NewProcess}
+use Rattle.rules.specs.Types.{Call, addProcess, addThread, kill, sigqueue}
+use Rattle.rules.specs.View.{View, targetQueue, liveProcess, liveThread}
+use Rattle.rules.specs.Store.{Store, view, isFreeProcess, isFreeThread}
+use Rattle.rules.specs.Sound.{goodId}
+use Rattle.lists.specs.Lists.{any}
 use Rattle.rules.specs.Sending.{generation, needsRecord}
-use Rattle.rules.specs.Refusals.{refusal, rows, table, refusalOf, noRoom, einval, esrch, eperm, eagain}
+use Rattle.rules.specs.Refusals.{refusal, rows, table, refusalOf, badId, noThreadLive, noProcessPlace, noThreadPlace}
+use Rattle.rules.specs.Refusals.{noRoom, einval, esrch, eperm, eexist, eagain}
 use Rattle.rules.specs.Calls.{reply, finish, step}
 use Rattle.rules.proofs.Facts.{within-limit}
 use Rattle.rules.proofs.RefusalTable.{no-fault, rows-no-fault}
@@ -93,3 +97,47 @@ module _ (st : Store) (k : Ledger) (h : Holds st k) where
       ∙ ap (λ (b : Bool). eqb (refusal (rows (ledgerView k) (kill by to t s))) 0
       && (needsRecord (generation (ledgerView k) true (targetQueue to t) s) && b))
       (unfold ledgerView in full (pendingWhere k (ofProcess to)) (pending-limit to))
+
+-- ---- room for what is added
+
+-- no row before that of room, which is of free places
+process-row : (p q y u w : Bool)
+    → eqb (refusal (einval (not p || not q) ∷ eexist y ∷ eagain (not u || not w) ∷ [])) EAGAIN
+    ≡ ((p && q) && (not y && not (u && w)))
+unfolding refusal
+process-row false q y u w = refl
+process-row true false y u w = refl
+process-row true true true u w = refl
+process-row true true false false w = refl
+process-row true true false true false = refl
+process-row true true false true true = refl
+
+thread-row : (p c y w : Bool)
+    → eqb (refusal (einval (not p) ∷ esrch (not c) ∷ eexist y ∷ eagain (not w) ∷ [])) EAGAIN
+    ≡ (p && (c && (not y && not w)))
+unfolding refusal
+thread-row false c y w = refl
+thread-row true false y w = refl
+thread-row true true true w = refl
+thread-row true true false false = refl
+thread-row true true false true = refl
+
+module _ (k : Ledger) where
+  pub process-room : (new : NewProcess) → eqb (errnoOf (ledgerAnswer k (addProcess new))) EAGAIN
+      ≡ ((goodId (new .id) && goodId (new .thread))
+      && (not (liveProcess (ledgerView k) (new .id) || liveThread (ledgerView k) (new .thread))
+      && not (any isFreeProcess (k .processes) && any isFreeThread (k .threads))))
+  unfolding ledgerRefusal rows badId noProcessPlace noThreadPlace ledgerView
+  process-room new =
+      ap (λ (n : ℕ). eqb n EAGAIN) (returned-refusal k (addProcess new))
+      ∙ process-row (goodId (new .id)) (goodId (new .thread)) _ (any isFreeProcess (k .processes))
+      (any isFreeThread (k .threads))
+
+  pub thread-room : (creator id : ℕ) → eqb (errnoOf (ledgerAnswer k (addThread creator id))) EAGAIN
+      ≡ (goodId id
+      && (liveThread (ledgerView k) creator
+      && (not (liveThread (ledgerView k) id) && not (any isFreeThread (k .threads)))))
+  unfolding ledgerRefusal rows badId noThreadLive noThreadPlace ledgerView
+  thread-room creator id =
+      ap (λ (n : ℕ). eqb n EAGAIN) (returned-refusal k (addThread creator id))
+      ∙ thread-row (goodId id) (liveThread (ledgerView k) creator) _ (any isFreeThread (k .threads))

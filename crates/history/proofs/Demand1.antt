@@ -9,7 +9,8 @@ use Rattle.rules.proofs.Unmaskable.{unmasked-has}
 use Rattle.sound.specs.Lent.{Lent, decoded, viewOf, soundTables}
 use Rattle.sound.proofs.Facts.{store-sound}
 use Rattle.history.specs.Demand1.{NowhereMasked, Demand1}
-use Rattle.history.proofs.Returns.{call-listed, call-answered, call-refused, call-asking, call-clears}
+use Rattle.history.proofs.Returns.{call-listed, call-exactly, call-answered, call-refused, call-asking}
+use Rattle.history.proofs.Returns.{call-clears}
 use Rattle.history.proofs.KillStop.{call-acts, call-kills, call-stops}
 
 -- a sound store has neither of the pair in a mask, a mark or an action's mask
@@ -27,6 +28,7 @@ pub demand1 : Demand1
 demand1 =
     record {
       listed = call-listed;
+      exactly = call-exactly;
       answered = call-answered;
       refused = call-refused;
       onlyAsked = λ h n g w e. call-asking h n g (w .threadBuffer) (w .processBuffer) e;

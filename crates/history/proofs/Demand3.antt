@@ -1,24 +1,31 @@
 -- Demand 3, for every list of calls of a host. Assumes nothing.
 use Prim.Native.Nat.{ℕ, _+_, _≤_}
 use mathlib.Core.Path.{_≡_, refl, sym, ap, _∙_, subst}
-use mathlib.Core.Bool.{Bool, true, false, not, _&&_, cond}
+use mathlib.Core.Bool.{Bool, true, false, not, _&&_, _||_, cond}
 use mathlib.Core.List.{List, [], _∷_, append-nil}
 use lib.Dec.{eqb}
 use lib.ListN.{length}
 use borrow.Author.Tests.{eqb-true}
-use Rattle.limits.specs.Limits.{EINVAL, EFAULT, EAGAIN, recordLimit, answerWords, callClear, callSigqueue, callTake}
-use Rattle.lists.specs.Lists.{all, any, count, padded, All}
+use Rattle.limits.specs.Limits.{EINVAL, EFAULT, EAGAIN, recordLimit, answerWords, answerKept, callClear, callAddProcess}
+use Rattle.limits.specs.Limits.{callAddThread, callSigqueue, callTake}
+use Rattle.lists.specs.Lists.{all, any, count, first, padded, All}
 use Rattle.lists.proofs.Bools.{split, and-fst, and-snd, cond-true, cond-false}
+use Rattle.sigset.specs.Set.{bits, has, setOf}
+use Rattle.types.specs.Values.{newOf}
 use Rattle.types.specs.declared.Siginfo.{Siginfo}
+use Rattle.types.specs.declared.Sent.{Sent}
 use Rattle.types.specs.declared.Taken.{Taken}
 use Rattle.types.specs.declared.Taken.the-variants as taken
+use Rattle.types.specs.declared.Reply.{Reply}
 use Rattle.types.specs.declared.Reply.the-variants as reply
 use Rattle.types.specs.declared.Answer.{Answer}
 use Rattle.types.specs.declared.Answer.the-variants.{Refused, Accepted}
-use Rattle.rules.specs.Types.{Call, kill, sigqueue, take}
-use Rattle.rules.specs.View.{View, targetQueue, liveThread, theThread}
-use Rattle.rules.specs.Store.{Store}
-use Rattle.rules.specs.Taking.{next, takeAnswer}
+use Rattle.rules.specs.Types.{Call, kill, sigqueue, sigpending, who, take}
+use Rattle.rules.specs.View.{View, belongsTo, liveProcess, liveThread, theThread, pendingFor}
+use Rattle.rules.specs.Store.{Store, isFreeProcess, isFreeThread}
+use Rattle.rules.specs.Sound.{goodId}
+use Rattle.rules.specs.Actions.{blockedPending}
+use Rattle.rules.specs.Taking.{next, whoAnswer, takeAnswer}
 use Rattle.rules.specs.Asking.{hasOffer, isTaken}
 use Rattle.rules.specs.Refusals.{refusal, rows, noThreadLive, refusalOf}
 use Rattle.rules.specs.Calls.{reply, step}
@@ -30,18 +37,18 @@ use Rattle.sound.specs.Lent.{Lent, decoded, lengthsAre, soundTables}
 use Rattle.sound.proofs.Facts.{right-lengths}
 use Rattle.answers.specs.Step.{encoded, refusalOn, stepOn}
 use Rattle.looking.specs.Looks.{lookBytes}
-use Rattle.boundary.specs.Boundary.{Arguments, callsOf, isCall, numbered, replyWords, takenWords, wordsOf, errnoOf}
-use Rattle.boundary.specs.Boundary.{written, usable, accepted, serveOn}
+use Rattle.boundary.specs.Boundary.{Arguments, callsOf, isCall, numbered, sentWord, replyWords, takenWords, wordsOf}
+use Rattle.boundary.specs.Boundary.{errnoOf, written, usable, accepted, serveOn}
 use Rattle.rrezhbuta.specs.Entry.{Host, lentBy, callOn, lookAt}
 use Rattle.history.specs.Ledger.{Ledger, emptyLedger, ofProcess, pendingWhere, ledgerView, ledgerRefusal}
 use Rattle.history.specs.Ledger.{ledgerAnswer}
-use Rattle.history.specs.Acts.{acts, turns, actsOf}
-use Rattle.history.specs.Tally.{isKeep, marksAt, takesEither}
+use Rattle.history.specs.Acts.{sent, said, acts, turns, actsOf}
+use Rattle.history.specs.Tally.{takesEither}
 use Rattle.history.specs.History.{Book, emptyBook, entered, enter, Item, call, slotLook, lending, hostAfter, told}
-use Rattle.history.specs.History.{Past, after, cleared, machineArguments, machineItem, heard, lookedBytes, isSent}
-use Rattle.history.specs.History.{isKept, isMarked}
+use Rattle.history.specs.History.{Past, after, cleared, machineArguments, machineItem, heard, lookedBytes}
 use Rattle.history.specs.Demand3.{TakenBy, AnswersBy, yields, Claim, Demand3}
 use Rattle.history.proofs.Answered.{same-refusal, same-answer, never-fault, room-counted, pending-limit}
+use Rattle.history.proofs.Answered.{process-room, thread-room}
 use Rattle.history.proofs.Encoded.{answer-on, decoded-on, sound-on, encoded-on, decoded-cleared, encoded-cleared}
 use Rattle.history.proofs.Encoded.{sound-clearedTables, clearedTables}
 use Rattle.history.proofs.Entry.{entry-returned, entry-words, entry-tables, served-accepted, served-not}
@@ -51,7 +58,7 @@ use Rattle.history.proofs.Judged.{itself}
 use Rattle.history.proofs.Looks.{same-look, same-slot}
 use Rattle.history.proofs.Relation.{Agrees}
 use Rattle.history.proofs.Returns.{step-errno, has-room, cleared-tables}
-use Rattle.history.proofs.Said.{keeps-needed, kept-said, marked-said, takes-one}
+use Rattle.history.proofs.Said.{send-answers, keeps-needed, takes-one, who-says}
 use Rattle.history.proofs.Tallied.{Tallies, tallies-start, tallies-turns}
 use Rattle.history.proofs.Turns.{taker, holds-turns, right-turns, answers-turns}
 use Rattle.history.proofs.Widths.{Widths, widths-cleared, widths-step}
@@ -245,21 +252,6 @@ module _ (h : Host) (b : Book) (r : Reached (lentBy h) b) where
     unfolding turns actsOf
     one-turn = append-nil (acts seen c)
 
-    kept-counted : isSent (ledgerAnswer ledger c) ≡ true
-        → count isKeep (actsOf (turns seen c) ledger) ≡ cond (isKept (ledgerAnswer ledger c)) 1 0
-    kept-counted i =
-        ap (count isKeep) one-turn
-        ∙ kept-said seen c (ap isSent (sym ledger-accepts) ∙ i)
-        ∙ ap (λ (a : Answer). cond (isKept a) 1 0) (sym ledger-accepts)
-
-  marked-counted : (by to t s : ℕ) → ledgerRefusal ledger (kill by to t s) ≡ 0
-      → count (marksAt (targetQueue to t) s) (actsOf (turns seen (kill by to t s)) ledger)
-      ≡ cond (isMarked (ledgerAnswer ledger (kill by to t s))) 1 0
-  marked-counted by to t s e =
-      ap (count (marksAt (targetQueue to t) s)) (one-turn (kill by to t s) e)
-      ∙ marked-said seen by to t s
-      ∙ ap (λ (a : Answer). cond (isMarked a) 1 0) (sym (ledger-accepts (kill by to t s) e))
-
   module _ (t : ℕ) (e : ledgerRefusal ledger (take t) ≡ 0) where
     one-taken : count takesEither (actsOf (turns seen (take t)) ledger) ≡ cond (hasOffer seen (theThread seen t)) 1 0
     one-taken = ap (count takesEither) (one-turn (take t) e) ∙ takes-one seen t
@@ -268,6 +260,35 @@ module _ (h : Host) (b : Book) (r : Reached (lentBy h) b) where
     taken-itself =
         subst (All (TakenBy t)) (sym (one-turn (take t) e))
         (itself ledger t (taker (take t) (decoded tables) ledger (passes (take t) e) (r .holds) t refl))
+
+  -- the answers in the ledger's own words
+  kill-said : (by to t s : ℕ) → ledgerRefusal ledger (kill by to t s) ≡ 0
+      → ledgerAnswer ledger (kill by to t s) ≡ Accepted (reply.Sent (said seen false (sent seen by to t s 0)))
+  unfolding reply
+  kill-said by to t s e =
+      ledger-accepts (kill by to t s) e
+      ∙ ap (λ (x : Sent). Accepted (reply.Sent x)) (send-answers seen by to t 0 false s)
+
+  queue-said : (by to t s value : ℕ) → ledgerRefusal ledger (sigqueue by to t s value) ≡ 0
+      → ledgerAnswer ledger (sigqueue by to t s value)
+      ≡ Accepted (reply.Sent (said seen true (sent seen by to t s value)))
+  unfolding reply
+  queue-said by to t s value e =
+      ledger-accepts (sigqueue by to t s value) e
+      ∙ ap (λ (x : Sent). Accepted (reply.Sent x)) (send-answers seen by to t value true s)
+
+  pending-said : (t : ℕ) → ledgerRefusal ledger (sigpending t) ≡ 0
+      → ledgerAnswer ledger (sigpending t)
+      ≡ Accepted (reply.PendingSet
+      (setOf (λ s. has (theThread seen t .mask) s && pendingFor seen (theThread seen t) s)))
+  unfolding reply blockedPending
+  pending-said t e = ledger-accepts (sigpending t) e
+
+  who-said : (p : ℕ) → ledgerRefusal ledger (who p) ≡ 0
+      → ledgerAnswer ledger (who p)
+      ≡ Accepted (whoAnswer seen (first (λ t. belongsTo p t && hasOffer seen t) (ledger .threads)))
+  unfolding reply ledgerView
+  who-said p e = ledger-accepts (who p) e ∙ ap (λ (x : Reply). Accepted x) (who-says seen p)
 
   take-passes : (t : ℕ) → liveThread seen t ≡ true → ledgerRefusal ledger (take t) ≡ 0
   unfolding ledgerRefusal rows refusal noThreadLive
@@ -286,7 +307,7 @@ module _ (h : Host) (b : Book) (r : Reached (lentBy h) b) where
   room : (g : Arguments) (out : List ℕ) → answerWords ≤ length out
       → eqb (callOn callSigqueue g (lending out h) .1) EAGAIN
       ≡ (eqb (refusal (rows seen (kill (g .a) (g .b) (g .c) (g .d)))) 0
-      && (any isKeep (acts seen (sigqueue (g .a) (g .b) (g .c) (g .d) (g .x)))
+      && (eqb (sentWord (said seen true (sent seen (g .a) (g .b) (g .c) (g .d) (g .x)))) answerKept
       && eqb (pendingWhere ledger (ofProcess (g .b))) recordLimit))
   unfolding numbered callsOf isCall
   room g out o =
@@ -294,7 +315,28 @@ module _ (h : Host) (b : Book) (r : Reached (lentBy h) b) where
       ∙ room-counted (decoded tables) ledger (r .holds) (g .a) (g .b) (g .c) (g .d) (g .x)
       ∙ ap (λ (b : Bool). eqb (refusal (rows seen (kill (g .a) (g .b) (g .c) (g .d)))) 0
       && (b && eqb (pendingWhere ledger (ofProcess (g .b))) recordLimit))
-      (sym (keeps-needed seen (g .a) (g .b) (g .c) (g .d) (g .x)))
+      (keeps-needed seen (g .a) (g .b) (g .c) (g .d) (g .x))
+
+  room-process : (g : Arguments) (out : List ℕ) → answerWords ≤ length out
+      → eqb (callOn callAddProcess g (lending out h) .1) EAGAIN
+      ≡ ((goodId (g .a) && goodId (g .f))
+      && (not (liveProcess seen (g .a) || liveThread seen (g .f))
+      && not (any isFreeProcess (ledger .processes) && any isFreeThread (ledger .threads))))
+  unfolding numbered callsOf isCall
+  room-process g out o =
+      ap (λ (n : ℕ). eqb n EAGAIN)
+      (returned callAddProcess g out ∙ ap errnoOf (heard-call callAddProcess g out refl o))
+      ∙ process-room ledger (newOf (g .a) (g .b) (g .c) (g .d) (g .e) (g .f) (bits (g .x)))
+
+  room-thread : (g : Arguments) (out : List ℕ) → answerWords ≤ length out
+      → eqb (callOn callAddThread g (lending out h) .1) EAGAIN
+      ≡ (goodId (g .b)
+      && (liveThread seen (g .a) && (not (liveThread seen (g .b)) && not (any isFreeThread (ledger .threads)))))
+  unfolding numbered callsOf isCall
+  room-thread g out o =
+      ap (λ (n : ℕ). eqb n EAGAIN)
+      (returned callAddThread g out ∙ ap errnoOf (heard-call callAddThread g out refl o))
+      ∙ thread-room ledger (g .a) (g .b)
 
   claim : Claim h ledger (b .acts)
   unfolding lookAt
@@ -307,6 +349,7 @@ module _ (h : Host) (b : Book) (r : Reached (lentBy h) b) where
         neverMore = λ q s. r .tallies .line q s .few;
         sends = a .records;
         marks = a .marks;
+        marksSince = λ q s. a .marks q s ∙ r .tallies .line q s .mark;
         processes = a .processes;
         threads = sym (row-threads h (row-length h long)) ∙ a .threads;
         sound = r .sound;
@@ -316,6 +359,10 @@ module _ (h : Host) (b : Book) (r : Reached (lentBy h) b) where
         looks = looked;
         slots = λ t. same-slot h t long ∙ looked t;
         noFault = no-fault;
+        killSaid = kill-said;
+        queueSaid = queue-said;
+        pendingSaid = pending-said;
+        whoSaid = who-said;
         takes = λ c e. right-turns c (decoded tables) ledger (passes c e) (r .holds);
         answersBy = answers-by;
         asking = asking;
@@ -327,14 +374,15 @@ module _ (h : Host) (b : Book) (r : Reached (lentBy h) b) where
         total = r .holds .beside .total;
         keptCounted = λ q s. r .tallies .line q s .kept;
         takenCounted = λ q s. r .tallies .line q s .taken;
+        discardedCounted = λ q s. r .tallies .line q s .discarded;
         keptTotal = r .tallies .kept;
         takenTotal = r .tallies .taken;
-        keptSaid = kept-counted;
-        markedSaid = marked-counted;
         takesOne = one-taken;
         takesItself = taken-itself;
         room = room;
         limit = pending-limit (decoded tables) ledger (r .holds);
+        roomProcess = room-process;
+        roomThread = room-thread;
       }
 
 -- ---- from a clear on

@@ -1,7 +1,7 @@
 -- Every act of a call is right on the ledger at its turn, and the call answers by what it takes. Assumes nothing.
 use Prim.Native.Nat.{ℕ}
 use mathlib.Core.Path.{_≡_, refl, sym, ap, _∙_, subst}
-use mathlib.Core.Bool.{Bool, true, false, not, _&&_, _||_, cond}
+use mathlib.Core.Bool.{Bool, true, false, not, _&&_, _||_, cond, and-comm}
 use mathlib.Core.List.{List, [], _∷_, head?, tail}
 use mathlib.Core.Option.{Option, some, none}
 use native.Mathlib.Omega.{arith}
@@ -9,28 +9,35 @@ use lib.Dec.{eqb}
 use borrow.Author.Tests.{eq-eqb}
 use Rattle.limits.specs.Limits.{SIGKILL, SIGCONT, SIGSTOP, sigDfl}
 use Rattle.lists.specs.Lists.{any, isSome, All}
-use Rattle.lists.proofs.Bools.{and-both, cond-true}
+use Rattle.lists.proofs.Bools.{split, and-both, cond-true, cond-false}
 use Rattle.lists.proofs.Lists.{All-append, All-imp}
-use Rattle.sigset.specs.Set.{isUnmaskable}
+use Rattle.sigset.specs.Set.{has}
+use Rattle.sigset.proofs.Laws.{lowestOf-cong}
 use Rattle.types.specs.declared.Action.{Action}
 use Rattle.types.specs.declared.Siginfo.{Siginfo}
-use Rattle.types.specs.declared.Reply.the-variants.{Taken}
+use Rattle.types.specs.declared.Sent.{Sent}
+use Rattle.types.specs.declared.Sent.the-variants.{Tested, Acted, Dropped, Absorbed, Marked, Kept}
+use Rattle.types.specs.declared.Reply.the-variants as reply
 use Rattle.types.specs.declared.Answer.{Answer}
 use Rattle.types.specs.declared.Answer.the-variants.{Accepted}
 use Rattle.rules.specs.Types.{Thread, Queue, Next, noNext, nextMark, nextRecord, Call, clear, addProcess, addThread}
 use Rattle.rules.specs.Types.{endProcess, endThread, kill, sigqueue, sigaction, sigmask, sigpending, look, who, take}
 use Rattle.rules.specs.Types.{sigreturn}
-use Rattle.rules.specs.Signals.{outcome, stopSignal, ignored}
-use Rattle.rules.specs.View.{View, queueOf, belongsTo, liveThread, theThread, threadAction, pendingIn}
-use Rattle.rules.specs.Taking.{next, markInfo, delivered, takeAnswer}
+use Rattle.rules.specs.Signals.{Outcome, ignores, stops, continues, ends, outcome, stopSignal, ignored}
+use Rattle.rules.specs.View.{View, belongsTo, processQueue, threadQueue, pendingFor, liveThread, theThread}
+use Rattle.rules.specs.View.{threadAction, pendingIn}
+use Rattle.rules.specs.Taking.{isStopped, canTakeSignal, nextSignal, nextQueue, nextIn, next, markInfo, outcomeAnswer}
+use Rattle.rules.specs.Taking.{delivered, takeAnswer}
+use Rattle.rules.specs.Asking.{accepts, runs, isOffered, MayTake}
 use Rattle.rules.specs.Calls.{reply}
 use Rattle.rules.proofs.Asking.{next-record, next-mark}
 use Rattle.rules.proofs.Marks.{same-queue}
 use Rattle.history.specs.Ledger.{Line, Ledger, ledgerView, isAt, withMark}
-use Rattle.history.specs.Acts.{Act, kept, marked, tookSend, tookMark, emptied, takeSend, play, isDropped}
-use Rattle.history.specs.Acts.{isAbsorbed, arrival, jobEvents, sendActs, storeActs, endActs, endsProcess}
-use Rattle.history.specs.Acts.{resetToIgnore, setsOff, takeActs, acts, sent, threadEnds, processEnds}
-use Rattle.history.specs.Demand3.{TookSend, TookMark, Right, RightActs, TakenBy, AnswerBy, AnswersBy}
+use Rattle.history.specs.Acts.{Act, kept, marked, tookSend, tookMark, emptied, takeSend, play, said, arrival}
+use Rattle.history.specs.Acts.{jobEvents, sendActs, storeActs, endActs, endsProcess, resetToIgnore, setsOff}
+use Rattle.history.specs.Acts.{takeActs, acts, sent, threadEnds, processEnds}
+use Rattle.history.specs.Demand3.{Chosen, TookSend, TookMark, Right, RightActs, TakenBy, Says, AnswersTaken}
+use Rattle.history.specs.Demand3.{AnswersFor, AnswersBy}
 
 -- ---- acts that take nothing
 
@@ -77,21 +84,20 @@ job-quiet p s =
     event-quiet (eqb s SIGKILL) _ _ (tt, tt)
     (event-quiet (eqb s SIGCONT) _ _ (tt, tt) (event-quiet (eqb s SIGSTOP || stopSignal s) _ _ (tt, tt) tt))
 
-arrival-quiet : (v : View) (queued : Bool) (r : Siginfo) → All Quiet (arrival v queued r)
+arrival-quiet : (x : Sent) (r : Siginfo) → All Quiet (arrival x r)
 unfolding arrival
-arrival-quiet v queued r =
-    event-quiet (eqb (r .signal) 0 || (isUnmaskable (r .signal) || (isDropped v r || isAbsorbed v queued r))) []
-    (cond queued (kept r) (marked (queueOf r) (r .signal)) ∷ []) tt (either queued)
-  where
-    either : (b : Bool) → All Quiet (cond b (kept r) (marked (queueOf r) (r .signal)) ∷ [])
-    either true = (tt, tt)
-    either false = (tt, tt)
+arrival-quiet Tested r = tt
+arrival-quiet Acted r = tt
+arrival-quiet Dropped r = tt
+arrival-quiet Absorbed r = tt
+arrival-quiet Marked r = (tt, tt)
+arrival-quiet Kept r = (tt, tt)
 
 send-quiet : (v : View) (queued : Bool) (r : Siginfo) → All Quiet (sendActs v queued r)
 unfolding sendActs
 send-quiet v queued r =
-    All-append Quiet (jobEvents (r .process) (r .signal)) (arrival v queued r) (job-quiet (r .process) (r .signal))
-    (arrival-quiet v queued r)
+    All-append Quiet (jobEvents (r .process) (r .signal)) (arrival (said v queued r) r) (job-quiet (r .process) (r .signal))
+    (arrival-quiet (said v queued r) r)
 
 store-quiet : (p s : ℕ) (new : Option Action) → All Quiet (storeActs p s new)
 unfolding storeActs
@@ -135,6 +141,23 @@ shape v (sigreturn t saved) = quiet tt
 
 -- ---- a take
 
+-- what a take answers, by default and by a handler
+outcome-says : (t : Thread) (a : Action) (s : ℕ) (r : Siginfo) → eqb (a .handler) sigDfl ≡ true → (o : Outcome)
+    → outcome s ≡ o → Says t a s r (outcomeAnswer o s)
+unfolding outcomeAnswer endsProcess
+outcome-says t a s r d ignores e = (d, (ap endsProcess e, refl))
+outcome-says t a s r d stops e = (d, (e, refl))
+outcome-says t a s r d continues e = (d, (ap endsProcess e, refl))
+outcome-says t a s r d ends e = (d, (e, refl))
+
+delivered-says : (t : Thread) (a : Action) (s : ℕ) (r : Siginfo) → r .signal ≡ s → Says t a s r (delivered t a r)
+unfolding delivered
+delivered-says t a s r e =
+    split (eqb (a .handler) sigDfl)
+    (λ d. subst (Says t a s r) (sym (cond-true _ _ d))
+    (subst (λ (m : ℕ). Says t a s r (outcomeAnswer (outcome m) m)) (sym e) (outcome-says t a s r d (outcome s) refl)))
+    (λ d. subst (Says t a s r) (sym (cond-false _ _ d)) (d, (refl, (e, (refl, (refl, refl))))))
+
 -- a list whose head is known
 headed : (rs : List Siginfo) (r : Siginfo) → head? rs ≡ some r → rs ≡ r ∷ tail rs
 headed [] r e = let z : _≡_ {A = ℕ} 0 1 = cc e in absurd (omega arith)
@@ -148,6 +171,50 @@ headless (x ∷ rs) e = let z : _≡_ {A = ℕ} 0 1 = cc e in absurd (omega arit
 pub at-itself : (q : Queue) (s : ℕ) → isAt q s q s ≡ true
 at-itself q s = and-both (same-queue q q refl) (eq-eqb s s refl)
 
+-- ---- the queue and signal that are next
+
+module _ (v : View) (t : Thread) where
+  -- of a process that runs, what can be taken is what is offered
+  same-offer : runs v t ≡ true → (s : ℕ) → canTakeSignal v t s ≡ isOffered v t s
+  unfolding canTakeSignal isStopped runs accepts isOffered
+  same-offer e s =
+      ap (λ (b : Bool). not (not b) && (pendingFor v t s && not (has (t .mask) s))) e
+      ∙ and-comm (pendingFor v t s) (not (has (t .mask) s))
+
+  -- what is next is of the lowest signal, and of the queue that has it first
+  abbrev At : Next → Type 0
+  At noNext = Unit {0}
+  At (nextMark q s) = (nextSignal v t ≡ s) × (nextQueue v t (nextSignal v t) ≡ q)
+  At (nextRecord q s r) = (nextSignal v t ≡ s) × (nextQueue v t (nextSignal v t) ≡ q)
+
+  at-in : (o : Option Siginfo) → At (nextIn v (nextQueue v t (nextSignal v t)) (nextSignal v t) o)
+  unfolding nextIn
+  at-in none = (refl, refl)
+  at-in (some r) = (refl, refl)
+
+  at-next : At (next v t)
+  unfolding next
+  at-next =
+      split (eqb (nextSignal v t) 0)
+      (λ e. rw e tt)
+      (λ e. rw e (at-in (v .oldest (nextQueue v t (nextSignal v t)) (nextSignal v t))))
+
+  chosen : (q : Queue) (s : ℕ) → MayTake v t q s → (nextSignal v t ≡ s) × (nextQueue v t (nextSignal v t) ≡ q)
+      → Chosen v t q s
+  unfolding nextSignal nextQueue
+  chosen q s m e =
+      record {
+        allowed = m;
+        lowest =
+            sym (e .0)
+            ∙ lowestOf-cong (canTakeSignal v t) (isOffered v t) (λ n _. same-offer (m .running) n);
+        ownFirst =
+            sym (e .1)
+            ∙ ap (λ (n : ℕ). cond (pendingIn v (threadQueue t) n) (threadQueue t) (processQueue (t .process))) (e .0);
+      }
+
+-- ---- a take by a thread
+
 module _ (k : Ledger) (t : ℕ) (l : liveThread (ledgerView k) t ≡ true) where
   abbrev v : View
   v = ledgerView k
@@ -160,7 +227,7 @@ module _ (k : Ledger) (t : ℕ) (l : liveThread (ledgerView k) t ≡ true) where
   send-right q s r e =
       record {
         live = l;
-        allowed = next-record v it q s r e .0;
+        chosen = chosen v it q s (next-record v it q s r e .0) (subst (At v it) e (at-next v it));
         oldest = headed (k .lines q s .sends) r (next-record v it q s r e .1);
         gone =
             ap (λ (x : Line). x .sends) (cond-true (takeSend (k .lines q s)) (k .lines q s) (at-itself q s));
@@ -177,7 +244,7 @@ module _ (k : Ledger) (t : ℕ) (l : liveThread (ledgerView k) t ≡ true) where
       let n = next-mark v it q s e in
       record {
         live = l;
-        allowed = n .0;
+        chosen = chosen v it q s (n .0) (subst (At v it) e (at-next v it));
         noSend = headless (k .lines q s .sends) (n .1);
         there = mark-there q s (n .0 .pending) (n .1);
         gone =
@@ -203,12 +270,6 @@ module _ (k : Ledger) (t : ℕ) (l : liveThread (ledgerView k) t ≡ true) where
       sets-off s (play (tookSend (it .id) q s r) k),
     )
 
-    -- the answer is by the thread that the act names
-    by-thread : (s : ℕ) (r : Siginfo)
-        → AnswerBy v (Accepted (Taken (delivered it (threadAction v it s) r))) (it .id) s r
-    by-thread s r =
-        ap (λ (x : Thread). Accepted (Taken (delivered x (threadAction v x s) r))) (sym (ap (theThread v) i))
-
     -- each take of the call is by that thread
     take-itself : (n : Next) → All (TakenBy t) (takeActs v it n)
     unfolding takeActs
@@ -221,14 +282,32 @@ module _ (k : Ledger) (t : ℕ) (l : liveThread (ledgerView k) t ≡ true) where
         All-imp Quiet (AnswersBy v x) (quiet-answers v x) (setsOff it (threadAction v it s) s)
         (off-quiet it (threadAction v it s) s)
 
-    take-answers : (n : Next) → All (AnswersBy v (Accepted (Taken (takeAnswer v it n)))) (takeActs v it n)
+    -- the answer is by the thread that the act names
+    answers-for : (s : ℕ) (r : Siginfo) → r .signal ≡ s
+        → AnswersFor v (Accepted (reply.Taken (delivered it (threadAction v it s) r))) (it .id) s r
+    answers-for s r e =
+        subst
+        (λ (x : Thread). AnswersTaken x (threadAction v x s) s r
+        (Accepted (reply.Taken (delivered it (threadAction v it s) r))))
+        (sym (ap (theThread v) i))
+        (record {
+          taken = delivered it (threadAction v it s) r;
+          given = refl;
+          says = delivered-says it (threadAction v it s) s r e;
+        })
+
+    take-answers : (n : Next) → next v it ≡ n
+        → ((q : Queue) (s : ℕ) (r : Siginfo) → n ≡ nextRecord q s r → r .signal ≡ s)
+        → All (AnswersBy v (Accepted (reply.Taken (takeAnswer v it n)))) (takeActs v it n)
     unfolding takeActs takeAnswer
-    take-answers noNext = tt
-    take-answers (nextMark q s) =
-        let r : Siginfo = markInfo q s in
-        (by-thread s r, quiet-off s (Accepted (Taken (delivered it (threadAction v it s) r))))
-    take-answers (nextRecord q s r) =
-        (by-thread s r, quiet-off s (Accepted (Taken (delivered it (threadAction v it s) r))))
+    take-answers noNext e g = tt
+    take-answers (nextMark q s) e g =
+        let r : Siginfo = markInfo q s in (
+          answers-for s r (unfold markInfo in refl),
+          quiet-off s (Accepted (reply.Taken (delivered it (threadAction v it s) r))),
+        )
+    take-answers (nextRecord q s r) e g =
+        (answers-for s r (g q s r refl), quiet-off s (Accepted (reply.Taken (delivered it (threadAction v it s) r))))
 
 -- ---- every call
 
@@ -236,6 +315,10 @@ module _ (k : Ledger) (t : ℕ) (l : liveThread (ledgerView k) t ≡ true) where
 pub record Taker (k : Ledger) (t : ℕ) : Type 0 where
   pub live : liveThread (ledgerView k) t ≡ true
   pub named : theThread (ledgerView k) t .id ≡ t
+
+-- a list has sends of its signal
+abbrev pub Sorted : Ledger → Type 0
+Sorted k = (q : Queue) (s : ℕ) (r : Siginfo) → k .lines q s .sends ≡ r ∷ tail (k .lines q s .sends) → r .signal ≡ s
 
 module _ (k : Ledger) (c : Call) (h : (t : ℕ) → c ≡ take t → Taker k t) where
   abbrev seen : View
@@ -250,8 +333,8 @@ module _ (k : Ledger) (c : Call) (h : (t : ℕ) → c ≡ take t → Taker k t) 
           subst (λ (x : Call). RightActs (acts seen x) k) (sym e)
           (unfold acts in take-right k t (h t e .live) (h t e .named) (next seen (theThread seen t)) refl)
 
-  pub answered-by : All (AnswersBy seen (Accepted (reply seen c))) (acts seen c)
-  answered-by = go (shape seen c)
+  pub answered-by : Sorted k → All (AnswersBy seen (Accepted (reply seen c))) (acts seen c)
+  answered-by o = go (shape seen c)
     where
       go : Shape seen c → All (AnswersBy seen (Accepted (reply seen c))) (acts seen c)
       go (quiet q) =
@@ -260,7 +343,8 @@ module _ (k : Ledger) (c : Call) (h : (t : ℕ) → c ≡ take t → Taker k t) 
       go (taking t e) =
           subst (λ (x : Call). All (AnswersBy seen (Accepted (reply seen x))) (acts seen x)) (sym e)
           (unfold acts reply in
-          take-answers k t (h t e .live) (h t e .named) (next seen (theThread seen t)))
+          take-answers k t (h t e .live) (h t e .named) (next seen (theThread seen t)) refl
+          (λ q s r n. o q s r (send-right k t (h t e .live) q s r n .oldest)))
 
 pub itself : (k : Ledger) (t : ℕ) → Taker k t → All (TakenBy t) (acts (ledgerView k) (take t))
 unfolding acts

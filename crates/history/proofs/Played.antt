@@ -30,7 +30,7 @@ use Rattle.rules.specs.Taking.{next, handlerMask, resets, reset, resetChanges, 
 use Rattle.rules.specs.Adding.{addProcessChanges, addThreadChanges, otherThread, endThreadChanges}
 use Rattle.rules.specs.Calls.{send, changes}
 use Rattle.history.specs.Ledger.{Ledger, queues, pendingWhere, onLines, withTotal, place, placeAll}
-use Rattle.history.specs.Acts.{processEnds, tookSend, tookMark, emptyLine, stopSent, contSent, nowIgnored}
+use Rattle.history.specs.Acts.{said, processEnds, tookSend, tookMark, emptyLine, stopSent, contSent, nowIgnored}
 use Rattle.history.specs.Acts.{empties, Act, kept, marked, emptied, emptying, play, playAll, sent, isDropped}
 use Rattle.history.specs.Acts.{isAbsorbed, arrival, jobEvents, sendActs, storeActs, endActs, endsProcess}
 use Rattle.history.specs.Acts.{resetToIgnore, setsOff, takeActs, acts}
@@ -172,26 +172,26 @@ module _ (v : View) (l : Ledger) (by to t value : ℕ) where
       ∙ job-alone l to s k
 
   tested : (queued : Bool) → Sent queued 0
-  unfolding generation sendChanges infoOf sendActs sent jobEvents stopSignal arrival placeAll playAll noteAll
+  unfolding generation sendChanges infoOf sendActs sent said jobEvents stopSignal arrival placeAll playAll noteAll
   tested queued = refl
 
   killed : (queued : Bool) → Sent queued SIGKILL
-  unfolding generation sendChanges infoOf sendActs sent jobEvents arrival placeAll place playAll play empties noteAll
+  unfolding generation sendChanges infoOf sendActs sent said jobEvents arrival placeAll place playAll play empties noteAll
       note
   killed queued = refl
 
   stopped : (queued : Bool) → Sent queued SIGSTOP
-  unfolding generation sendChanges infoOf sendActs sent arrival
+  unfolding generation sendChanges infoOf sendActs sent said arrival
   stopped queued = only-job SIGSTOP refl
 
   arrived : (queued : Bool) (s : ℕ) → eqb s 0 ≡ false → eqb s SIGKILL ≡ false → eqb s SIGSTOP ≡ false
       → ignored (actionOf (theProcess v to) s) s ≡ false → absorbs v queued (targetQueue to t) s ≡ false → Sent queued s
-  unfolding generation sendChanges infoOf sendActs sent arrival isDropped isAbsorbed absorbs
+  unfolding generation sendChanges infoOf sendActs sent said arrival isDropped isAbsorbed absorbs
   arrived true s e0 e1 e2 e3 e4 = rw (e0, e1, e2, e3, e4) (job-kept l to s e1 (infoOf v by to t s value))
   arrived false s e0 e1 e2 e3 e4 = rw (e0, e1, e2, e3, e4) (job-marked l to s e1 (targetQueue to t))
 
   other-sent : (queued : Bool) (s : ℕ) → eqb s 0 ≡ false → eqb s SIGKILL ≡ false → eqb s SIGSTOP ≡ false → Sent queued s
-  unfolding generation sendChanges infoOf sendActs sent arrival isDropped isAbsorbed absorbs
+  unfolding generation sendChanges infoOf sendActs sent said arrival isDropped isAbsorbed absorbs
   other-sent queued s e0 e1 e2 =
       split (ignored (actionOf (theProcess v to) s) s)
       (λ e3. rw (e0, e1, e2, e3) (only-job s e1))

@@ -10,10 +10,10 @@ use borrow.Author.Tests.{eqb-true, eqb-false, le-ltb}
 use Rattle.limits.specs.Limits.{EFAULT, EINVAL, answerWords, callClear, callSigaction, callSigmask, callSigpending}
 use Rattle.limits.specs.Limits.{callLook, callWho}
 use Rattle.lists.specs.Lists.{any, padded}
-use Rattle.lists.proofs.Bools.{split, clash, and-fst, and-snd, and-both, or-cases, cond-false}
+use Rattle.lists.proofs.Bools.{split, clash, and-fst, and-snd, and-both, or-cases, cond-true, cond-false}
 use Rattle.siginfo.specs.Bytes.{Bytes}
 use Rattle.types.specs.declared.Answer.{Answer}
-use Rattle.types.specs.declared.Answer.the-variants.{Refused}
+use Rattle.types.specs.declared.Answer.the-variants.{Refused, Accepted}
 use Rattle.rules.specs.Types.{Call, clear}
 use Rattle.rules.specs.View.{View}
 use Rattle.rules.specs.Actions.{actionChanges, maskChanges}
@@ -32,7 +32,7 @@ use Rattle.threads.specs.Records.{recordsOf}
 use Rattle.threads.proofs.Words.{records-back}
 use Rattle.rrezhbuta.specs.Entry.{Host, host, lentBy, handedBack, callOn}
 use Rattle.history.specs.History.{lending}
-use Rattle.history.specs.Demand1.{isListed, onlyAsks, AnswerIn}
+use Rattle.history.specs.Demand1.{isListed, onlyAsks}
 use Rattle.history.proofs.Encoded.{clearedTables, clear-accepted, clear-clears, decoded-cleared}
 use Rattle.history.proofs.Entry.{served-accepted, served-not, entry-returned, entry-words, entry-tables}
 
@@ -85,20 +85,29 @@ module _ (h : Host) (n : ℕ) (g : Arguments) where
       ∙ ap (λ (x : Lent × Answer). errnoOf (x .1)) (served-accepted n g h k)
       ∙ step-errno c (lentBy h)
 
-  -- where it is 0, the words are an answer's
-  pub call-answered : eqb (callOn n g h .1) 0 ≡ true → AnswerIn (callOn n g h .0 .answer) (h .answer)
+  -- by the table's row that applies, or by the number and the room
+  pub call-exactly : callOn n g h .1
+      ≡ cond (accepted n (length (h .answer))) (refusalOn c (lentBy h)) (cond (usable n (lentBy h)) EINVAL EFAULT)
+  unfolding errnoOf
+  call-exactly =
+      split (accepted n (length (h .answer)))
+      (λ k. accepted-errno k ∙ sym (cond-true _ _ k))
+      (λ k.
+      entry-returned n g h
+      ∙ ap (λ (x : Lent × Answer). errnoOf (x .1)) (served-not n g h k)
+      ∙ sym (cond-false _ _ k))
+
+  -- where it is 0, the words are those of the rules' reply
+  pub call-answered : eqb (callOn n g h .1) 0 ≡ true
+      → callOn n g h .0 .answer ≡ written (Accepted (reply (viewOf (lentBy h)) c)) (h .answer)
   unfolding errnoOf
   call-answered z =
       split (accepted n (length (h .answer)))
       (λ k.
-      let e = sym (accepted-errno k) ∙ eqb-true (callOn n g h .1) 0 z in
-      record {
-        reply = reply (viewOf (lentBy h)) c;
-        says =
-            entry-words n g h
-            ∙ ap (λ (x : Lent × Answer). written (x .1) (h .answer))
-            (served-accepted n g h k ∙ accepted-step c (lentBy h) e);
-      })
+      entry-words n g h
+      ∙ ap (λ (x : Lent × Answer). written (x .1) (h .answer))
+      (served-accepted n g h k
+      ∙ accepted-step c (lentBy h) (sym (accepted-errno k) ∙ eqb-true (callOn n g h .1) 0 z)))
       (λ k.
       clash z (ap (λ (m : ℕ). eqb m 0)
       (entry-returned n g h ∙ ap (λ (x : Lent × Answer). errnoOf (x .1)) (served-not n g h k))

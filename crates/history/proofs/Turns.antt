@@ -2,17 +2,19 @@
 use Prim.Native.Nat.{ℕ}
 use mathlib.Core.Path.{_≡_, sym, ap, _∙_, subst}
 use mathlib.Core.Bool.{true}
-use mathlib.Core.List.{append-nil}
+use mathlib.Core.List.{List, append-nil}
 use native.Mathlib.Omega.{arith}
 use lib.Dec.{eqb}
 use borrow.Author.Tests.{eqb-false, ltb-false, not-false}
 use Rattle.limits.specs.Limits.{signals}
-use Rattle.lists.specs.Lists.{All}
-use Rattle.lists.proofs.Bools.{or-fst-false, or-snd-false}
+use Rattle.lists.specs.Lists.{all, All}
+use Rattle.lists.proofs.Lists.{all-kept}
+use Rattle.lists.proofs.Bools.{and-fst, or-fst-false, or-snd-false}
+use Rattle.types.specs.declared.Siginfo.{Siginfo}
 use Rattle.types.specs.declared.Answer.the-variants.{Accepted}
 use Rattle.rules.specs.Types.{Call, sigaction, take}
-use Rattle.rules.specs.View.{View, liveThread, theThread}
-use Rattle.rules.specs.Store.{Store, view, applyAll}
+use Rattle.rules.specs.View.{inQueue, View, liveThread, theThread}
+use Rattle.rules.specs.Store.{recordsFor, Store, view, applyAll}
 use Rattle.rules.specs.Refusals.{overLast, badAction, noThreadLive, rows, table, refusalOf}
 use Rattle.rules.specs.Machine.{machine}
 use Rattle.rules.specs.Calls.{changes, reply}
@@ -24,7 +26,18 @@ use Rattle.history.specs.Demand3.{RightTurns, AnswersBy}
 use Rattle.history.proofs.Notes.{noteAll}
 use Rattle.history.proofs.Holds.{Holds, same-view, holds-accepted}
 use Rattle.history.proofs.Played.{Storable, played}
-use Rattle.history.proofs.Judged.{Taker, judged, answered-by}
+use Rattle.history.proofs.Relation.{Agrees}
+use Rattle.history.proofs.Records.{of-signal}
+use Rattle.history.proofs.Judged.{Taker, Sorted, judged, answered-by}
+
+-- the sends of a list are those of the tables' records that are of its signal
+sorted : (st : Store) (k : Ledger) → Agrees st k → Sorted k
+unfolding all
+sorted st k a q s r e =
+    of-signal q s r
+    (and-fst (inQueue q s r) _
+    (subst (λ (rs : List Siginfo). all (inQueue q s) rs ≡ true) (a .records q s ∙ e)
+    (all-kept (inQueue q s) (recordsFor q st))))
 
 module _ (c : Call) (st : Store) (k : Ledger) (e : refusalOf st c ≡ 0) (h : Holds st k) where
   -- an action is stored for a signal
@@ -65,4 +78,4 @@ module _ (c : Call) (st : Store) (k : Ledger) (e : refusalOf st c ≡ 0) (h : Ho
   answers-turns =
       subst (All (AnswersBy (ledgerView k) (Accepted (reply (ledgerView k) c))))
       (sym (append-nil (acts (ledgerView k) c)))
-      (answered-by k c taker)
+      (answered-by k c taker (sorted st k (h .beside .agrees)))

@@ -11,6 +11,8 @@ use Rattle.lists.specs.Lists.{any}
 use Rattle.sigset.specs.Set.{isUnmaskable}
 use Rattle.types.specs.declared.Action.{Action}
 use Rattle.types.specs.declared.Siginfo.{Siginfo}
+use Rattle.types.specs.declared.Sent.{Sent}
+use Rattle.types.specs.declared.Sent.the-variants.{Tested, Acted, Dropped, Absorbed, Marked, Kept}
 use Rattle.rules.specs.Types.{Thread, Queue, Next, noNext, nextMark, nextRecord, Call, clear, addProcess, addThread}
 use Rattle.rules.specs.Types.{endProcess, endThread, kill, sigqueue, sigaction, sigmask, sigpending, look, who, take}
 use Rattle.rules.specs.Types.{sigreturn}
@@ -121,6 +123,15 @@ playAll (a ∷ xs) l = playAll xs (play a l)
 
 -- ---- the acts of a call, on what is read when its turn comes
 
+-- step 5: "A plain send sets the mark, "marked". A queued send adds a record at the end, "kept"."
+unfoldable pub arrival : Sent → Siginfo → List Act
+arrival Tested r = []
+arrival Acted r = []
+arrival Dropped r = []
+arrival Absorbed r = []
+arrival Marked r = marked (queueOf r) (r .signal) ∷ []
+arrival Kept r = kept r ∷ []
+
 -- steps 1 and 2
 unfoldable pub jobEvents : (process signal : ℕ) → List Act
 jobEvents p s =
@@ -133,7 +144,7 @@ unfoldable pub storeActs : (process signal : ℕ) → Option Action → List Act
 storeActs p s none = []
 storeActs p s (some a) = cond (ignored a s) (emptied (nowIgnored p s) ∷ []) []
 
--- by default the process ends
+-- by default the process ends; a signal that is ignored by default is never pending, and never taken so
 unfoldable pub endsProcess : Outcome → Bool
 endsProcess ignores = false
 endsProcess stops = false
@@ -177,14 +188,17 @@ module _ (v : View) where
       (standard (r .signal) && pendingIn v (queueOf r) (r .signal))
       || (not queued && v .marks (queueOf r) (r .signal))
 
-  -- step 5, of what steps 1, 3 and 4 leave; signal 0 only tests
-  unfoldable pub arrival : (queued : Bool) → Siginfo → List Act
-  arrival queued r =
-      cond (eqb (r .signal) 0 || (isUnmaskable (r .signal) || (isDropped r || isAbsorbed queued r))) []
-      (cond queued (kept r) (marked (queueOf r) (r .signal)) ∷ [])
+  -- what becomes of a send, in the words of its answer: signal 0, then steps 1, 3, 4 and 5
+  unfoldable pub said : (queued : Bool) → Siginfo → Sent
+  said queued r =
+      cond (eqb (r .signal) 0) Tested
+      (cond (isUnmaskable (r .signal)) Acted
+      (cond (isDropped r) Dropped
+      (cond (isAbsorbed queued r) Absorbed
+      (cond queued Kept Marked))))
 
   unfoldable pub sendActs : (queued : Bool) → Siginfo → List Act
-  sendActs queued r = jobEvents (r .process) (r .signal) ++ arrival queued r
+  sendActs queued r = jobEvents (r .process) (r .signal) ++ arrival (said queued r) r
 
   -- "the last thread's end ends the process"
   unfoldable pub endActs : Thread → List Act
@@ -216,18 +230,18 @@ module _ (v : View) where
 
 -- ---- the turns of a call
 
--- One thing that a call does: its acts, and what the rules make of processes and threads,
+-- One thing that a call does: its acts, and the stage by which the rules change processes and threads,
 -- both judged on what is read in the ledger when its turn comes.
 pub record Turn : Type 0 where
   pub does : View → List Act
-  pub rule : Stage
+  pub stage : Stage
 
--- here one each
+-- v is what is read before the call; so far a call has one turn
 unfoldable pub turns : View → Call → List Turn
-turns v c = record { does = λ w. acts w c; rule = λ w. changes w c } ∷ []
+turns v c = record { does = λ w. acts w c; stage = λ w. changes w c } ∷ []
 
 unfoldable pub takeTurn : Turn → Ledger → Ledger
-takeTurn x l = placeAll (x .rule (ledgerView l)) (playAll (x .does (ledgerView l)) l)
+takeTurn x l = placeAll (x .stage (ledgerView l)) (playAll (x .does (ledgerView l)) l)
 
 unfoldable pub takeTurns : List Turn → Ledger → Ledger
 takeTurns [] l = l

@@ -4,17 +4,16 @@
 -- leaves and returns just that, and asks nothing. h is what the host holds, n the number and g the arguments of a call.
 use Prim.Native.Nat.{ℕ, _≤_}
 use mathlib.Core.Path.{_≡_}
-use mathlib.Core.Bool.{Bool, true, false, _&&_, _||_}
-use mathlib.Core.List.{List, []}
+use mathlib.Core.Bool.{Bool, true, false, _&&_, _||_, cond}
+use mathlib.Core.List.{[]}
 use lib.Dec.{eqb}
 use lib.ListN.{length}
-use Rattle.limits.specs.Limits.{SIGKILL, SIGCONT, SIGSTOP, answerWords, callClear, callKill, callSigqueue}
-use Rattle.limits.specs.Limits.{callSigaction, callSigmask, callSigpending, callLook, callWho}
+use Rattle.limits.specs.Limits.{EFAULT, EINVAL, SIGKILL, SIGCONT, SIGSTOP, answerWords, callClear, callKill}
+use Rattle.limits.specs.Limits.{callSigqueue, callSigaction, callSigmask, callSigpending, callLook, callWho}
 use Rattle.lists.specs.Lists.{any, keep}
 use Rattle.sigset.specs.Set.{isUnmaskable, has}
 use Rattle.siginfo.specs.Bytes.{Bytes}
 use Rattle.types.specs.declared.Sent.the-variants.{Acted}
-use Rattle.types.specs.declared.Reply.{Reply}
 use Rattle.types.specs.declared.Reply.the-variants.{Sent}
 use Rattle.types.specs.declared.Answer.the-variants.{Accepted}
 use Rattle.rules.specs.Types.{Queue}
@@ -22,8 +21,10 @@ use Rattle.rules.specs.View.{belongsTo, inQueue, actionOf, liveProcess, theProc
 use Rattle.rules.specs.Store.{recordsFor, markIn, cleared}
 use Rattle.rules.specs.Sending.{maySignal}
 use Rattle.rules.specs.Refusals.{tableOrder, badTarget}
+use Rattle.rules.specs.Calls.{reply}
 use Rattle.sound.specs.Lent.{Lent, decoded, viewOf, lengthsAre, soundTables}
-use Rattle.boundary.specs.Boundary.{Arguments, written}
+use Rattle.answers.specs.Step.{refusalOn}
+use Rattle.boundary.specs.Boundary.{Arguments, numbered, written, usable, accepted}
 use Rattle.rrezhbuta.specs.Entry.{Host, lentBy, callOn}
 use Rattle.history.specs.History.{lending, machineArguments}
 
@@ -46,11 +47,6 @@ pub record InWidth (h : Host) (g : Arguments) : Type 0 where
   pub threadBuffer : Bytes (h .threadBuffer)
   pub processBuffer : Bytes (h .processBuffer)
   pub arguments : machineArguments g ≡ true
-
--- the lent words have an answer from the first on
-pub record AnswerIn (words lent : List ℕ) : Type 0 where
-  pub reply : Reply
-  pub says : words ≡ written (Accepted reply) lent
 
 -- a live target, process or thread, of a live sender that may signal it, on sound tables, with room for the answer
 pub record MaySend (h : Host) (by to thread signal : ℕ) : Type 0 where
@@ -84,9 +80,15 @@ pub record NowhereMasked (l : Lent) (s : ℕ) : Type 0 where
 pub record Demand1 : Type 0 where
   -- "a call answers or gives one of document 01's refusals"
   pub listed : (h : Host) (n : ℕ) (g : Arguments) → (eqb (callOn n g h .1) 0 || isListed (callOn n g h .1)) ≡ true
-  -- where it answers, the words are those of an answer, and the rest of what was lent for them stays
+  -- 01: "given exactly when": the first row of the table that applies; 22, after 14, where there is no such call or no
+  -- room for its answer
+  pub exactly : (h : Host) (n : ℕ) (g : Arguments)
+      → callOn n g h .1
+      ≡ cond (accepted n (length (h .answer))) (refusalOn (numbered n g) (lentBy h))
+      (cond (usable n (lentBy h)) EINVAL EFAULT)
+  -- where it answers, the words are those of the rules' reply, and the rest of what was lent for them stays
   pub answered : (h : Host) (n : ℕ) (g : Arguments) → eqb (callOn n g h .1) 0 ≡ true
-      → AnswerIn (callOn n g h .0 .answer) (h .answer)
+      → callOn n g h .0 .answer ≡ written (Accepted (reply (viewOf (lentBy h)) (numbered n g))) (h .answer)
   -- "a refusal writes nothing": no table, and no word of the answer
   pub refused : (h : Host) (n : ℕ) (g : Arguments) → eqb (callOn n g h .1) 0 ≡ false → callOn n g h .0 ≡ h
   -- a call that only asks leaves all but the words of its answer as it was

@@ -3,41 +3,58 @@
 -- the view and the rules in crate rules; the ledger, its acts and what it is told here (Ledger, Acts, Tally, History).
 use Prim.Native.Nat.{ℕ, _+_, _≤_}
 use mathlib.Core.Path.{_≡_}
-use mathlib.Core.Bool.{Bool, true, false, not, _&&_, cond}
+use mathlib.Core.Bool.{Bool, true, false, not, _&&_, _||_, cond}
 use mathlib.Core.List.{List, [], _∷_, map, tail}
 use lib.Dec.{eqb}
 use lib.ListN.{length, drop, getD}
-use Rattle.limits.specs.Limits.{recordLimit, EAGAIN, EFAULT, answerWords, answerNothing, callSigqueue, callTake}
-use Rattle.lists.specs.Lists.{all, any, count, keep, All}
+use Rattle.limits.specs.Limits.{recordLimit, EAGAIN, EFAULT, sigDfl, answerWords, answerNothing, answerKept}
+use Rattle.limits.specs.Limits.{callAddProcess, callAddThread, callSigqueue, callTake}
+use Rattle.lists.specs.Lists.{all, any, count, first, keep, All}
+use Rattle.sigset.specs.Set.{has, setOf, lowestOf}
+use Rattle.types.specs.declared.Action.{Action}
 use Rattle.types.specs.declared.Siginfo.{Siginfo}
-use Rattle.types.specs.declared.Reply.the-variants.{Taken}
+use Rattle.types.specs.declared.Taken.{Taken}
+use Rattle.types.specs.declared.Taken.the-variants.{Nothing, Handler, End, Stop, NoAction}
+use Rattle.types.specs.declared.Reply.the-variants as reply
+use Rattle.types.specs.declared.Reply.the-variants.{Sent, PendingSet}
 use Rattle.types.specs.declared.Answer.{Answer}
 use Rattle.types.specs.declared.Answer.the-variants.{Accepted}
-use Rattle.rules.specs.Types.{Queue, Call, kill, sigqueue, take}
-use Rattle.rules.specs.View.{View, inQueue, targetQueue, liveThread, theThread, threadAction}
-use Rattle.rules.specs.Store.{held, used, recordsFor, markIn}
-use Rattle.rules.specs.Taking.{delivered, markInfo}
-use Rattle.rules.specs.Asking.{MayTake, hasOffer}
+use Rattle.rules.specs.Types.{Thread, Queue, Call, kill, sigqueue, sigpending, who, take}
+use Rattle.rules.specs.Signals.{stops, ends, outcome}
+use Rattle.rules.specs.View.{View, belongsTo, processQueue, threadQueue, inQueue, liveProcess, liveThread, theThread}
+use Rattle.rules.specs.View.{threadAction, pendingIn, pendingFor}
+use Rattle.rules.specs.Store.{held, used, recordsFor, markIn, isFreeProcess, isFreeThread}
+use Rattle.rules.specs.Sound.{goodId}
+use Rattle.rules.specs.Taking.{whoAnswer, markInfo}
+use Rattle.rules.specs.Asking.{MayTake, isOffered, hasOffer}
 use Rattle.rules.specs.Refusals.{refusal, rows}
 use Rattle.sound.specs.Lent.{Lent, decoded, lengthsAre, soundTables}
 use Rattle.answers.specs.Step.{encoded}
-use Rattle.boundary.specs.Boundary.{Arguments, errnoOf, written}
+use Rattle.boundary.specs.Boundary.{Arguments, sentWord, errnoOf, written}
 use Rattle.rrezhbuta.specs.Entry.{Host, lentBy, callOn, lookAt, slotAt}
 use Rattle.history.specs.Ledger.{Ledger, ofProcess, ledgerView, ledgerRefusal, ledgerAnswer, pendingWhere}
-use Rattle.history.specs.Acts.{acts, Act, kept, marked, tookSend, tookMark, emptied, play, Turn, turns, takeTurn}
-use Rattle.history.specs.Acts.{actsOf}
-use Rattle.history.specs.Tally.{keptSince, takenSince, isKeep, keepsAt, marksAt, isTake, takesAt, takesEither}
+use Rattle.history.specs.Acts.{Act, kept, marked, tookSend, tookMark, emptied, play, endsProcess, sent, said}
+use Rattle.history.specs.Acts.{Turn, turns, takeTurn, actsOf}
+use Rattle.history.specs.Tally.{keptSince, takenSince, markSince, discardedAt, isKeep, keepsAt, isTake, takesAt}
+use Rattle.history.specs.Tally.{takesEither}
 use Rattle.history.specs.History.{Past, Item, lending, after, cleared, machineItem, rowThread, heard, lookedBytes}
-use Rattle.history.specs.History.{bytesAt, isSent, isKept, isMarked}
+use Rattle.history.specs.History.{bytesAt}
 
 -- ---- what a take is, on the ledger at its turn
+
+-- the queue and signal that a thread takes from
+pub record Chosen (v : View) (t : Thread) (q : Queue) (s : ℕ) : Type 0 where
+  -- "to one thread of that process that did not block it, while the process was not stopped"
+  pub allowed : MayTake v t q s
+  -- 01: "The lowest number wins; at equal numbers the thread's queue goes first"
+  pub lowest : s ≡ lowestOf (isOffered v t)
+  pub ownFirst : q ≡ cond (pendingIn v (threadQueue t) s) (threadQueue t) (processQueue (t .process))
 
 module _ (k : Ledger) where
   -- thread t takes the send r of the signal s in the queue q
   pub record TookSend (t : ℕ) (q : Queue) (s : ℕ) (r : Siginfo) : Type 0 where
-    -- "to one thread of that process that did not block it, while the process was not stopped"
     pub live : liveThread (ledgerView k) t ≡ true
-    pub allowed : MayTake (ledgerView k) (theThread (ledgerView k) t) q s
+    pub chosen : Chosen (ledgerView k) (theThread (ledgerView k) t) q s
     -- 01: "A take removes the oldest send .. of the queue and signal chosen there"
     pub oldest : k .lines q s .sends ≡ r ∷ tail (k .lines q s .sends)
     -- "Each taken record went once": it is gone from its list
@@ -46,7 +63,7 @@ module _ (k : Ledger) where
   -- and its mark
   pub record TookMark (t : ℕ) (q : Queue) (s : ℕ) : Type 0 where
     pub live : liveThread (ledgerView k) t ≡ true
-    pub allowed : MayTake (ledgerView k) (theThread (ledgerView k) t) q s
+    pub chosen : Chosen (ledgerView k) (theThread (ledgerView k) t) q s
     -- 01: "or, with none, the mark"
     pub noSend : k .lines q s .sends ≡ []
     pub there : k .lines q s .mark ≡ true
@@ -76,16 +93,33 @@ TakenBy t (tookSend m q s r) = m ≡ t
 TakenBy t (tookMark m q s) = m ≡ t
 TakenBy t (emptied e) = Unit {0}
 
--- 01: "and answers by it": the answer is that of the send, or of the mark, which the act takes
-module _ (v : View) (a : Answer) where
-  abbrev pub AnswerBy : (thread : ℕ) → (signal : ℕ) → Siginfo → Type 0
-  AnswerBy t s r = a ≡ Accepted (Taken (delivered (theThread v t) (threadAction v (theThread v t) s) r))
+-- 01: "and answers by it": "answers handler, signal, record .., flags, saved mask", or by default "the signal and "end" ..,
+-- "stop" .. or, for CONT, "no action""
+module _ (t : Thread) (a : Action) (s : ℕ) (r : Siginfo) where
+  abbrev pub Says : Taken → Type 0
+  Says Nothing = ⊥
+  Says (Handler n m x flags saved) =
+      (eqb (a .handler) sigDfl ≡ false)
+      × ((n ≡ a .handler) × ((m ≡ s) × ((x ≡ r) × ((flags ≡ a .flags) × (saved ≡ t .mask)))))
+  Says (End m) = (eqb (a .handler) sigDfl ≡ true) × ((outcome s ≡ ends) × (m ≡ s))
+  Says (Stop m) = (eqb (a .handler) sigDfl ≡ true) × ((outcome s ≡ stops) × (m ≡ s))
+  Says (NoAction m) = (eqb (a .handler) sigDfl ≡ true) × ((endsProcess (outcome s) ≡ false) × (m ≡ s))
+
+  pub record AnswersTaken (x : Answer) : Type 0 where
+    pub taken : Taken
+    pub given : x ≡ Accepted (reply.Taken taken)
+    pub says : Says taken
+
+module _ (v : View) (x : Answer) where
+  -- by thread t, which took the signal s as the record r says
+  abbrev pub AnswersFor : (t s : ℕ) → Siginfo → Type 0
+  AnswersFor t s r = AnswersTaken (theThread v t) (threadAction v (theThread v t) s) s r x
 
   abbrev pub AnswersBy : Act → Type 0
   AnswersBy (kept r) = Unit {0}
   AnswersBy (marked q s) = Unit {0}
-  AnswersBy (tookSend t q s r) = AnswerBy t s r
-  AnswersBy (tookMark t q s) = AnswerBy t s (markInfo q s)
+  AnswersBy (tookSend t q s r) = AnswersFor t s r
+  AnswersBy (tookMark t q s) = AnswersFor t s (markInfo q s)
   AnswersBy (emptied e) = Unit {0}
 
 -- a take's words say that it yields a signal
@@ -118,6 +152,7 @@ module _ (h : Host) (k : Ledger) (done : List Act) where
     -- 01: "sets the tables' records .. against what is read there: sends, pending, blocking, stopped"
     pub sends : (q : Queue) (s : ℕ) → queued q s ≡ k .lines q s .sends
     pub marks : (q : Queue) (s : ℕ) → markIn (decoded tables) q s ≡ k .lines q s .mark
+    pub marksSince : (q : Queue) (s : ℕ) → markIn (decoded tables) q s ≡ markSince q s done
     pub processes : map held (decoded tables .processes) ≡ k .processes
     -- the row of records itself
     pub threads : map rowThread (h .threads) ≡ k .threads
@@ -128,12 +163,23 @@ module _ (h : Host) (k : Ledger) (done : List Act) where
     pub returned : (n : ℕ) (g : Arguments) (out : List ℕ) → called n g out .1 ≡ errnoOf (heard k n g (length out))
     pub words : (n : ℕ) (g : Arguments) (out : List ℕ)
         → called n g out .0 .answer ≡ written (heard k n g (length out)) out
+    -- errno 14 is never given: no call of such a list finds the tables other than sound
+    pub noFault : (n : ℕ) (g : Arguments) (out : List ℕ) → eqb (called n g out .1) EFAULT ≡ false
+    -- of a send what became of it; of the others that read more than one thing, "pending, blocking, stopped"
+    pub killSaid : (by to t s : ℕ) → ledgerRefusal k (kill by to t s) ≡ 0
+        → ledgerAnswer k (kill by to t s) ≡ Accepted (Sent (said seen false (sent seen by to t s 0)))
+    pub queueSaid : (by to t s value : ℕ) → ledgerRefusal k (sigqueue by to t s value) ≡ 0
+        → ledgerAnswer k (sigqueue by to t s value) ≡ Accepted (Sent (said seen true (sent seen by to t s value)))
+    pub pendingSaid : (t : ℕ) → ledgerRefusal k (sigpending t) ≡ 0
+        → ledgerAnswer k (sigpending t)
+        ≡ Accepted (PendingSet (setOf (λ s. has (theThread seen t .mask) s && pendingFor seen (theThread seen t) s)))
+    pub whoSaid : (p : ℕ) → ledgerRefusal k (who p) ≡ 0
+        → ledgerAnswer k (who p)
+        ≡ Accepted (whoAnswer seen (first (λ t. belongsTo p t && hasOffer seen t) (k .threads)))
     -- of a look the bytes, and those of the slot that it names
     pub looks : (t : ℕ) → lookAt (h .processes) (h .threadBuffer) (h .processBuffer) (h .threads) t ≡ lookedBytes k t
     pub slots : (t : ℕ)
         → bytesAt h (slotAt (h .processes) (h .threadBuffer) (h .processBuffer) (h .threads) t) ≡ lookedBytes k t
-    -- errno 14 is never given: no call of such a list finds the tables other than sound
-    pub noFault : (n : ℕ) (g : Arguments) (out : List ℕ) → eqb (called n g out .1) EFAULT ≡ false
     -- "Each taken record went once, to one thread of that process that did not block it,
     -- while the process was not stopped": of any call, every take, of marks too
     pub takes : (c : Call) → ledgerRefusal k c ≡ 0 → RightTurns (turns seen c) k
@@ -158,23 +204,28 @@ module _ (h : Host) (k : Ledger) (done : List Act) where
     -- "counted from the calls": as many as their acts keep, and as many as they take
     pub keptCounted : (q : Queue) (s : ℕ) → k .lines q s .counts .kept ≡ count (keepsAt q s) done
     pub takenCounted : (q : Queue) (s : ℕ) → k .lines q s .counts .taken ≡ count (takesAt q s) done
+    pub discardedCounted : (q : Queue) (s : ℕ) → k .lines q s .counts .discarded ≡ discardedAt q s done
     pub keptTotal : k .total .kept ≡ count isKeep done
     pub takenTotal : k .total .taken ≡ count isTake done
-    -- the answers say so: a send that is answered "kept" keeps one, and one that is answered "marked" sets its mark;
-    -- no other send does
-    pub keptSaid : (c : Call) → ledgerRefusal k c ≡ 0 → isSent (ledgerAnswer k c) ≡ true
-        → count isKeep (actsOf (turns seen c) k) ≡ cond (isKept (ledgerAnswer k c)) 1 0
-    pub markedSaid : (by to t s : ℕ) → ledgerRefusal k (kill by to t s) ≡ 0
-        → count (marksAt (targetQueue to t) s) (actsOf (turns seen (kill by to t s)) k)
-        ≡ cond (isMarked (ledgerAnswer k (kill by to t s))) 1 0
-    -- "and room given back is used again": a queued send is refused for room exactly when a plain one would pass,
-    -- it would keep one, and the sends pending for the process are 32 then; they are never more
+    -- "and room given back is used again": with words for the answer, a queued send is refused for room exactly when a
+    -- plain one would pass, it would be kept, and the sends pending for the process are 32 then; they are never more
     pub room : (g : Arguments) (out : List ℕ) → answerWords ≤ length out
         → eqb (called callSigqueue g out .1) EAGAIN
         ≡ (eqb (refusal (rows seen (kill (g .a) (g .b) (g .c) (g .d)))) 0
-        && (any isKeep (acts seen (sigqueue (g .a) (g .b) (g .c) (g .d) (g .x)))
+        && (eqb (sentWord (said seen true (sent seen (g .a) (g .b) (g .c) (g .d) (g .x)))) answerKept
         && eqb (pendingWhere k (ofProcess (g .b))) recordLimit))
     pub limit : (n : ℕ) → pendingWhere k (ofProcess n) ≤ recordLimit
+    -- 01: "room (errno 11's row)", of places: what is added with good ids that are not live, by a live creator, is
+    -- refused for room exactly when there is no free place for it
+    pub roomProcess : (g : Arguments) (out : List ℕ) → answerWords ≤ length out
+        → eqb (called callAddProcess g out .1) EAGAIN
+        ≡ ((goodId (g .a) && goodId (g .f))
+        && (not (liveProcess seen (g .a) || liveThread seen (g .f))
+        && not (any isFreeProcess (k .processes) && any isFreeThread (k .threads))))
+    pub roomThread : (g : Arguments) (out : List ℕ) → answerWords ≤ length out
+        → eqb (called callAddThread g out .1) EAGAIN
+        ≡ (goodId (g .b)
+        && (liveThread seen (g .a) && (not (liveThread seen (g .b)) && not (any isFreeThread (k .threads)))))
 
 -- the same of what stands there after a list
 abbrev pub Holds : Past → Type 0

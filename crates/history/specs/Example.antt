@@ -12,9 +12,10 @@ use Rattle.rules.specs.Types.{Call, clear, addProcess, sigqueue, sigaction, tak
 use Rattle.rules.specs.View.{processQueue}
 use Rattle.rules.specs.Computing.{computing}
 use Rattle.history.specs.Ledger.{Line, queues, pendingWhere, ledgerView, place, placeAll, emptyLedger}
-use Rattle.history.specs.Acts.{empties, play, playAll, sent, isDropped, isAbsorbed, arrival, jobEvents, sendActs}
-use Rattle.history.specs.Acts.{storeActs, endActs, endsProcess, resetToIgnore, setsOff, takeActs, acts, turns}
-use Rattle.history.specs.Acts.{takeTurn, takeTurns, kept, tookSend, emptied, allCleared, nowIgnored, actsOf}
+use Rattle.history.specs.Acts.{empties, play, playAll, sent, isDropped, isAbsorbed, said, arrival, jobEvents}
+use Rattle.history.specs.Acts.{sendActs, storeActs, endActs, endsProcess, resetToIgnore, setsOff, takeActs, acts}
+use Rattle.history.specs.Acts.{turns, takeTurn, takeTurns, kept, tookSend, emptied, allCleared, nowIgnored}
+use Rattle.history.specs.Acts.{actsOf}
 use Rattle.history.specs.History.{Entry, Book, emptyBook, onto, entered, enter}
 
 enterAll : List Entry → Book → Book
@@ -65,6 +66,6 @@ example : (pendingAfter sends ≡ 2 ∷ 3 ∷ [])
     ≡ emptied (nowIgnored 100 40) ∷ tookSend 200 (processQueue 100) 40 (valued 1) ∷ kept (valued 3) ∷ kept (valued 2)
     ∷ kept (valued 1) ∷ emptied allCleared ∷ []))))
 unfolding computing queues pendingWhere ledgerView place placeAll emptyLedger empties play playAll sent isDropped
-    isAbsorbed arrival jobEvents sendActs storeActs endActs endsProcess resetToIgnore setsOff takeActs acts turns takeTurn
+    isAbsorbed said arrival jobEvents sendActs storeActs endActs endsProcess resetToIgnore setsOff takeActs acts turns takeTurn
     takeTurns actsOf onto entered enter enterAll accepted refused sends ignored lineAfter pendingAfter valued
 example = (refl, (refl, (refl, (refl, refl))))

@@ -1,10 +1,10 @@
 -- A list of what a host does, from a `clear` on, and what the ledger is told of it.
 use Prim.Native.Nat.{ℕ, zero, suc, _-_}
-use mathlib.Core.Bool.{Bool, true, false, not, _&&_, cond}
+use mathlib.Core.Bool.{Bool, true, not, _&&_, cond}
 use mathlib.Core.List.{List, [], _∷_}
 use lib.Dec.{eqb, ltb}
 use lib.ListN.{length}
-use Rattle.limits.specs.Limits.{EINVAL, bufferRecords, recordBytes, callClear, answerKept, answerMarked}
+use Rattle.limits.specs.Limits.{EINVAL, bufferRecords, recordBytes, callClear}
 use Rattle.lists.specs.Rows.{row}
 use Rattle.siginfo.specs.Bytes.{bytesOf}
 use Rattle.types.specs.declared.Answer.{Answer}
@@ -12,9 +12,8 @@ use Rattle.types.specs.declared.Answer.the-variants.{Refused}
 use Rattle.rules.specs.Types.{Thread, Call, look, Next, noNext, nextMark, nextRecord}
 use Rattle.rules.specs.View.{theThread}
 use Rattle.rules.specs.Taking.{next}
-use Rattle.rules.specs.Asking.{onAccepted}
 use Rattle.rules.specs.Machine.{isU32, isU64}
-use Rattle.boundary.specs.Boundary.{Arguments, accepted, numbered, sentWord}
+use Rattle.boundary.specs.Boundary.{Arguments, accepted, numbered}
 use Rattle.threads.specs.declared.Thread as records
 use Rattle.rrezhbuta.specs.Entry.{Host, host, callOn}
 use Rattle.history.specs.Ledger.{Ledger, emptyLedger, ledgerView, ledgerRefusal, ledgerAnswer}
@@ -36,12 +35,12 @@ pub record Book : Type 0 where
 abbrev pub emptyBook : Book
 emptyBook = record { ledger = emptyLedger; acts = [] }
 
--- one after the other
+-- put before the earlier ones, one after the other
 unfoldable pub onto : List Act → List Act → List Act
 onto [] xs = xs
 onto (b ∷ bs) xs = onto bs (b ∷ xs)
 
--- the call does there what it does
+-- the turns of a call that is not refused
 unfoldable pub entered : Call → Book → Book
 entered c b =
     record {
@@ -105,23 +104,6 @@ machineArguments g =
 unfoldable pub machineItem : Item → Bool
 machineItem (call n g out) = machineArguments g
 machineItem (slotLook t) = true
-
--- ---- what an answer says of a send
-
--- it is a send's answer
-abbrev pub isSent : Answer → Bool
-isSent = onAccepted (λ _. true) (λ _. false)
-
--- it is answered so, by its number
-unfoldable pub isSentAs : (answer : ℕ) → Answer → Bool
-isSentAs n = onAccepted (λ x. eqb (sentWord x) n) (λ _. false)
-
--- the send is kept; its mark is set
-abbrev pub isKept : Answer → Bool
-isKept = isSentAs answerKept
-
-abbrev pub isMarked : Answer → Bool
-isMarked = isSentAs answerMarked
 
 -- ---- what is read of the host, and in the ledger
 

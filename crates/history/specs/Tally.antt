@@ -1,7 +1,8 @@
--- What all acts so far come to, the latest first: plain functions of them.
+-- What all acts so far come to: plain functions of the list of them, which has the latest first.
 use Prim.Native.Nat.{ℕ, _+_}
 use mathlib.Core.Bool.{Bool, true, false, cond}
 use mathlib.Core.List.{List, [], _∷_, _++_}
+use lib.ListN.{length, drop}
 use Rattle.types.specs.declared.Siginfo.{Siginfo}
 use Rattle.rules.specs.Types.{Queue}
 use Rattle.rules.specs.View.{inQueue}
@@ -28,7 +29,26 @@ takenSince q s (tookSend t j n r ∷ xs) = takenSince q s xs + cond (isAt j n q 
 takenSince q s (tookMark t j n ∷ xs) = takenSince q s xs
 takenSince q s (emptied e ∷ xs) = cond (empties e q s) 0 (takenSince q s xs)
 
--- ---- which acts keep a send, set a mark, take a send or a mark
+-- whether a mark is set there and not taken since
+unfoldable pub markSince : Queue → ℕ → List Act → Bool
+markSince q s [] = false
+markSince q s (kept r ∷ xs) = markSince q s xs
+markSince q s (marked j n ∷ xs) = cond (isAt j n q s) true (markSince q s xs)
+markSince q s (tookSend t j n r ∷ xs) = markSince q s xs
+markSince q s (tookMark t j n ∷ xs) = cond (isAt j n q s) false (markSince q s xs)
+markSince q s (emptied e ∷ xs) = cond (empties e q s) false (markSince q s xs)
+
+-- "Sends that emptying events remove": how many, in all
+unfoldable pub discardedAt : Queue → ℕ → List Act → ℕ
+discardedAt q s [] = 0
+discardedAt q s (kept r ∷ xs) = discardedAt q s xs
+discardedAt q s (marked j n ∷ xs) = discardedAt q s xs
+discardedAt q s (tookSend t j n r ∷ xs) = discardedAt q s xs
+discardedAt q s (tookMark t j n ∷ xs) = discardedAt q s xs
+discardedAt q s (emptied e ∷ xs) =
+    discardedAt q s xs + cond (empties e q s) (length (drop (takenSince q s xs) (keptSince q s xs))) 0
+
+-- ---- which acts keep a send, take a send or a mark
 
 unfoldable pub keepsWhere : (Siginfo → Bool) → Act → Bool
 keepsWhere p (kept r) = p r
@@ -36,13 +56,6 @@ keepsWhere p (marked q s) = false
 keepsWhere p (tookSend t q s r) = false
 keepsWhere p (tookMark t q s) = false
 keepsWhere p (emptied e) = false
-
-unfoldable pub marksAt : Queue → ℕ → Act → Bool
-marksAt q s (kept r) = false
-marksAt q s (marked j n) = isAt j n q s
-marksAt q s (tookSend t j n r) = false
-marksAt q s (tookMark t j n) = false
-marksAt q s (emptied e) = false
 
 -- a: of sends, b: of marks too
 unfoldable pub takesWhere : (a b : Queue → ℕ → Bool) → Act → Bool

@@ -70,7 +70,7 @@ module _ (v : View) (t : Thread) where
       (λ a. clash (c .1) (All-range-at (Fail (isOffered v t)) 1 signals (nextSignal v t) l (omega arith)
       (any-All (isOffered v t) (range 1 signals) a))))
 
-  offer-next : eqb (nextSignal v t) 0 ≡ not (hasOffer v t)
+  pub offer-next : eqb (nextSignal v t) 0 ≡ not (hasOffer v t)
   offer-next =
       split (eqb (nextSignal v t) 0)
       (λ e. e ∙ ap not (sym (none-next (eqb-true (nextSignal v t) 0 e))))

@@ -16,7 +16,7 @@ use Rattle.types.specs.declared.Action.{Action}
 use Rattle.types.specs.declared.Siginfo.{Siginfo}
 use Rattle.rules.specs.Types.{Process, Thread, Queue, Next, noNext, nextMark, nextRecord, Call, clear, addProcess}
 use Rattle.rules.specs.Types.{addThread, endProcess, endThread, kill, sigqueue, sigaction, sigmask, sigpending}
-use Rattle.rules.specs.Types.{look, who, take, sigreturn}
+use Rattle.rules.specs.Types.{look, who, take, sigreturn, Kind, clearing, adding, queueing, taking, other, kindOf}
 use Rattle.rules.specs.Signals.{Outcome, ignores, stops, continues, ends, outcome, stopSignal, ignored}
 use Rattle.rules.specs.View.{View, Change, forget, newProcess, newThread, removeProcess, removeThread, setStopped}
 use Rattle.rules.specs.View.{setAction, setMask, setMark, clearMark, append, dropOldest, discard, targetQueue}
@@ -25,7 +25,6 @@ use Rattle.rules.specs.Sending.{Generation, testing, killing, stopping, 
 use Rattle.rules.specs.Sending.{absorbs, generation, infoOf, jobControl, sendChanges, needsRecord}
 use Rattle.rules.specs.Actions.{stored, storeChanges, actionChanges, maskChanges}
 use Rattle.rules.specs.Taking.{next, resets, reset, resetChanges, outcomeChanges, deliver, takeChanges}
-use Rattle.rules.specs.Asking.{takenBy}
 use Rattle.rules.specs.Adding.{addProcessChanges, addThreadChanges, otherThread, endThreadChanges}
 use Rattle.rules.specs.Calls.{send, changes}
 
@@ -42,6 +41,17 @@ pub record Quiet (P : Change → Type 0) : Type 0 where
   pub marks : (q : Queue) (s : ℕ) → P (setMark q s)
   pub unmarks : (q : Queue) (s : ℕ) → P (clearMark q s)
   pub discards : (p : ℕ) (x : SigSet) → P (discard p x)
+
+-- what is next for the thread of a take; for another call nothing
+abbrev pub takenOf : View → {c : Call} → Kind c → Next
+takenOf v clearing = noNext
+takenOf v (adding new) = noNext
+takenOf v (queueing by to t s value) = noNext
+takenOf v (taking t) = next v (theThread v t)
+takenOf v other = noNext
+
+unfoldable pub takenBy : View → Call → Next
+takenBy v c = takenOf v (kindOf c)
 
 -- the record that a call keeps, if it keeps one
 pub data Keeps (v : View) : Call → Siginfo → Type 0 where
