@@ -46,7 +46,8 @@ use Rattle.history.specs.Acts.{sent, said, acts, turns, actsOf}
 use Rattle.history.specs.Tally.{takesEither}
 use Rattle.history.specs.History.{Book, emptyBook, entered, enter, Item, call, slotLook, lending, hostAfter, told}
 use Rattle.history.specs.History.{Past, after, cleared, machineArguments, machineItem, heard, lookedBytes}
-use Rattle.history.specs.Demand3.{TakenBy, AnswersBy, yields, Claim, Demand3}
+use Rattle.history.specs.Takes.{TakenBy, AnswersBy, yields}
+use Rattle.history.specs.Demand3.{Claim, Demand3}
 use Rattle.history.proofs.Answered.{same-refusal, same-answer, never-fault, room-counted, pending-limit}
 use Rattle.history.proofs.Answered.{process-room, thread-room}
 use Rattle.history.proofs.Encoded.{answer-on, decoded-on, sound-on, encoded-on, decoded-cleared, encoded-cleared}

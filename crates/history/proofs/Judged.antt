@@ -1,5 +1,6 @@
 -- Every act of a call is right on the ledger at its turn, and the call answers by what it takes. Assumes nothing.
 use Prim.Native.Nat.{ℕ}
+use mathlib.Core.Logic.{inl, inr}
 use mathlib.Core.Path.{_≡_, refl, sym, ap, _∙_, subst}
 use mathlib.Core.Bool.{Bool, true, false, not, _&&_, _||_, cond, and-comm}
 use mathlib.Core.List.{List, [], _∷_, head?, tail}
@@ -36,8 +37,8 @@ use Rattle.history.specs.Ledger.{Line, Ledger, ledgerView, isAt, withMar
 use Rattle.history.specs.Acts.{Act, kept, marked, tookSend, tookMark, emptied, takeSend, play, said, arrival}
 use Rattle.history.specs.Acts.{jobEvents, sendActs, storeActs, endActs, endsProcess, resetToIgnore, setsOff}
 use Rattle.history.specs.Acts.{takeActs, acts, sent, threadEnds, processEnds}
-use Rattle.history.specs.Demand3.{Chosen, TookSend, TookMark, Right, RightActs, TakenBy, Says, AnswersTaken}
-use Rattle.history.specs.Demand3.{AnswersFor, AnswersBy}
+use Rattle.history.specs.Takes.{Chosen, TookSend, TookMark, Right, RightActs, TakenBy, Says, AnswersTaken}
+use Rattle.history.specs.Takes.{AnswersFor, AnswersBy}
 
 -- ---- acts that take nothing
 
@@ -96,7 +97,8 @@ arrival-quiet Kept r = (tt, tt)
 send-quiet : (v : View) (queued : Bool) (r : Siginfo) → All Quiet (sendActs v queued r)
 unfolding sendActs
 send-quiet v queued r =
-    All-append Quiet (jobEvents (r .process) (r .signal)) (arrival (said v queued r) r) (job-quiet (r .process) (r .signal))
+    All-append Quiet (jobEvents (r .process) (r .signal)) (arrival (said v queued r) r)
+    (job-quiet (r .process) (r .signal))
     (arrival-quiet (said v queued r) r)
 
 store-quiet : (p s : ℕ) (new : Option Action) → All Quiet (storeActs p s new)
@@ -144,10 +146,10 @@ shape v (sigreturn t saved) = quiet tt
 -- what a take answers, by default and by a handler
 outcome-says : (t : Thread) (a : Action) (s : ℕ) (r : Siginfo) → eqb (a .handler) sigDfl ≡ true → (o : Outcome)
     → outcome s ≡ o → Says t a s r (outcomeAnswer o s)
-unfolding outcomeAnswer endsProcess
-outcome-says t a s r d ignores e = (d, (ap endsProcess e, refl))
+unfolding outcomeAnswer
+outcome-says t a s r d ignores e = (d, (inr e, refl))
 outcome-says t a s r d stops e = (d, (e, refl))
-outcome-says t a s r d continues e = (d, (ap endsProcess e, refl))
+outcome-says t a s r d continues e = (d, (inl e, refl))
 outcome-says t a s r d ends e = (d, (e, refl))
 
 delivered-says : (t : Thread) (a : Action) (s : ℕ) (r : Siginfo) → r .signal ≡ s → Says t a s r (delivered t a r)

@@ -176,8 +176,8 @@ module _ (v : View) (l : Ledger) (by to t value : ℕ) where
   tested queued = refl
 
   killed : (queued : Bool) → Sent queued SIGKILL
-  unfolding generation sendChanges infoOf sendActs sent said jobEvents arrival placeAll place playAll play empties noteAll
-      note
+  unfolding generation sendChanges infoOf sendActs sent said jobEvents arrival placeAll place playAll play empties
+      noteAll note
   killed queued = refl
 
   stopped : (queued : Bool) → Sent queued SIGSTOP

@@ -16,7 +16,7 @@ use Rattle.history.specs.Acts.{emptyLine, play, playAll, Turn, takeTurn,
 use Rattle.history.specs.Tally.{keptSince, takenSince, markSince, discardedAt, keepsWhere, isKeep, keepsAt}
 use Rattle.history.specs.Tally.{takesWhere, isTake, takesAt}
 use Rattle.history.specs.History.{onto}
-use Rattle.history.specs.Demand3.{Right, RightActs, RightTurns}
+use Rattle.history.specs.Takes.{Right, RightActs, RightTurns}
 use Rattle.history.proofs.Records.{at-queue, at-signal}
 
 -- ---- one line: n of the sends ks were taken, m is its mark; a, b and d are how many were kept, taken and discarded

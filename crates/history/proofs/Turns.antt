@@ -22,7 +22,7 @@ use Rattle.rules.proofs.Marks.{the-thread-id}
 use Rattle.rules.proofs.RefusalTable.{accepted-off}
 use Rattle.history.specs.Ledger.{Ledger, ledgerView}
 use Rattle.history.specs.Acts.{acts, turns, takeTurn, takeTurns, actsOf}
-use Rattle.history.specs.Demand3.{RightTurns, AnswersBy}
+use Rattle.history.specs.Takes.{RightTurns, AnswersBy}
 use Rattle.history.proofs.Notes.{noteAll}
 use Rattle.history.proofs.Holds.{Holds, same-view, holds-accepted}
 use Rattle.history.proofs.Played.{Storable, played}

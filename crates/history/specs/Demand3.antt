@@ -1,130 +1,38 @@
 -- Demand 3: one claim over every list of calls that a host makes. The proof is proofs/Demand3.
 -- What the words mean: one call as a host makes it in crate rrezhbuta (Entry), the tables in crates sound and answers,
--- the view and the rules in crate rules; the ledger, its acts and what it is told here (Ledger, Acts, Tally, History).
+-- the view and the rules in crate rules; here the ledger (Ledger), its acts (Acts), what they come to (Tally), when a
+-- take is right (Takes), and the list and what the ledger is told of it (History).
 use Prim.Native.Nat.{ℕ, _+_, _≤_}
 use mathlib.Core.Path.{_≡_}
-use mathlib.Core.Bool.{Bool, true, false, not, _&&_, _||_, cond}
-use mathlib.Core.List.{List, [], _∷_, map, tail}
+use mathlib.Core.Bool.{true, false, not, _&&_, _||_, cond}
+use mathlib.Core.List.{List, map}
 use lib.Dec.{eqb}
-use lib.ListN.{length, drop, getD}
-use Rattle.limits.specs.Limits.{recordLimit, EAGAIN, EFAULT, sigDfl, answerWords, answerNothing, answerKept}
-use Rattle.limits.specs.Limits.{callAddProcess, callAddThread, callSigqueue, callTake}
+use lib.ListN.{length, drop}
+use Rattle.limits.specs.Limits.{recordLimit, EAGAIN, EFAULT, answerWords, answerKept, callAddProcess, callAddThread}
+use Rattle.limits.specs.Limits.{callSigqueue, callTake}
 use Rattle.lists.specs.Lists.{all, any, count, first, keep, All}
-use Rattle.sigset.specs.Set.{has, setOf, lowestOf}
-use Rattle.types.specs.declared.Action.{Action}
+use Rattle.sigset.specs.Set.{has, setOf}
 use Rattle.types.specs.declared.Siginfo.{Siginfo}
-use Rattle.types.specs.declared.Taken.{Taken}
-use Rattle.types.specs.declared.Taken.the-variants.{Nothing, Handler, End, Stop, NoAction}
-use Rattle.types.specs.declared.Reply.the-variants as reply
 use Rattle.types.specs.declared.Reply.the-variants.{Sent, PendingSet}
-use Rattle.types.specs.declared.Answer.{Answer}
 use Rattle.types.specs.declared.Answer.the-variants.{Accepted}
-use Rattle.rules.specs.Types.{Thread, Queue, Call, kill, sigqueue, sigpending, who, take}
-use Rattle.rules.specs.Signals.{stops, ends, outcome}
-use Rattle.rules.specs.View.{View, belongsTo, processQueue, threadQueue, inQueue, liveProcess, liveThread, theThread}
-use Rattle.rules.specs.View.{threadAction, pendingIn, pendingFor}
+use Rattle.rules.specs.Types.{Queue, Call, kill, sigqueue, sigpending, who, take}
+use Rattle.rules.specs.View.{View, belongsTo, inQueue, liveProcess, liveThread, theThread, pendingFor}
 use Rattle.rules.specs.Store.{held, used, recordsFor, markIn, isFreeProcess, isFreeThread}
 use Rattle.rules.specs.Sound.{goodId}
-use Rattle.rules.specs.Taking.{whoAnswer, markInfo}
-use Rattle.rules.specs.Asking.{MayTake, isOffered, hasOffer}
+use Rattle.rules.specs.Taking.{whoAnswer}
+use Rattle.rules.specs.Asking.{hasOffer}
 use Rattle.rules.specs.Refusals.{refusal, rows}
 use Rattle.sound.specs.Lent.{Lent, decoded, lengthsAre, soundTables}
 use Rattle.answers.specs.Step.{encoded}
 use Rattle.boundary.specs.Boundary.{Arguments, sentWord, errnoOf, written}
 use Rattle.rrezhbuta.specs.Entry.{Host, lentBy, callOn, lookAt, slotAt}
 use Rattle.history.specs.Ledger.{Ledger, ofProcess, ledgerView, ledgerRefusal, ledgerAnswer, pendingWhere}
-use Rattle.history.specs.Acts.{Act, kept, marked, tookSend, tookMark, emptied, play, endsProcess, sent, said}
-use Rattle.history.specs.Acts.{Turn, turns, takeTurn, actsOf}
+use Rattle.history.specs.Acts.{Act, kept, sent, said, turns, actsOf}
 use Rattle.history.specs.Tally.{keptSince, takenSince, markSince, discardedAt, isKeep, keepsAt, isTake, takesAt}
 use Rattle.history.specs.Tally.{takesEither}
 use Rattle.history.specs.History.{Past, Item, lending, after, cleared, machineItem, rowThread, heard, lookedBytes}
 use Rattle.history.specs.History.{bytesAt}
-
--- ---- what a take is, on the ledger at its turn
-
--- the queue and signal that a thread takes from
-pub record Chosen (v : View) (t : Thread) (q : Queue) (s : ℕ) : Type 0 where
-  -- "to one thread of that process that did not block it, while the process was not stopped"
-  pub allowed : MayTake v t q s
-  -- 01: "The lowest number wins; at equal numbers the thread's queue goes first"
-  pub lowest : s ≡ lowestOf (isOffered v t)
-  pub ownFirst : q ≡ cond (pendingIn v (threadQueue t) s) (threadQueue t) (processQueue (t .process))
-
-module _ (k : Ledger) where
-  -- thread t takes the send r of the signal s in the queue q
-  pub record TookSend (t : ℕ) (q : Queue) (s : ℕ) (r : Siginfo) : Type 0 where
-    pub live : liveThread (ledgerView k) t ≡ true
-    pub chosen : Chosen (ledgerView k) (theThread (ledgerView k) t) q s
-    -- 01: "A take removes the oldest send .. of the queue and signal chosen there"
-    pub oldest : k .lines q s .sends ≡ r ∷ tail (k .lines q s .sends)
-    -- "Each taken record went once": it is gone from its list
-    pub gone : play (tookSend t q s r) k .lines q s .sends ≡ tail (k .lines q s .sends)
-
-  -- and its mark
-  pub record TookMark (t : ℕ) (q : Queue) (s : ℕ) : Type 0 where
-    pub live : liveThread (ledgerView k) t ≡ true
-    pub chosen : Chosen (ledgerView k) (theThread (ledgerView k) t) q s
-    -- 01: "or, with none, the mark"
-    pub noSend : k .lines q s .sends ≡ []
-    pub there : k .lines q s .mark ≡ true
-    pub gone : play (tookMark t q s) k .lines q s .mark ≡ false
-
-  abbrev pub Right : Act → Type 0
-  Right (kept r) = Unit {0}
-  Right (marked q s) = Unit {0}
-  Right (tookSend t q s r) = TookSend t q s r
-  Right (tookMark t q s) = TookMark t q s
-  Right (emptied e) = Unit {0}
-
--- each act on the ledger that those before it left
-abbrev pub RightActs : List Act → Ledger → Type 0
-RightActs [] k = Unit {0}
-RightActs (a ∷ xs) k = Right k a × RightActs xs (play a k)
-
-abbrev pub RightTurns : List Turn → Ledger → Type 0
-RightTurns [] k = Unit {0}
-RightTurns (x ∷ xs) k = RightActs (x .does (ledgerView k)) k × RightTurns xs (takeTurn x k)
-
--- the thread of a take
-abbrev pub TakenBy : ℕ → Act → Type 0
-TakenBy t (kept r) = Unit {0}
-TakenBy t (marked q s) = Unit {0}
-TakenBy t (tookSend m q s r) = m ≡ t
-TakenBy t (tookMark m q s) = m ≡ t
-TakenBy t (emptied e) = Unit {0}
-
--- 01: "and answers by it": "answers handler, signal, record .., flags, saved mask", or by default "the signal and "end" ..,
--- "stop" .. or, for CONT, "no action""
-module _ (t : Thread) (a : Action) (s : ℕ) (r : Siginfo) where
-  abbrev pub Says : Taken → Type 0
-  Says Nothing = ⊥
-  Says (Handler n m x flags saved) =
-      (eqb (a .handler) sigDfl ≡ false)
-      × ((n ≡ a .handler) × ((m ≡ s) × ((x ≡ r) × ((flags ≡ a .flags) × (saved ≡ t .mask)))))
-  Says (End m) = (eqb (a .handler) sigDfl ≡ true) × ((outcome s ≡ ends) × (m ≡ s))
-  Says (Stop m) = (eqb (a .handler) sigDfl ≡ true) × ((outcome s ≡ stops) × (m ≡ s))
-  Says (NoAction m) = (eqb (a .handler) sigDfl ≡ true) × ((endsProcess (outcome s) ≡ false) × (m ≡ s))
-
-  pub record AnswersTaken (x : Answer) : Type 0 where
-    pub taken : Taken
-    pub given : x ≡ Accepted (reply.Taken taken)
-    pub says : Says taken
-
-module _ (v : View) (x : Answer) where
-  -- by thread t, which took the signal s as the record r says
-  abbrev pub AnswersFor : (t s : ℕ) → Siginfo → Type 0
-  AnswersFor t s r = AnswersTaken (theThread v t) (threadAction v (theThread v t) s) s r x
-
-  abbrev pub AnswersBy : Act → Type 0
-  AnswersBy (kept r) = Unit {0}
-  AnswersBy (marked q s) = Unit {0}
-  AnswersBy (tookSend t q s r) = AnswersFor t s r
-  AnswersBy (tookMark t q s) = AnswersFor t s (markInfo q s)
-  AnswersBy (emptied e) = Unit {0}
-
--- a take's words say that it yields a signal
-abbrev pub yields : List ℕ → Bool
-yields words = not (eqb (getD words 0 answerNothing) answerNothing)
+use Rattle.history.specs.Takes.{RightTurns, TakenBy, AnswersBy, yields}
 
 -- ---- the claim: h is what the host holds, k the ledger, done all acts, the latest first, after a list of calls
 

@@ -66,6 +66,6 @@ example : (pendingAfter sends ≡ 2 ∷ 3 ∷ [])
     ≡ emptied (nowIgnored 100 40) ∷ tookSend 200 (processQueue 100) 40 (valued 1) ∷ kept (valued 3) ∷ kept (valued 2)
     ∷ kept (valued 1) ∷ emptied allCleared ∷ []))))
 unfolding computing queues pendingWhere ledgerView place placeAll emptyLedger empties play playAll sent isDropped
-    isAbsorbed said arrival jobEvents sendActs storeActs endActs endsProcess resetToIgnore setsOff takeActs acts turns takeTurn
-    takeTurns actsOf onto entered enter enterAll accepted refused sends ignored lineAfter pendingAfter valued
+    isAbsorbed said arrival jobEvents sendActs storeActs endActs endsProcess resetToIgnore setsOff takeActs acts turns
+    takeTurn takeTurns actsOf onto entered enter enterAll accepted refused sends ignored lineAfter pendingAfter valued
 example = (refl, (refl, (refl, (refl, refl))))

@@ -11,8 +11,8 @@ use Rattle.types.specs.declared.Taken.the-variants as taken
 use Rattle.rules.specs.Types.{Thread, Queue}
 use Rattle.rules.specs.View.{View, theProcess, pendingIn, pendingFor}
 
--- what a thread accepts: "a signal that it does not block". It is the one test of demand 3; the rule that picks a signal
--- (`canTakeSignal`) has the same words of its own.
+-- what a thread accepts: "a signal that it does not block". It is demand 3's one test of it; the rule that picks a
+-- signal (`canTakeSignal`) has words of its own.
 unfoldable pub accepts : Thread → ℕ → Bool
 accepts t s = not (has (t .mask) s)
 
