@@ -44,6 +44,18 @@ drop-one (suc n) (x ∷ rs) =
     drop-one n rs ∙ ap (λ m. drop m (x ∷ rs)) e
 
 module _ (x : Line) (n : ℕ) (ks : List Siginfo) (m : Bool) (a b d : ℕ) (h : LineIs x n ks m a b d) where
+  -- a line that stays
+  line-stays : LineIs x n ks m (0 + a) (0 + b) d
+  line-stays =
+      record {
+        since = h .since;
+        few = h .few;
+        mark = h .mark;
+        kept = omega (arith, h .kept);
+        taken = omega (arith, h .taken);
+        discarded = h .discarded;
+      }
+
   line-kept : (r : Siginfo) (y : Bool)
       → LineIs (cond y (keepSend r x) x) n (cond y (ks ++ (r ∷ [])) ks) m (cond y 1 0 + a) (0 + b) d
   line-kept r true =
@@ -55,15 +67,7 @@ module _ (x : Line) (n : ℕ) (ks : List Siginfo) (m : Bool) (a b d : ℕ) (h : 
         taken = omega (arith, h .taken);
         discarded = h .discarded;
       }
-  line-kept r false =
-      record {
-        since = h .since;
-        few = h .few;
-        mark = h .mark;
-        kept = omega (arith, h .kept);
-        taken = omega (arith, h .taken);
-        discarded = h .discarded;
-      }
+  line-kept r false = line-stays
 
   -- where it is taken from there is a send
   line-taken : (y : Bool) → (y ≡ true → 1 ≤ length (x .sends))
@@ -98,15 +102,7 @@ module _ (x : Line) (n : ℕ) (ks : List Siginfo) (m : Bool) (a b d : ℕ) (h : 
         taken = omega (arith, h .taken);
         discarded = h .discarded;
       }
-  line-marked y false =
-      record {
-        since = h .since;
-        few = h .few;
-        mark = h .mark;
-        kept = omega (arith, h .kept);
-        taken = omega (arith, h .taken);
-        discarded = h .discarded;
-      }
+  line-marked y false = line-stays
 
   line-emptied : (y : Bool)
       → LineIs (cond y (emptyLine x) x) (cond y 0 n) (cond y [] ks) (cond y false m) (0 + a) (0 + b)
