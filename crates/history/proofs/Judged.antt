@@ -37,6 +37,7 @@ use Rattle.history.specs.Ledger.{Line, Ledger, ledgerView, isAt, withMar
 use Rattle.history.specs.Acts.{Act, kept, marked, tookSend, tookMark, emptied, takeSend, play, said, arrival}
 use Rattle.history.specs.Acts.{jobEvents, sendActs, storeActs, endActs, endsProcess, resetToIgnore, setsOff}
 use Rattle.history.specs.Acts.{takeActs, acts, sent, threadEnds, processEnds}
+use Rattle.history.proofs.Widths.{either-has}
 use Rattle.history.specs.Takes.{Chosen, TookSend, TookMark, Right, RightActs, TakenBy, Says, AnswersTaken}
 use Rattle.history.specs.Takes.{AnswersFor, AnswersBy}
 
@@ -74,16 +75,12 @@ quiet-taken t (tookSend m j s r) q = absurd q
 quiet-taken t (tookMark m j s) q = absurd q
 quiet-taken t (emptied e) q = tt
 
--- an event, or none
-event-quiet : (b : Bool) (xs ys : List Act) → All Quiet xs → All Quiet ys → All Quiet (cond b xs ys)
-event-quiet true xs ys p q = p
-event-quiet false xs ys p q = q
-
 job-quiet : (p s : ℕ) → All Quiet (jobEvents p s)
 unfolding jobEvents
 job-quiet p s =
-    event-quiet (eqb s SIGKILL) _ _ (tt, tt)
-    (event-quiet (eqb s SIGCONT) _ _ (tt, tt) (event-quiet (eqb s SIGSTOP || stopSignal s) _ _ (tt, tt) tt))
+    either-has (All Quiet) (eqb s SIGKILL) _ _ (tt, tt)
+    (either-has (All Quiet) (eqb s SIGCONT) _ _ (tt, tt)
+    (either-has (All Quiet) (eqb s SIGSTOP || stopSignal s) _ _ (tt, tt) tt))
 
 arrival-quiet : (x : Sent) (r : Siginfo) → All Quiet (arrival x r)
 unfolding arrival
@@ -104,19 +101,20 @@ send-quiet v queued r =
 store-quiet : (p s : ℕ) (new : Option Action) → All Quiet (storeActs p s new)
 unfolding storeActs
 store-quiet p s none = tt
-store-quiet p s (some a) = event-quiet (ignored a s) _ _ (tt, tt) tt
+store-quiet p s (some a) = either-has (All Quiet) (ignored a s) _ _ (tt, tt) tt
 
 end-quiet : (v : View) (t : Thread) → All Quiet (endActs v t)
 unfolding endActs
 end-quiet v t =
-    event-quiet (any (λ (u : Thread). belongsTo (t .process) u && not (eqb (u .id) (t .id))) (v .threads))
+    either-has (All Quiet) (any (λ (u : Thread). belongsTo (t .process) u && not (eqb (u .id) (t .id))) (v .threads))
     (emptied (threadEnds (t .id)) ∷ []) (emptied (processEnds (t .process)) ∷ []) (tt, tt) (tt, tt)
 
 off-quiet : (t : Thread) (a : Action) (s : ℕ) → All Quiet (setsOff t a s)
 unfolding setsOff
 off-quiet t a s =
-    event-quiet (eqb (a .handler) sigDfl) _ _ (event-quiet (endsProcess (outcome s)) _ _ (tt, tt) tt)
-    (event-quiet (resetToIgnore a s) _ _ (tt, tt) tt)
+    either-has (All Quiet) (eqb (a .handler) sigDfl) _ _
+    (either-has (All Quiet) (endsProcess (outcome s)) _ _ (tt, tt) tt)
+    (either-has (All Quiet) (resetToIgnore a s) _ _ (tt, tt) tt)
 
 -- ---- a call takes nothing, or is a take
 

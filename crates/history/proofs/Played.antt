@@ -5,13 +5,13 @@ use mathlib.Core.Path.{_≡_, refl, sym, ap, _∙_, subst}
 use mathlib.Core.Bool.{Bool, true, false, not, _&&_, cond}
 use mathlib.Core.List.{List, [], _∷_, _++_, map, append-nil}
 use mathlib.Core.Option.{Option, some, none}
-use lib.Dec.{eqb, leb}
+use lib.Dec.{eqb}
 use lib.ListN.{length}
-use borrow.Author.Tests.{eqb-true, leb-true, le-leb}
+use borrow.Author.Tests.{eqb-true}
 use Rattle.limits.specs.Limits.{signals, SIGKILL, SIGCONT, SIGSTOP, SIGCHLD, SIGTSTP, SIGTTIN, SIGTTOU, SIGURG}
 use Rattle.limits.specs.Limits.{SIGWINCH, sigDfl, sigSetmask}
 use Rattle.lists.specs.Lists.{any, change, keep, range, sum}
-use Rattle.lists.proofs.Bools.{split, clash, and-fst, and-snd, and-both, or-cases}
+use Rattle.lists.proofs.Bools.{split, clash, or-cases}
 use Rattle.sigset.specs.declared.SigSet.{SigSet}
 use Rattle.sigset.specs.Set.{Signal, has, setOf, ofSignal}
 use Rattle.sigset.proofs.Laws.{has-set, has-beyond, set-lt}
@@ -20,7 +20,9 @@ use Rattle.types.specs.declared.Siginfo.{Siginfo}
 use Rattle.rules.specs.Types.{Process, Thread, Queue, Next, noNext, nextMark, nextRecord, Call, clear, addProcess}
 use Rattle.rules.specs.Types.{addThread, endProcess, endThread, kill, sigqueue, sigaction, sigmask, sigpending, look}
 use Rattle.rules.specs.Types.{who, take, sigreturn}
-use Rattle.rules.specs.Signals.{Outcome, ignores, stops, continues, ends, outcome, ignoring, stopSignal, ignored}
+use Rattle.rules.proofs.Signals.{is-signal, signal-is}
+use Rattle.rules.specs.Signals.{isSignal, Outcome, ignores, stops, continues, ends, outcome, ignoring, stopSignal}
+use Rattle.rules.specs.Signals.{ignored}
 use Rattle.rules.specs.View.{View, Change, setStopped, setAction, setMask, setMark, processQueue, append, discard}
 use Rattle.rules.specs.View.{isThread, targetQueue, actionOf, theProcess, theThread, threadAction, threadQueue}
 use Rattle.rules.specs.Store.{withMask, isFreeProcess, isFreeThread}
@@ -44,34 +46,23 @@ has-only p h s =
     split (p s)
     (λ e. has-set p s (h s e))
     (λ e.
-    split (leb 1 s && leb s signals)
-    (λ i.
-    has-set p s (record {
-      low = leb-true 1 s (and-fst (leb 1 s) _ i);
-      high = leb-true s signals (and-snd (leb 1 s) _ i);
-    }))
-    (λ i. has-beyond (setOf p) s (set-lt p) (λ m. clash (within s m) i) ∙ sym e))
-  where
-    within : (n : ℕ) → Signal n → (leb 1 n && leb n signals) ≡ true
-    within n m = and-both (le-leb 1 n (m .low)) (le-leb n signals (m .high))
+    split (isSignal s)
+    (λ i. has-set p s (is-signal s i))
+    (λ i. has-beyond (setOf p) s (set-lt p) (λ m. clash (signal-is s m) i) ∙ sym e))
 
 -- a test that only one signal passes, or only those of a list of them
 one-signal : (x : ℕ) → Signal x → (n : ℕ) → eqb n x ≡ true → Signal n
 one-signal x m n e = subst Signal (sym (eqb-true n x e)) m
 
-is-signal : (x : ℕ) → (leb 1 x && leb x signals) ≡ true → Signal x
-is-signal x e =
-    record { low = leb-true 1 x (and-fst (leb 1 x) _ e); high = leb-true x signals (and-snd (leb 1 x) _ e) }
-
 stop-signals : (n : ℕ) → stopSignal n ≡ true → Signal n
-unfolding stopSignal
+unfolding stopSignal isSignal
 stop-signals n e =
     or-cases (eqb n SIGTSTP) _ e (one-signal SIGTSTP (is-signal SIGTSTP refl) n)
     (λ f. or-cases (eqb n SIGTTIN) _ f (one-signal SIGTTIN (is-signal SIGTTIN refl) n)
     (one-signal SIGTTOU (is-signal SIGTTOU refl) n))
 
 ignoring-signals : (n : ℕ) → ignoring n ≡ true → Signal n
-unfolding ignoring
+unfolding ignoring isSignal
 ignoring-signals n e =
     or-cases (eqb n SIGCHLD) _ e (one-signal SIGCHLD (is-signal SIGCHLD refl) n)
     (λ f. or-cases (eqb n SIGURG) _ f (one-signal SIGURG (is-signal SIGURG refl) n)
@@ -87,7 +78,7 @@ discarded-by : (to : ℕ) (p : ℕ → Bool) → ((n : ℕ) → p n ≡ true →
 discarded-by to p h = λ i q s. eqb (q .process) to && sym (has-only p h s) i
 
 stop-empties : (to : ℕ) → empties (stopSent to) ≡ ofSignals to (ofSignal SIGCONT)
-unfolding empties ofSignal
+unfolding empties ofSignal isSignal
 stop-empties to = discarded-by to (λ s. eqb s SIGCONT) (one-signal SIGCONT (is-signal SIGCONT refl))
 
 cont-empties : (to : ℕ) → empties (contSent to) ≡ ofSignals to (setOf stopSignal)

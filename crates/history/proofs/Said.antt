@@ -2,7 +2,7 @@
 -- thread is offered a signal. Assumes nothing.
 use Prim.Native.Nat.{ℕ}
 use mathlib.Core.Path.{_≡_, refl, ap, _∙_}
-use mathlib.Core.Bool.{Bool, true, false, not, _&&_, cond}
+use mathlib.Core.Bool.{Bool, true, false, not, _&&_, cond, Bool·not-not}
 use native.Mathlib.Omega.{arith}
 use lib.Dec.{eqb}
 use Rattle.limits.specs.Limits.{SIGKILL, SIGSTOP, sigDfl, answerKept}
@@ -110,9 +110,5 @@ unfolding taker canTakeSome
 who-says v p =
     let same : (t : Thread) → (belongsTo p t && not (eqb (nextSignal v t) 0)) ≡ (belongsTo p t && hasOffer v t) =
     λ t. ap (λ (b : Bool). belongsTo p t && not b) (offer-next v t)
-    ∙ ap (λ (b : Bool). belongsTo p t && b) (not-not (hasOffer v t)) in
+    ∙ ap (λ (b : Bool). belongsTo p t && b) (Bool·not-not (hasOffer v t)) in
     ap (λ (f : Thread → Bool). whoAnswer v (first f (v .threads))) (λ i t. same t i)
-  where
-    not-not : (b : Bool) → not (not b) ≡ b
-    not-not true = refl
-    not-not false = refl

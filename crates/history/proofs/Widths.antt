@@ -32,7 +32,7 @@ use Rattle.rules.proofs.Steps.{call-keeps}
 -- ---- lists
 
 -- what both have, the one that is chosen has
-either-has : {A : Type 0} (P : A → Type 0) (b : Bool) (x y : A) → P x → P y → P (cond b x y)
+pub either-has : {A : Type 0} (P : A → Type 0) (b : Bool) (x y : A) → P x → P y → P (cond b x y)
 either-has P true x y p q = p
 either-has P false x y p q = q
 
