@@ -1,0 +1,33 @@
+// Are the words, or the bytes, of a part all zero? Each loop goes to its end and puts together what it reads,
+// so that the compiler reads many at once.
+ghost use mathlib.Core.Path.{_≡_};
+ghost use Prim.Native.Nat.{_+_, _≤_};
+ghost use lib.ListN.{length, take, drop};
+ghost use Rattle.lists.specs.Lists.{all};
+ghost use Rattle.zeros.specs.Zeros.{isNought};
+
+pub fn words_zero(ws: &[u64], from: usize, n: usize) -> bool
+    requires { ⌜ from + n ≤ length (now ws) ⌝ }
+    ensures { λ r. ⌜ r ≡ all isNought (take n (drop from (now (ws .entry)))) ⌝ }
+{
+    let mut some: u64 = 0;
+    let mut i = 0;
+    while i < n {
+        some = some | ws[from + i];
+        i += 1;
+    }
+    some == 0
+}
+
+pub fn bytes_zero(b: &[u8], from: usize, n: usize) -> bool
+    requires { ⌜ from + n ≤ length (now b) ⌝ }
+    ensures { λ r. ⌜ r ≡ all isNought (take n (drop from (now (b .entry)))) ⌝ }
+{
+    let mut some: u8 = 0;
+    let mut i = 0;
+    while i < n {
+        some = some | b[from + i];
+        i += 1;
+    }
+    some == 0
+}
