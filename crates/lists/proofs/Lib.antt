@@ -5,6 +5,7 @@ pub mod Loops
 pub mod Rows
 pub mod Finds
 pub mod Index
+pub mod Bits
 pub mod Sublists
 pub mod Members
 pub mod Changes

@@ -41,6 +41,14 @@ module _ {A : Type 0} (f : A → Bool) (d : A) where
       → all f (take (i + 1) xs) ≡ true
   all-more xs i h a e = ap (all f) (upto xs i d h) ∙ all-end f (take i xs) (getD xs i d) a e
 
+  -- passed or not
+  pub all-next : (xs : List A) (i : ℕ) → i < length xs
+      → all f (take (i + 1) xs) ≡ (all f (take i xs) && f (getD xs i d))
+  unfolding all
+  all-next xs i h =
+      ap (all f) (upto xs i d h) ∙ all-append f (take i xs) (getD xs i d ∷ [])
+      ∙ ap (λ b. all f (take i xs) && b) (and-true (f (getD xs i d)))
+
   pub all-fails : (xs : List A) (i : ℕ) → i < length xs → f (getD xs i d) ≡ false → all f xs ≡ false
   all-fails xs i h e = split (all f xs) (λ a. clash (all-at xs i h a) e) (λ a. a)
 
