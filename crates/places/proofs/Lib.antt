@@ -1,2 +1,1 @@
-pub mod Endings
-mod PlaceEndings
+pub mod Sets

@@ -1,14 +1,18 @@
 -- The test of soundness in the order in which it is made: place by place, then record by record.
--- proofs/Regrouped shows that it is the rules' test.
-use Prim.Native.Nat.{ℕ, _+_, _≤_}
-use mathlib.Core.Bool.{Bool, not, _&&_, cond}
+-- proofs/Places and crate sound's proofs/Regrouped show that it is the rules' test.
+use Prim.Native.Nat.{ℕ, _+_, _≤_, _<_}
+use mathlib.Core.Path.{_≡_}
+use mathlib.Core.Bool.{Bool, true, not, _&&_, cond}
 use mathlib.Core.List.{List, [], map}
+use lib.Bits.{bitAnd}
 use lib.Dec.{eqb, leb}
-use lib.ListN.{getD, set}
-use Rattle.limits.specs.Limits.{processPlaces, threadPlaces, bufferRecords, recordLimit, siQueue}
+use lib.ListN.{getD, set, take}
+use Rattle.limits.specs.Limits.{processPlaces, processWords, threadPlaces, threadWords, bufferRecords, recordLimit}
+use Rattle.limits.specs.Limits.{signals, sigIgn, siQueue, knownFlags}
 use Rattle.lists.specs.Lists.{all, any, count, find, pairs, range}
+use Rattle.zeros.specs.Zeros.{isNought}
 use Rattle.sigset.specs.declared.SigSet.{SigSet}
-use Rattle.sigset.specs.Set.{bits, has, setOf, union, ofSignal}
+use Rattle.sigset.specs.Set.{bits, has, setOf, union, intersect, ofSignal}
 use Rattle.types.specs.declared.Action.{Action}
 use Rattle.types.specs.declared.Siginfo.{Siginfo}
 use Rattle.rules.specs.Types.{Process, Thread, Queue, noProcess}
@@ -16,14 +20,23 @@ use Rattle.rules.specs.Signals.{standard, ignored}
 use Rattle.rules.specs.View.{View, isProcess, isThread, belongsTo, sameQueue, queueOf, processQueue, threadQueue}
 use Rattle.rules.specs.View.{inQueue, actionOf}
 use Rattle.rules.specs.Store.{Place, Store, held, freeProcess, freeThread, ofProcess, used, view}
-use Rattle.rules.specs.Sound.{goodId, fieldsFit, unmasked, actionUnmasked, flagsKnown, killStopDefault, marksNotIgnored}
-use Rattle.rules.specs.Sound.{nameable, restZero, aimedAtThread, aimedAtProcess, recordNotIgnored}
-use Rattle.tables.specs.Tables.{processTo, threadTo}
+use Rattle.rules.specs.Sound.{isLive, ifLive, processId, threadId, zeroThread, goodId, fieldsFit, unmasked}
+use Rattle.rules.specs.Sound.{actionUnmasked, flagsKnown, killStopDefault, marksNotIgnored, nameable, restZero}
+use Rattle.rules.specs.Sound.{aimedAtThread, aimedAtProcess, recordNotIgnored}
+use Rattle.tables.specs.Tables.{processTo}
+use Rattle.places.specs.declared.Gathered.{Gathered}
 
--- ---- one place
+-- ---- what is pending against what is ignored
 
-unfoldable pub isZeroWord : ℕ → Bool
-isZeroWord w = eqb w 0
+-- the signals that a process ignores
+unfoldable pub ignoredBy : Process → SigSet
+ignoredBy p = setOf (λ s. ignored (actionOf p s) s)
+
+-- no member in common
+unfoldable pub disjoint : SigSet → SigSet → Bool
+disjoint a b = eqb (intersect a b .0) 0
+
+-- ---- one process place
 
 unfoldable pub headOk : Place Process → Bool
 headOk x = goodId (x .holds .id) && (fieldsFit x && unmasked (x .marks))
@@ -31,51 +44,105 @@ headOk x = goodId (x .holds .id) && (fieldsFit x && unmasked (x .marks))
 unfoldable pub actionOk : Action → Bool
 actionOk a = actionUnmasked a && flagsKnown a
 
-module _ (ps : List Process) (ts : List Thread) where
-  -- a live process is the first with its id, so no two places have it
+-- `place` says where an id is found
+module _ (place : ℕ → ℕ) where
+  -- a live process is found where it is, so no two places have its id
   unfoldable pub liveProcessOk : ℕ → Place Process → Bool
   liveProcessOk i x =
       headOk x
-      && (eqb (find (isProcess (x .holds .id)) ps) i
-      && (any (belongsTo (x .holds .id)) ts
-      && (killStopDefault x
-      && (all actionOk (x .holds .actions)
-      && marksNotIgnored (x .marks) (actionOf (x .holds))))))
+      && (eqb (place (x .holds .id)) i
+      && (killStopDefault x && (all actionOk (x .holds .actions) && disjoint (x .marks) (ignoredBy (x .holds)))))
 
   unfoldable pub processOk : ℕ → Place Process → Bool
-  processOk i x = cond (eqb (x .holds .id) 0) (all isZeroWord (processTo x)) (liveProcessOk i x)
+  processOk i x = cond (eqb (x .holds .id) 0) (all isNought (processTo x)) (liveProcessOk i x)
 
-  -- the process of a thread, by its place
-  unfoldable pub ownerOf : Place Thread → Process
-  ownerOf x = getD ps (find (isProcess (x .holds .process)) ps) noProcess
+-- ---- one thread place
 
-  unfoldable pub liveThreadOk : ℕ → Place Thread → Bool
-  liveThreadOk i x =
-      any (isProcess (x .holds .process)) ps
-      && (goodId (x .holds .id)
+-- the place of a thread's process, and that process
+unfoldable pub ownerPlace : List Process → Place Thread → ℕ
+ownerPlace ps x = find (isProcess (x .holds .process)) ps
+
+unfoldable pub ownerOf : List Process → Place Thread → Process
+ownerOf ps x = getD ps (ownerPlace ps x) noProcess
+
+module _ (place : ℕ → ℕ) where
+  -- a live thread whose process ignores these signals
+  unfoldable pub liveThreadOk : SigSet → ℕ → Place Thread → Bool
+  liveThreadOk ignores i x =
+      goodId (x .holds .id)
       && (unmasked (x .holds .mask)
-      && (unmasked (x .marks)
-      && (eqb (find (isThread (x .holds .id)) ts) i
-      && marksNotIgnored (x .marks) (actionOf (ownerOf x))))))
+      && (unmasked (x .marks) && (eqb (place (x .holds .id)) i && disjoint (x .marks) ignores)))
 
-  unfoldable pub threadOk : ℕ → Place Thread → Bool
-  threadOk i x = cond (eqb (x .holds .id) 0) (all isZeroWord (threadTo x)) (liveThreadOk i x)
+  unfoldable pub threadOk : List Process → ℕ → Place Thread → Bool
+  threadOk ps i x =
+      cond (eqb (x .holds .id) 0) (zeroThread x)
+      (any (isProcess (x .holds .process)) ps && liveThreadOk (ignoredBy (ownerOf ps x)) i x)
 
 -- ---- all places
 
-module _ (xs : List (Place Process)) (ys : List (Place Thread)) where
+module _ (place : ℕ → ℕ) (xs : List (Place Process)) where
   unfoldable pub processOkAt : ℕ → Bool
-  processOkAt i = processOk (map held xs) (map held ys) i (getD xs i freeProcess)
+  processOkAt i = processOk place i (getD xs i freeProcess)
 
+  unfoldable pub processesOk : Bool
+  processesOk = all processOkAt (range 0 processPlaces)
+
+module _ (place : ℕ → ℕ) (xs : List (Place Process)) (ys : List (Place Thread)) where
   unfoldable pub threadOkAt : ℕ → Bool
-  threadOkAt i = threadOk (map held xs) (map held ys) i (getD ys i freeThread)
+  threadOkAt i = threadOk place (map held xs) i (getD ys i freeThread)
 
-  unfoldable pub placesOk : Bool
-  placesOk = all processOkAt (range 0 processPlaces) && all threadOkAt (range 0 threadPlaces)
+  unfoldable pub threadsOk : Bool
+  threadsOk = all threadOkAt (range 0 threadPlaces)
+
+module _ (xs : List (Place Process)) (ys : List (Place Thread)) where
+  -- a live process has a thread
+  unfoldable pub peopledAt : ℕ → Bool
+  peopledAt i = ifLive processId (λ x. any (belongsTo (x .holds .id)) (map held ys)) (getD xs i freeProcess)
+
+  unfoldable pub peopled : Bool
+  peopled = all peopledAt (range 0 processPlaces)
 
   -- what a record is held against: the places alone
   abbrev pub placesView : View
   placesView = view (record { processes = xs; threads = ys; threadBuffer = []; processBuffer = [] })
+
+unfoldable pub placesOk : (process thread : ℕ → ℕ) → List (Place Process) → List (Place Thread) → Bool
+placesOk process thread xs ys = processesOk process xs && (threadsOk thread xs ys && peopled xs ys)
+
+-- ---- what is noted of the places in passing
+
+-- those that it has set to ignore
+abbrev pub ignoredByChoice : Process → ℕ → Bool
+ignoredByChoice p s = eqb (actionOf p s .handler) sigIgn
+
+-- what a pass over the first n actions gathers: their flags and masks put together, and the signals set to ignore
+pub record Gathers (p : Process) (n : ℕ) (g : Gathered) : Type 0 where
+  pub known : eqb (bitAnd (g .flags) knownFlags) (g .flags) ≡ all flagsKnown (take n (p .actions))
+  pub maskable : unmasked (g .masks) ≡ all actionUnmasked (take n (p .actions))
+  pub chosen : g .chosen ≡ setOf (λ s. leb s n && ignoredByChoice p s)
+
+-- the ignored signals of the live processes in the first n places
+abbrev pub IgnoredNoted : List (Place Process) → (n : ℕ) → List ℕ → Type 0
+IgnoredNoted xs n notes = (i : ℕ) → i < n → isLive processId (getD xs i freeProcess) ≡ true
+    → getD notes i 0 ≡ ignoredBy (getD xs i freeProcess .holds) .0
+
+-- the places of the processes of the live threads in the first n places
+abbrev pub OwnersNoted : List (Place Process) → List (Place Thread) → (n : ℕ) → List ℕ → Type 0
+OwnersNoted xs ys n notes = (i : ℕ) → i < n → isLive threadId (getD ys i freeThread) ≡ true
+    → getD notes i 0 ≡ ownerPlace (map held xs) (getD ys i freeThread)
+
+-- which live processes have a thread in the first n places
+abbrev pub PeopledNoted : List (Place Process) → List (Place Thread) → (n : ℕ) → List ℕ → Type 0
+PeopledNoted xs ys n notes = (i : ℕ) → i < processPlaces → isLive processId (getD xs i freeProcess) ≡ true
+    → not (eqb (getD notes i 0) 0) ≡ any (belongsTo (getD xs i freeProcess .holds .id)) (take n (map held ys))
+
+-- the same, as it is noted
+unfoldable pub peopledBy : List (Place Process) → List ℕ → ℕ → Bool
+peopledBy xs notes i = ifLive processId (λ _. not (eqb (getD notes i 0) 0)) (getD xs i freeProcess)
+
+-- one note more, unless the place is free
+unfoldable pub notedAt : {A : Type 0} → (A → ℕ) → List ℕ → (at note : ℕ) → Place A → List ℕ
+notedAt id notes at note x = cond (eqb (id (x .holds)) 0) notes (set notes at note)
 
 -- ---- the records of a buffer, oldest first
 
@@ -165,9 +232,9 @@ recordsOk xs ys rs qs =
     threadRecordsOk xs ys rs
     && (processRecordsOk xs qs && allWithin (tallies (map held xs) rs) (tallies (map held xs) qs))
 
-unfoldable pub checked : Store → Bool
-checked st =
-    placesOk (st .processes) (st .threads)
+unfoldable pub checked : (process thread : ℕ → ℕ) → Store → Bool
+checked process thread st =
+    placesOk process thread (st .processes) (st .threads)
     && (restZero (st .threadBuffer)
     && (restZero (st .processBuffer)
     && recordsOk (st .processes) (st .threads) (used (st .threadBuffer)) (used (st .processBuffer))))

@@ -1,14 +1,22 @@
 // Is each place of the process and of the thread table sound? The first half of the test of the whole store.
+// In passing it is noted which signals each process ignores, and in which place the process of each thread is.
 ghost use mathlib.Core.Path.{_≡_};
-ghost use Prim.Native.Nat.{_+_, _≤_, _<_};
-ghost use lib.ListN.{length, take, drop};
-ghost use Rattle.limits.specs.Limits.{processPlaces, processTable, threadPlaces, threadTable, signals};
-ghost use Rattle.lists.specs.Lists.{all, any, range};
-ghost use Rattle.rules.specs.View.{actionOf, belongsTo};
-ghost use Rattle.rules.specs.Sound.{killStopDefault, markNotIgnored, marksNotIgnored};
-ghost use Rattle.tables.specs.Tables.{processesOf, threadsOf, heldProcesses, heldThreads, processAt, threadAt};
-ghost use Rattle.places.specs.Check.{isZeroWord, headOk, actionOk, liveProcessOk, processOkAt, liveThreadOk};
-ghost use Rattle.places.specs.Check.{threadOkAt, placesOk};
+ghost use mathlib.Core.Bool.{true, cond};
+ghost use Prim.Native.Nat.{_≤_, _<_};
+ghost use lib.Dec.{eqb};
+ghost use lib.Bits.{bitOr};
+ghost use lib.ListN.{length, getD};
+ghost use Rattle.limits.specs.Limits.{processPlaces, processTable, threadPlaces, threadTable, signals, sigIgn};
+ghost use Rattle.limits.specs.Limits.{processId};
+ghost use Rattle.lists.specs.Lists.{all, count, find, range};
+ghost use Rattle.sigset.specs.Set.{bits, empty, ofSignal, setOf, union};
+ghost use Rattle.rules.specs.View.{isProcess};
+ghost use Rattle.rules.specs.Sound.{killStopDefault, zeroThread};
+ghost use Rattle.tables.specs.Tables.{processesOf, threadsOf, heldProcesses, processAt, threadAt};
+ghost use Rattle.places.specs.Check.{headOk, liveProcessOk, processOkAt, processesOk, liveThreadOk, threadOkAt};
+ghost use Rattle.places.specs.Check.{threadsOk, placesOk, ignoredBy, ignoredByChoice};
+ghost use Rattle.places.specs.Check.{disjoint, Gathers, IgnoredNoted, OwnersNoted, PeopledNoted, onePlace};
+use limits::KNOWN_FLAGS;
 use limits::PROCESS_EFFECTIVE;
 use limits::PROCESS_ID;
 use limits::PROCESS_MARKS;
@@ -18,9 +26,14 @@ use limits::PROCESS_SAVED;
 use limits::PROCESS_SESSION;
 use limits::PROCESS_STOPPED;
 use limits::PROCESS_WORDS;
+use limits::SIG_DFL;
+use limits::SIG_IGN;
+use limits::SIGCHLD;
 use limits::SIGKILL;
 use limits::SIGNALS;
 use limits::SIGSTOP;
+use limits::SIGURG;
+use limits::SIGWINCH;
 use limits::THREAD_ID;
 use limits::THREAD_MARKS;
 use limits::THREAD_MASK;
@@ -30,22 +43,14 @@ use limits::THREAD_WORDS;
 use sigset::SigSet;
 use types::Action;
 
-// ---- one place
-
-// Are n words from a place on all zero?
-fn zeros(ws: &[u64], from: usize, n: usize) -> bool
-    requires { ⌜ from + n ≤ length (now ws) ⌝ }
-    ensures { λ r. ⌜ r ≡ all isZeroWord (take n (drop from (now (ws .entry)))) ⌝ }
-{
-    let mut i = 0;
-    while i < n {
-        if ws[from + i] != 0 {
-            return false;
-        }
-        i += 1;
-    }
-    true
+// What all actions of a process have together: their flags, their masks, and the signals that are set to ignore.
+pub struct Gathered {
+    pub flags: u64,
+    pub masks: SigSet,
+    pub chosen: SigSet,
 }
+
+// ---- one process place
 
 // Are the id, the other fields and the marks of a live process in range?
 fn head_ok(ps: &[u64], place: usize) -> bool
@@ -63,27 +68,6 @@ fn head_ok(ps: &[u64], place: usize) -> bool
     id & (fields & marks)
 }
 
-fn action_ok(a: Action) -> bool
-    ensures { λ r. ⌜ r ≡ actionOk a ⌝ }
-{
-    decide::is_unmasked(a.mask) & decide::are_flags_known(a)
-}
-
-// Do the masks and flags of all actions hold only what they may?
-fn actions_ok(ps: &[u64], place: usize) -> bool
-    requires { ⌜ (length (now ps) ≡ processTable) × (place < processPlaces) ⌝ }
-    ensures { λ r. ⌜ r ≡ all actionOk (processAt (now (ps .entry)) place .holds .actions) ⌝ }
-{
-    let mut i = 0;
-    while i < SIGNALS {
-        if !action_ok(tables::action_at(ps, place, i + 1)) {
-            return false;
-        }
-        i += 1;
-    }
-    true
-}
-
 fn kill_stop_default(ps: &[u64], place: usize) -> bool
     requires { ⌜ (length (now ps) ≡ processTable) × (place < processPlaces) ⌝ }
     ensures { λ r. ⌜ r ≡ killStopDefault (processAt (now (ps .entry)) place) ⌝ }
@@ -93,143 +77,68 @@ fn kill_stop_default(ps: &[u64], place: usize) -> bool
     kill & stop
 }
 
-// Has no marked signal an ignored action, of the process in a place?
-fn marks_not_ignored(ps: &[u64], place: usize, marks: SigSet) -> bool
+// The set that has s alone where the test holds, else the empty one.
+fn alone_if(holds: bool, s: u32) -> SigSet
+    ensures { λ r. ⌜ r ≡ cond holds (ofSignal s) empty ⌝ }
+{
+    if holds {
+        return SigSet::of_signal(s);
+    }
+    SigSet::EMPTY
+}
+
+// One more action.
+fn with_action(g: Gathered, a: Action, s: u32) -> Gathered
+    ensures { λ r. ⌜ (r .flags ≡ bitOr (g .flags) (a .flags)) × ((r .masks ≡ union (g .masks) (a .mask))
+        × (r .chosen ≡ union (g .chosen) (cond (eqb (a .handler) sigIgn) (ofSignal s) empty))) ⌝ }
+{
+    let flags = g.flags | a.flags;
+    let mask = a.mask;
+    let masks = g.masks;
+    let chosen = g.chosen;
+    Gathered {
+        flags,
+        masks: SigSet::union(masks, mask),
+        chosen: SigSet::union(chosen, alone_if(a.handler == SIG_IGN, s)),
+    }
+}
+
+// The one pass over the actions of a process.
+fn gather(ps: &[u64], place: usize) -> Gathered
     requires { ⌜ (length (now ps) ≡ processTable) × (place < processPlaces) ⌝ }
-    ensures { λ r. ⌜ r ≡ marksNotIgnored marks (actionOf (processAt (now (ps .entry)) place .holds)) ⌝ }
+    ensures { λ r. ⌜ Gathers (processAt (now (ps .entry)) place .holds) signals r ⌝ }
 {
-    // most queues have no mark
-    if marks.0 == 0 {
-        return true;
+    let mut g = Gathered {
+        flags: 0,
+        masks: SigSet::EMPTY,
+        chosen: SigSet::EMPTY,
+    };
+    let mut s: u32 = 1;
+    while s <= SIGNALS {
+        g = with_action(g, tables::action_at(ps, place, s), s);
+        s += 1;
     }
-    let mut i = 0;
-    while i < SIGNALS {
-        if !mark_not_ignored(ps, place, marks, i + 1) {
-            return false;
-        }
-        i += 1;
-    }
-    true
+    g
 }
 
-fn mark_not_ignored(ps: &[u64], place: usize, marks: SigSet, s: u32) -> bool
-    requires { ⌜ (length (now ps) ≡ processTable) × ((place < processPlaces) × ((1 ≤ s) × (s ≤ signals))) ⌝ }
-    ensures { λ r. ⌜ r ≡ markNotIgnored marks (actionOf (processAt (now (ps .entry)) place .holds)) s ⌝ }
+// The signals that a process ignores: those set to ignore, and by default CHLD, URG and WINCH.
+fn ignored(ps: &[u64], place: usize, chosen: SigSet) -> SigSet
+    requires { ⌜ (length (now ps) ≡ processTable) × (place < processPlaces) ⌝ }
+    requires { ⌜ chosen ≡ setOf (ignoredByChoice (processAt (now ps) place .holds)) ⌝ }
+    ensures { λ r. ⌜ r ≡ ignoredBy (processAt (now (ps .entry)) place .holds) ⌝ }
 {
-    if !SigSet::has(marks, s) {
-        return true;
-    }
-    !decide::is_ignored(tables::action_at(ps, place, s), s)
+    let chld = tables::action_at(ps, place, SIGCHLD);
+    let urg = tables::action_at(ps, place, SIGURG);
+    let winch = tables::action_at(ps, place, SIGWINCH);
+    let first = SigSet::union(chosen, alone_if(chld.handler == SIG_DFL, SIGCHLD));
+    let second = SigSet::union(first, alone_if(urg.handler == SIG_DFL, SIGURG));
+    SigSet::union(second, alone_if(winch.handler == SIG_DFL, SIGWINCH))
 }
 
-// Has the process a thread?
-fn has_thread(ts: &[u64], id: u64) -> bool
-    requires { ⌜ length (now ts) ≡ threadTable ⌝ }
-    ensures { λ r. ⌜ r ≡ any (belongsTo id) (heldThreads (now (ts .entry))) ⌝ }
+fn are_disjoint(a: SigSet, b: SigSet) -> bool
+    ensures { λ r. ⌜ r ≡ disjoint a b ⌝ }
 {
-    if id == 0 {
-        return false;
-    }
-    let mut i = 0;
-    while i < THREAD_PLACES {
-        if tables::thread_field_at(ts, i, THREAD_PROCESS) == id {
-            return true;
-        }
-        i += 1;
-    }
-    false
+    let both = SigSet::intersect(a, b);
+    both.0 == 0
 }
 
-fn live_process_ok(ps: &[u64], ts: &[u64], place: usize) -> bool
-    requires { ⌜ (length (now ps) ≡ processTable) × ((length (now ts) ≡ threadTable) × (place < processPlaces)) ⌝ }
-    ensures { λ r. ⌜ r ≡ liveProcessOk (heldProcesses (now (ps .entry))) (heldThreads (now (ts .entry))) place
-        (processAt (now (ps .entry)) place) ⌝ }
-{
-    let id = tables::field_at(ps, place, PROCESS_ID);
-    let marks = SigSet(tables::field_at(ps, place, PROCESS_MARKS));
-    let first = tables::find_process(ps, id) == place;
-    let have_threads = has_thread(ts, id);
-    let unmaskable = kill_stop_default(ps, place);
-    let actions = actions_ok(ps, place);
-    let not_ignored = marks_not_ignored(ps, place, marks);
-    head_ok(ps, place) & (first & (have_threads & (unmaskable & (actions & not_ignored))))
-}
-
-fn process_ok(ps: &[u64], ts: &[u64], place: usize) -> bool
-    requires { ⌜ (length (now ps) ≡ processTable) × ((length (now ts) ≡ threadTable) × (place < processPlaces)) ⌝ }
-    ensures { λ r. ⌜ r ≡ processOkAt (processesOf (now (ps .entry))) (threadsOf (now (ts .entry))) place ⌝ }
-{
-    if tables::field_at(ps, place, PROCESS_ID) == 0 {
-        return zeros(ps, place * PROCESS_WORDS, PROCESS_WORDS);
-    }
-    live_process_ok(ps, ts, place)
-}
-
-fn live_thread_ok(ps: &[u64], ts: &[u64], place: usize) -> bool
-    requires { ⌜ (length (now ps) ≡ processTable) × ((length (now ts) ≡ threadTable) × (place < threadPlaces)) ⌝ }
-    ensures { λ r. ⌜ r ≡ liveThreadOk (heldProcesses (now (ps .entry))) (heldThreads (now (ts .entry))) place
-        (threadAt (now (ts .entry)) place) ⌝ }
-{
-    let owner = tables::find_process(ps, tables::thread_field_at(ts, place, THREAD_PROCESS));
-    if owner == PROCESS_PLACES {
-        return false;
-    }
-    let id = tables::thread_field_at(ts, place, THREAD_ID);
-    let marks = SigSet(tables::thread_field_at(ts, place, THREAD_MARKS));
-    let mask = decide::is_unmasked(SigSet(tables::thread_field_at(ts, place, THREAD_MASK)));
-    let first = tables::find_thread(ts, id) == place;
-    let not_ignored = marks_not_ignored(ps, owner, marks);
-    decide::is_id(id) & (mask & (decide::is_unmasked(marks) & (first & not_ignored)))
-}
-
-fn thread_ok(ps: &[u64], ts: &[u64], place: usize) -> bool
-    requires { ⌜ (length (now ps) ≡ processTable) × ((length (now ts) ≡ threadTable) × (place < threadPlaces)) ⌝ }
-    ensures { λ r. ⌜ r ≡ threadOkAt (processesOf (now (ps .entry))) (threadsOf (now (ts .entry))) place ⌝ }
-{
-    if tables::thread_field_at(ts, place, THREAD_ID) == 0 {
-        return zeros(ts, place * THREAD_WORDS, THREAD_WORDS);
-    }
-    live_thread_ok(ps, ts, place)
-}
-
-// ---- all places
-
-fn processes_ok(ps: &[u64], ts: &[u64]) -> bool
-    requires { ⌜ (length (now ps) ≡ processTable) × (length (now ts) ≡ threadTable) ⌝ }
-    ensures { λ r. ⌜ r ≡ all (processOkAt (processesOf (now (ps .entry))) (threadsOf (now (ts .entry))))
-        (range 0 processPlaces) ⌝ }
-{
-    let mut i = 0;
-    while i < PROCESS_PLACES {
-        if !process_ok(ps, ts, i) {
-            return false;
-        }
-        i += 1;
-    }
-    true
-}
-
-fn threads_ok(ps: &[u64], ts: &[u64]) -> bool
-    requires { ⌜ (length (now ps) ≡ processTable) × (length (now ts) ≡ threadTable) ⌝ }
-    ensures { λ r. ⌜ r ≡ all (threadOkAt (processesOf (now (ps .entry))) (threadsOf (now (ts .entry))))
-        (range 0 threadPlaces) ⌝ }
-{
-    let mut i = 0;
-    while i < THREAD_PLACES {
-        if !thread_ok(ps, ts, i) {
-            return false;
-        }
-        i += 1;
-    }
-    true
-}
-
-pub fn places_ok(ps: &[u64], ts: &[u64]) -> bool
-    requires { ⌜ (length (now ps) ≡ processTable) × (length (now ts) ≡ threadTable) ⌝ }
-    ensures { λ r. ⌜ r ≡ placesOk (processesOf (now (ps .entry))) (threadsOf (now (ts .entry))) ⌝ }
-{
-    if !processes_ok(ps, ts) {
-        return false;
-    }
-    threads_ok(ps, ts)
-}
