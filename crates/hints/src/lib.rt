@@ -2,7 +2,6 @@
 // from the first place on. A hint is believed only where the place has that id, so the answer is exact whatever the
 // words are.
 ghost use mathlib.Core.Path.{_≡_};
-ghost use mathlib.Core.Bool.{cond};
 ghost use Prim.Native.Nat.{_*_, _≤_, _<_};
 ghost use lib.ListN.{length};
 ghost use Rattle.lists.specs.Lists.{find};

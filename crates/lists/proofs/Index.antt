@@ -6,10 +6,10 @@ use mathlib.Core.List.{List, [], _∷_, map}
 use native.Mathlib.Nat.{not-suc-le-zero, le-of-suc-le-suc}
 use native.Mathlib.Omega.{arith}
 use lib.ListN.{length, getD, set}
-use Rattle.lists.specs.Lists.{all, any, count, pairs, range, All}
+use Rattle.lists.specs.Lists.{all, any, count, find, pairs, range, All}
 use Rattle.lists.proofs.Bools.{split, and-both}
 use Rattle.lists.proofs.Lists.{Pass, Fail, All-imp, All-all, All-each, all-All, any-All, All-any, any-count}
-use Rattle.lists.proofs.Lists.{count-none, count-yes, count-no}
+use Rattle.lists.proofs.Lists.{count-none, count-yes, count-no, find-yes, find-no}
 use Rattle.lists.proofs.Loops.{any-here, All-range, All-range-at}
 
 -- ---- by index
@@ -89,6 +89,14 @@ module _ {A : Type 0} (t : A → Bool) (d : A) where
   any-only p n (x ∷ xs) (suc i) c h e =
       ap (λ b. b || any p xs) (n x (only-tail t x xs c (any-here t d xs i (le-of-suc-le-suc h) e)))
       ∙ any-only p n xs i (count-tail t x xs c) (le-of-suc-le-suc h) e
+
+  -- a search ends there
+  pub find-only : (xs : List A) (i : ℕ) → count t xs ≤ 1 → i < length xs → t (getD xs i d) ≡ true → find t xs ≡ i
+  find-only [] i c h e = absurd (not-suc-le-zero h)
+  find-only (x ∷ xs) zero c h e = find-yes t x xs e
+  find-only (x ∷ xs) (suc i) c h e =
+      find-no t x xs (only-tail t x xs c (any-here t d xs i (le-of-suc-le-suc h) e))
+      ∙ ap suc (find-only xs i (count-tail t x xs c) (le-of-suc-le-suc h) e)
 
   -- two functions that differ on those alone: the values differ by one store
   pub map-only : {B : Type 0} (f g : A → B) → ((x : A) → t x ≡ false → g x ≡ f x) → (xs : List A) (i : ℕ)
