@@ -1,6 +1,6 @@
 -- Laws of a table of words as rows. Nothing here knows a capacity or a field. Assumes nothing.
 use mathlib.Core.Path.{_≡_, refl, sym, ap, ap₂, _∙_}
-use mathlib.Core.List.{List, [], _∷_, _++_, append-nil, append-assoc}
+use mathlib.Core.List.{List, [], _∷_, _++_, map, append-nil, append-assoc}
 use Prim.Native.Nat.{ℕ, zero, suc, _+_, _*_, _≤_, _<_}
 use native.Mathlib.Nat.{zero-mul, suc-mul, add-comm, add-assoc, add-zero, zero-add, add-suc, not-suc-le-zero}
 use native.Mathlib.Nat.{le-of-suc-le-suc}
@@ -113,6 +113,14 @@ module _ {A : Type 0} (dec : List ℕ → A) (w : ℕ) where
       ap (λ o. rows dec w n (sets ws o vs)) (sym (add-zero (i * w)))
       ∙ rows-sets n ws i 0 vs h (omega arith)
       ∙ ap (λ l. set (rows dec w n ws) i (dec l)) (sets-whole vs (row w ws i) (length-row w ws i k ∙ sym e))
+
+-- rows decoded in two steps
+pub rows-map : {A B : Type 0} (dec : List ℕ → A) (f : A → B) (g : List ℕ → B) → ((l : List ℕ) → g l ≡ f (dec l))
+    → (w n : ℕ) (ws : List ℕ)
+    → rows g w n ws ≡ map f (rows dec w n ws)
+unfolding rows
+rows-map dec f g h w zero ws = refl
+rows-map dec f g h w (suc n) ws = ap₂ (λ x l. x ∷ l) (h (take w ws)) (rows-map dec f g h w n (drop w ws))
 
 -- ---- values encoded
 

@@ -11,6 +11,7 @@ use Rattle.limits.specs.Limits.{processPlaces, processWords, threadPlaces, thre
 use Rattle.limits.specs.Limits.{signals, sigIgn, siQueue, knownFlags}
 use Rattle.lists.specs.Lists.{all, any, count, find, pairs, range}
 use Rattle.zeros.specs.Zeros.{isNought}
+use Rattle.hints.specs.Hints.{idsOf, seek}
 use Rattle.sigset.specs.declared.SigSet.{SigSet}
 use Rattle.sigset.specs.Set.{bits, has, setOf, union, intersect, ofSignal}
 use Rattle.types.specs.declared.Action.{Action}
@@ -79,6 +80,13 @@ module _ (place : ℕ → ℕ) where
       (any (isProcess (x .holds .process)) ps && liveThreadOk (ignoredBy (ownerOf ps x)) i x)
 
 -- ---- all places
+
+-- where the ids of the two tables are found, by the hints
+abbrev pub processBy : (hints words : List ℕ) → ℕ → ℕ
+processBy hints ws = seek hints (idsOf processWords processPlaces ws)
+
+abbrev pub threadBy : (hints words : List ℕ) → ℕ → ℕ
+threadBy hints ws = seek hints (idsOf threadWords threadPlaces ws)
 
 module _ (place : ℕ → ℕ) (xs : List (Place Process)) where
   unfoldable pub processOkAt : ℕ → Bool

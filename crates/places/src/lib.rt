@@ -3,19 +3,19 @@
 ghost use mathlib.Core.Path.{_≡_};
 ghost use mathlib.Core.Bool.{true, cond};
 ghost use Prim.Native.Nat.{_≤_, _<_};
-ghost use lib.Dec.{eqb};
 ghost use lib.Bits.{bitOr};
-ghost use lib.ListN.{length, getD};
+ghost use lib.Dec.{eqb};
+ghost use lib.ListN.{length};
 ghost use Rattle.limits.specs.Limits.{processPlaces, processTable, threadPlaces, threadTable, signals, sigIgn};
-ghost use Rattle.limits.specs.Limits.{processId};
-ghost use Rattle.lists.specs.Lists.{all, count, find, range};
-ghost use Rattle.sigset.specs.Set.{bits, empty, ofSignal, setOf, union};
-ghost use Rattle.rules.specs.View.{isProcess};
-ghost use Rattle.rules.specs.Sound.{killStopDefault, zeroThread};
+ghost use Rattle.lists.specs.Lists.{all, range};
+ghost use Rattle.hints.specs.Hints.{hintSlots, Hinted};
+ghost use Rattle.sigset.specs.Set.{empty, ofSignal, setOf, union};
+ghost use Rattle.rules.specs.Sound.{killStopDefault, zeroThread, processId, threadId};
 ghost use Rattle.tables.specs.Tables.{processesOf, threadsOf, heldProcesses, processAt, threadAt};
 ghost use Rattle.places.specs.Check.{headOk, liveProcessOk, processOkAt, processesOk, liveThreadOk, threadOkAt};
-ghost use Rattle.places.specs.Check.{threadsOk, placesOk, ignoredBy, ignoredByChoice};
+ghost use Rattle.places.specs.Check.{threadsOk, placesOk, processBy, threadBy, ignoredBy, ignoredByChoice};
 ghost use Rattle.places.specs.Check.{disjoint, Gathers, IgnoredNoted, OwnersNoted, PeopledNoted, onePlace};
+ghost use Rattle.places.specs.Check.{notedAt, ownerPlace, peopledBy};
 use limits::KNOWN_FLAGS;
 use limits::PROCESS_EFFECTIVE;
 use limits::PROCESS_ID;
@@ -142,3 +142,215 @@ fn are_disjoint(a: SigSet, b: SigSet) -> bool
     both.0 == 0
 }
 
+// A live process, with what was gathered of its actions.
+fn live_process_ok(ps: &[u64], hints: &[u16], place: usize, g: Gathered, ignores: SigSet) -> bool
+    requires { ⌜ (length (now ps) ≡ processTable) × (place < processPlaces) ⌝ }
+    requires { ⌜ (length (now hints) ≡ hintSlots) × Hinted processPlaces (now hints) ⌝ }
+    requires { ⌜ Gathers (processAt (now ps) place .holds) signals g
+        × (ignores ≡ ignoredBy (processAt (now ps) place .holds)) ⌝ }
+    ensures { λ r. ⌜ r ≡ liveProcessOk (processBy (now (hints .entry)) (now (ps .entry))) place
+        (processAt (now (ps .entry)) place) ⌝ }
+{
+    let flags = g.flags;
+    let masks = g.masks;
+    let id = tables::field_at(ps, place, PROCESS_ID);
+    let marks = SigSet(tables::field_at(ps, place, PROCESS_MARKS));
+    let found = hints::place_of(ps, PROCESS_WORDS, PROCESS_PLACES, hints, id) == place;
+    let unmaskable = kill_stop_default(ps, place);
+    let actions = decide::is_unmasked(masks) & (flags & KNOWN_FLAGS == flags);
+    let delivered = are_disjoint(marks, ignores);
+    head_ok(ps, place) & (found & (unmaskable & (actions & delivered)))
+}
+
+// Is the process place sound? What a live process ignores is noted.
+fn process_ok(ps: &[u64], hints: &[u16], notes: &mut [u64], place: usize) -> bool
+    requires { ⌜ (length (now ps) ≡ processTable) × (place < processPlaces) ⌝ }
+    requires { ⌜ (length (now hints) ≡ hintSlots) × Hinted processPlaces (now hints) ⌝ }
+    requires { ⌜ length (now notes) ≡ processPlaces ⌝ }
+    ensures { λ r. ⌜ r ≡ processOkAt (processBy (now (hints .entry)) (now (ps .entry))) (processesOf (now (ps .entry)))
+        place ⌝ }
+    ensures { λ _. ⌜ now (notes .exit) ≡ notedAt processId (now (notes .entry)) place
+        (ignoredBy (processAt (now (ps .entry)) place .holds) .0) (processAt (now (ps .entry)) place) ⌝ }
+{
+    if tables::field_at(ps, place, PROCESS_ID) == 0 {
+        return zeros::words_zero(ps, place * PROCESS_WORDS, PROCESS_WORDS);
+    }
+    let g = gather(ps, place);
+    let chosen = g.chosen;
+    let ignores = ignored(ps, place, chosen);
+    notes[place] = ignores.0;
+    live_process_ok(ps, hints, place, g, ignores)
+}
+
+fn processes_ok(ps: &[u64], hints: &[u16], notes: &mut [u64]) -> bool
+    requires { ⌜ length (now ps) ≡ processTable ⌝ }
+    requires { ⌜ (length (now hints) ≡ hintSlots) × Hinted processPlaces (now hints) ⌝ }
+    requires { ⌜ length (now notes) ≡ processPlaces ⌝ }
+    ensures { λ r. ⌜ r ≡ processesOk (processBy (now (hints .entry)) (now (ps .entry)))
+        (processesOf (now (ps .entry))) ⌝ }
+    ensures { λ r. ⌜ (r ≡ true → IgnoredNoted (processesOf (now (ps .entry))) processPlaces (now (notes .exit))) ⌝ }
+{
+    let mut i = 0;
+    while i < PROCESS_PLACES {
+        if !process_ok(ps, hints, notes, i) {
+            return false;
+        }
+        i += 1;
+    }
+    true
+}
+
+// ---- one thread place
+
+fn free_thread_ok(ts: &[u64], place: usize) -> bool
+    requires { ⌜ (length (now ts) ≡ threadTable) × (place < threadPlaces) ⌝ }
+    ensures { λ r. ⌜ r ≡ zeroThread (threadAt (now (ts .entry)) place) ⌝ }
+{
+    let process = tables::thread_field_at(ts, place, THREAD_PROCESS);
+    let mask = tables::thread_field_at(ts, place, THREAD_MASK);
+    let marks = tables::thread_field_at(ts, place, THREAD_MARKS);
+    (process == 0) & ((mask == 0) & (marks == 0))
+}
+
+// A live thread, whose process ignores these signals.
+fn live_thread_ok(ts: &[u64], hints: &[u16], place: usize, ignores: SigSet) -> bool
+    requires { ⌜ (length (now ts) ≡ threadTable) × (place < threadPlaces) ⌝ }
+    requires { ⌜ (length (now hints) ≡ hintSlots) × Hinted threadPlaces (now hints) ⌝ }
+    ensures { λ r. ⌜ r ≡ liveThreadOk (threadBy (now (hints .entry)) (now (ts .entry))) ignores place
+        (threadAt (now (ts .entry)) place) ⌝ }
+{
+    let id = tables::thread_field_at(ts, place, THREAD_ID);
+    let mask = decide::is_unmasked(SigSet(tables::thread_field_at(ts, place, THREAD_MASK)));
+    let marks = SigSet(tables::thread_field_at(ts, place, THREAD_MARKS));
+    let found = hints::place_of(ts, THREAD_WORDS, THREAD_PLACES, hints, id) == place;
+    let delivered = are_disjoint(marks, ignores);
+    decide::is_id(id) & (mask & (decide::is_unmasked(marks) & (found & delivered)))
+}
+
+// Is the thread place sound? The place of a live thread's process is noted, and that this process has a thread.
+fn thread_ok(
+    ps: &[u64],
+    ts: &[u64],
+    ph: &[u16],
+    th: &[u16],
+    ignored: &[u64],
+    owners: &mut [u16],
+    peopled: &mut [u8],
+    place: usize,
+) -> bool
+    requires { ⌜ (length (now ps) ≡ processTable) × ((length (now ts) ≡ threadTable) × (place < threadPlaces)) ⌝ }
+    requires { ⌜ (length (now ph) ≡ hintSlots) × Hinted processPlaces (now ph) ⌝ }
+    requires { ⌜ (length (now th) ≡ hintSlots) × Hinted threadPlaces (now th) ⌝ }
+    requires { ⌜ (length (now ignored) ≡ processPlaces) × ((length (now owners) ≡ threadPlaces)
+        × (length (now peopled) ≡ processPlaces)) ⌝ }
+    requires { ⌜ onePlace (heldProcesses (now ps)) × IgnoredNoted (processesOf (now ps)) processPlaces (now ignored) ⌝ }
+    ensures { λ r. ⌜ r ≡ threadOkAt (threadBy (now (th .entry)) (now (ts .entry))) (processesOf (now (ps .entry)))
+        (threadsOf (now (ts .entry))) place ⌝ }
+    ensures { λ r. ⌜ (r ≡ true → now (owners .exit) ≡ notedAt threadId (now (owners .entry)) place
+        (ownerPlace (heldProcesses (now (ps .entry))) (threadAt (now (ts .entry)) place))
+        (threadAt (now (ts .entry)) place)) ⌝ }
+    ensures { λ r. ⌜ (r ≡ true → now (peopled .exit) ≡ notedAt threadId (now (peopled .entry))
+        (ownerPlace (heldProcesses (now (ps .entry))) (threadAt (now (ts .entry)) place)) 1
+        (threadAt (now (ts .entry)) place)) ⌝ }
+{
+    if tables::thread_field_at(ts, place, THREAD_ID) == 0 {
+        return free_thread_ok(ts, place);
+    }
+    let process = tables::thread_field_at(ts, place, THREAD_PROCESS);
+    let owner = hints::place_of(ps, PROCESS_WORDS, PROCESS_PLACES, ph, process);
+    if owner == PROCESS_PLACES {
+        return false;
+    }
+    owners[place] = owner as u16;
+    peopled[owner] = 1;
+    live_thread_ok(ts, th, place, SigSet(ignored[owner]))
+}
+
+fn threads_ok(
+    ps: &[u64],
+    ts: &[u64],
+    ph: &[u16],
+    th: &[u16],
+    ignored: &[u64],
+    owners: &mut [u16],
+    peopled: &mut [u8],
+) -> bool
+    requires { ⌜ (length (now ps) ≡ processTable) × (length (now ts) ≡ threadTable) ⌝ }
+    requires { ⌜ (length (now ph) ≡ hintSlots) × Hinted processPlaces (now ph) ⌝ }
+    requires { ⌜ (length (now th) ≡ hintSlots) × Hinted threadPlaces (now th) ⌝ }
+    requires { ⌜ (length (now ignored) ≡ processPlaces) × ((length (now owners) ≡ threadPlaces)
+        × (length (now peopled) ≡ processPlaces)) ⌝ }
+    requires { ⌜ onePlace (heldProcesses (now ps)) × IgnoredNoted (processesOf (now ps)) processPlaces (now ignored) ⌝ }
+    requires { ⌜ PeopledNoted (processesOf (now ps)) (threadsOf (now ts)) 0 (now peopled) ⌝ }
+    ensures { λ r. ⌜ r ≡ threadsOk (threadBy (now (th .entry)) (now (ts .entry))) (processesOf (now (ps .entry)))
+        (threadsOf (now (ts .entry))) ⌝ }
+    ensures { λ r. ⌜ (r ≡ true → OwnersNoted (processesOf (now (ps .entry))) (threadsOf (now (ts .entry)))
+        threadPlaces (now (owners .exit))) ⌝ }
+    ensures { λ r. ⌜ (r ≡ true → PeopledNoted (processesOf (now (ps .entry))) (threadsOf (now (ts .entry)))
+        threadPlaces (now (peopled .exit))) ⌝ }
+{
+    let mut i = 0;
+    while i < THREAD_PLACES {
+        if !thread_ok(ps, ts, ph, th, ignored, owners, peopled, i) {
+            return false;
+        }
+        i += 1;
+    }
+    true
+}
+
+// ---- all places
+
+// Has the process in a place a thread, by the notes? A free place needs none.
+fn is_peopled(ps: &[u64], peopled: &[u8], place: usize) -> bool
+    requires { ⌜ (length (now ps) ≡ processTable) × (length (now peopled) ≡ processPlaces) ⌝ }
+    requires { ⌜ place < processPlaces ⌝ }
+    ensures { λ r. ⌜ r ≡ peopledBy (processesOf (now (ps .entry))) (now (peopled .entry)) place ⌝ }
+{
+    (tables::field_at(ps, place, PROCESS_ID) == 0) | (peopled[place] != 0)
+}
+
+fn all_peopled(ps: &[u64], peopled: &[u8]) -> bool
+    requires { ⌜ (length (now ps) ≡ processTable) × (length (now peopled) ≡ processPlaces) ⌝ }
+    ensures { λ r. ⌜ r ≡ all (peopledBy (processesOf (now (ps .entry))) (now (peopled .entry)))
+        (range 0 processPlaces) ⌝ }
+{
+    let mut i = 0;
+    while i < PROCESS_PLACES {
+        if !is_peopled(ps, peopled, i) {
+            return false;
+        }
+        i += 1;
+    }
+    true
+}
+
+// Are all places sound? Then the notes are of all of them.
+pub fn places_ok(
+    ps: &[u64],
+    ts: &[u64],
+    ph: &[u16],
+    th: &[u16],
+    ignored: &mut [u64],
+    owners: &mut [u16],
+) -> bool
+    requires { ⌜ (length (now ps) ≡ processTable) × (length (now ts) ≡ threadTable) ⌝ }
+    requires { ⌜ (length (now ph) ≡ hintSlots) × Hinted processPlaces (now ph) ⌝ }
+    requires { ⌜ (length (now th) ≡ hintSlots) × Hinted threadPlaces (now th) ⌝ }
+    requires { ⌜ (length (now ignored) ≡ processPlaces) × (length (now owners) ≡ threadPlaces) ⌝ }
+    ensures { λ r. ⌜ r ≡ placesOk (processBy (now (ph .entry)) (now (ps .entry)))
+        (threadBy (now (th .entry)) (now (ts .entry)))
+        (processesOf (now (ps .entry))) (threadsOf (now (ts .entry))) ⌝ }
+    ensures { λ r. ⌜ (r ≡ true → IgnoredNoted (processesOf (now (ps .entry))) processPlaces (now (ignored .exit))) ⌝ }
+    ensures { λ r. ⌜ (r ≡ true → OwnersNoted (processesOf (now (ps .entry))) (threadsOf (now (ts .entry)))
+        threadPlaces (now (owners .exit))) ⌝ }
+{
+    let mut peopled = [0u8; PROCESS_PLACES];
+    if !processes_ok(ps, ph, ignored) {
+        return false;
+    }
+    if !threads_ok(ps, ts, ph, th, ignored, owners, &mut peopled) {
+        return false;
+    }
+    all_peopled(ps, &peopled)
+}

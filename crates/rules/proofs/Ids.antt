@@ -1,4 +1,5 @@
--- Ids that are 0 or met once: no two live members have one id exactly if each live member is the first with its id.
+-- Ids that are 0 or met once: no two live members have one id exactly if a function of the id tells each its index,
+-- as the search for the first does.
 -- Assumes nothing.
 use Prim.Native.Nat.{ℕ, _≤_, _<_}
 use mathlib.Core.Path.{_≡_, refl, sym, ap, _∙_}
@@ -12,7 +13,7 @@ use Rattle.lists.specs.Lists.{count, find, pairs, pairsWhere}
 use Rattle.lists.proofs.Bools.{split, clash, and-fst, and-snd, and-both, imp-by}
 use Rattle.lists.proofs.Lists.{count-map, pairs-imp, pairsWhere-pairs, pairs-count}
 use Rattle.lists.proofs.Loops.{pairs-at}
-use Rattle.lists.proofs.Finds.{find-first, find-below, find-map}
+use Rattle.lists.proofs.Finds.{find-first, find-map}
 use Rattle.lists.proofs.Index.{pairs-each}
 use Rattle.rules.specs.Store.{Place, held}
 use Rattle.rules.specs.Sound.{isLive, apart}
@@ -80,10 +81,11 @@ module _ {B : Type 0} (id : B → ℕ) where
           (ap not (and-both t s)))
           (λ t. t))
 
-      pub first-distinct :
-          ((i : ℕ) → i < length xs → isNamed (getD xs i d) ≡ true → find (named (id (getD xs i d))) xs ≡ i)
+      -- by any function that tells each its index
+      pub told-distinct : (s : ℕ → ℕ)
+          → ((i : ℕ) → i < length xs → isNamed (getD xs i d) ≡ true → s (id (getD xs i d)) ≡ i)
           → distinct xs ≡ true
-      first-distinct f =
+      told-distinct s f =
           pairsWhere-pairs isNamed unlike xs
           ∙ pairs-each unlikeNamed d xs
           (λ i j k h.
@@ -93,9 +95,8 @@ module _ {B : Type 0} (id : B → ℕ) where
           (λ t.
           let p : id (getD xs i d) ≡ id (getD xs j d) = eqb-true (id (getD xs i d)) (id (getD xs j d)) t in
           let m : isNamed (getD xs j d) ≡ true = ap (λ (n : ℕ). not (eqb n 0)) (sym p) ∙ l in
-          let a : find (named (id (getD xs j d))) xs ≡ j = f j h m in
-          let b : find (named (id (getD xs j d))) xs ≤ i =
-          find-below (named (id (getD xs j d))) d xs i (omega arith) (and-both m t) in
+          let a : s (id (getD xs j d)) ≡ j = f j h m in
+          let b : s (id (getD xs j d)) ≡ i = ap s (sym p) ∙ f i (omega arith) l in
           absurd (omega arith))
           (λ t. ap not t)))
 
@@ -114,8 +115,7 @@ module _ {A : Type 0} (id : A → ℕ) (xs : List (Place A)) where
         → find (named id (id (getD xs i d .holds))) (map held xs) ≡ i
     distinct-held e i h l = find-map (named id (id (getD xs i d .holds))) held xs ∙ distinct-first idOf xs d e i h l
 
-    pub held-distinct : ((i : ℕ) → i < length xs → isLive id (getD xs i d) ≡ true
-        → find (named id (id (getD xs i d .holds))) (map held xs) ≡ i)
+    pub told-apart : (s : ℕ → ℕ)
+        → ((i : ℕ) → i < length xs → isLive id (getD xs i d) ≡ true → s (id (getD xs i d .holds)) ≡ i)
         → pairsWhere (isLive id) (apart id) xs ≡ true
-    held-distinct f =
-        first-distinct idOf xs d (λ i h l. sym (find-map (named id (id (getD xs i d .holds))) held xs) ∙ f i h l)
+    told-apart s f = told-distinct idOf xs d s f
