@@ -1,5 +1,6 @@
 -- Laws of a table of words as rows. Nothing here knows a capacity or a field. Assumes nothing.
 use mathlib.Core.Path.{_≡_, refl, sym, ap, ap₂, _∙_}
+use mathlib.Core.Bool.{Bool, _&&_}
 use mathlib.Core.List.{List, [], _∷_, _++_, map, append-nil, append-assoc}
 use Prim.Native.Nat.{ℕ, zero, suc, _+_, _*_, _≤_, _<_}
 use native.Mathlib.Nat.{zero-mul, suc-mul, add-comm, add-assoc, add-zero, zero-add, add-suc, not-suc-le-zero}
@@ -10,8 +11,9 @@ use lib.ListN.{length, getD, take, drop, set, replicate, take-append-drop, lengt
 use lib.ListN.{drop-of-length-le, replicate-append-replicate}
 use lib.Seq.{getD-set-same, set-set, take-set-le, drop-set-add, take-set-lt, drop-set-lt, drop-drop, take-take}
 use lib.Seq.{getD-take, getD-drop, sets, sets-eq, length-take-le, take-at, drop-at}
-use Rattle.lists.specs.Lists.{All}
+use Rattle.lists.specs.Lists.{all, All}
 use Rattle.lists.specs.Rows.{row, rows, flat}
+use Rattle.lists.proofs.Lists.{all-append}
 
 -- ---- a word of a row is a word of the table
 
@@ -121,6 +123,29 @@ pub rows-map : {A B : Type 0} (dec : List ℕ → A) (f : A → B) (g : List ℕ
 unfolding rows
 rows-map dec f g h w zero ws = refl
 rows-map dec f g h w (suc n) ws = ap₂ (λ x l. x ∷ l) (h (take w ws)) (rows-map dec f g h w n (drop w ws))
+
+-- ---- a value passes p exactly if every word of its row passes q
+
+module _ {A : Type 0} (dec : List ℕ → A) (w : ℕ) (p : A → Bool) (q : ℕ → Bool)
+    (same : (l : List ℕ) → length l ≡ w → p (dec l) ≡ all q l) where
+  pub all-rows : (n : ℕ) (ws : List ℕ) → length ws ≡ n * w → all p (rows dec w n ws) ≡ all q ws
+  unfolding rows all
+  all-rows zero ws e = ap (all q) (sym (nil-of ws (e ∙ zero-mul w)))
+  all-rows (suc n) ws e =
+      let k : length ws ≡ n * w + w = e ∙ suc-mul n w in
+      ap₂ (λ a b. a && b) (same (take w ws) (length-take-le w ws (omega arith)))
+      (all-rows n (drop w ws) (rw length-drop (omega arith)))
+      ∙ sym (all-append q (take w ws) (drop w ws)) ∙ ap (all q) (take-append-drop w ws)
+
+  -- the same of the rows from k on
+  pub all-rows-from : (n : ℕ) (ws : List ℕ) (k : ℕ) → length ws ≡ n * w → k ≤ n
+      → all p (drop k (rows dec w n ws)) ≡ all q (drop (k * w) ws)
+  unfolding rows
+  all-rows-from n ws zero e h = all-rows n ws e ∙ ap (λ i. all q (drop i ws)) (sym (zero-mul w))
+  all-rows-from zero ws (suc k) e h = absurd (not-suc-le-zero h)
+  all-rows-from (suc n) ws (suc k) e h =
+      let j : length ws ≡ n * w + w = e ∙ suc-mul n w in
+      all-rows-from n (drop w ws) k (rw length-drop (omega arith)) (le-of-suc-le-suc h) ∙ ap (all q) (row-suc w ws k)
 
 -- ---- values encoded
 

@@ -1,3 +1,4 @@
 pub mod Sets
 pub mod Ids
+mod Notes
 mod Endings

@@ -1,3 +1,4 @@
 pub mod Buffer
 pub mod Signals
 mod Changes
+mod Zeros

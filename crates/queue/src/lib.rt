@@ -13,6 +13,7 @@ ghost use Rattle.rules.specs.Sound.{isZero};
 ghost use Rattle.queue.specs.Queue.{slotsOf, recordsOf, isLaid, appended, removeAt, isLeft, signalsIn};
 use limits::BUFFER_BYTES;
 use limits::BUFFER_RECORDS;
+use limits::RECORD_BYTES;
 use sigset::SigSet;
 use types::Siginfo;
 
@@ -40,13 +41,6 @@ fn in_use(r: Siginfo) -> bool
     ensures { λ h. ⌜ h ≡ inUse r ⌝ }
 {
     r.process != 0
-}
-
-fn is_zero(r: Siginfo) -> bool
-    ensures { λ h. ⌜ h ≡ isZero r ⌝ }
-{
-    let ids = (r.sender == 0) & ((r.uid == 0) & (r.value == 0));
-    (r.process == 0) & ((r.thread == 0) & ((r.signal == 0) & ((r.code == 0) & ids)))
 }
 
 fn in_queue(r: Siginfo, process: u32, thread: u32, signal: u32) -> bool
@@ -143,14 +137,7 @@ fn zero_from(b: &[u8], from: usize) -> bool
     requires { ⌜ (length (now b) ≡ bufferBytes) × (from ≤ bufferRecords) ⌝ }
     ensures { λ h. ⌜ h ≡ all isZero (drop from (slotsOf (now (b .entry)))) ⌝ }
 {
-    let mut i: usize = from;
-    while i < BUFFER_RECORDS {
-        if !is_zero(siginfo::read(b, i)) {
-            return false;
-        }
-        i += 1;
-    }
-    true
+    zeros::bytes_zero(b, from * RECORD_BYTES, BUFFER_BYTES - from * RECORD_BYTES)
 }
 
 // Is the buffer laid out? Any bytes of any length are answered.

@@ -1,5 +1,6 @@
 -- Laws of little-endian numbers, over the width, and of numbers read and stored one behind the other. Assumes nothing.
 use mathlib.Core.Path.{_≡_, refl, sym, ap, _∙_}
+use mathlib.Core.Bool.{_&&_}
 use mathlib.Core.List.{List, [], _∷_, _++_}
 use Prim.Native.Nat.{ℕ, zero, suc, _+_, _*_, _/_, _%_, _^_, _≤_, _<_}
 use native.Mathlib.Nat.{suc-add, zero-add, one-mul, mul-assoc, mul-comm, div-one, div-div-eq-div-mul, mod-add-div}
@@ -7,9 +8,12 @@ use native.Mathlib.Nat.{div-lt-iff-lt-mul, add-mul-mod-self-left, add-mul-div-le
 use native.Mathlib.Nat.{lt-of-lt-of-le, min-le-left}
 use native.Mathlib.Omega.{arith}
 use lib.Arith.{lt-one}
-use lib.Dec.{lit<}
+use lib.Dec.{lit<, eqb}
 use lib.ListN.{length, take, drop, getD, set, length-take, length-drop}
 use lib.Seq.{sets, take-add, drop-drop, length-take-le}
+use borrow.Author.Tests.{eqb-true, eq-eqb}
+use Rattle.lists.specs.Lists.{all}
+use Rattle.lists.proofs.Bools.{same-test, and-fst, and-snd, and-both}
 use Rattle.lists.proofs.Lists.{All-each, All-take, All-drop}
 use Rattle.lists.proofs.Rows.{take-spell, stores4, sets-append}
 use Rattle.siginfo.specs.Bytes.{u32Bytes, le, encode, Bytes}
@@ -53,6 +57,21 @@ pub le-below : (bs : List ℕ) → Bytes bs → le bs < 256 ^ length bs
 unfolding le
 le-below [] h = rw pow-zero (lit< tt)
 le-below (b ∷ bs) h = let small : b < 256 = h .0 in omega (arith, le-below bs (h .1), pow-suc 256 (length bs))
+
+-- it is zero exactly if every byte is
+pub le-zero : (bs : List ℕ) → eqb (le bs) 0 ≡ all (λ b. eqb b 0) bs
+unfolding le all
+le-zero [] = refl
+le-zero (b ∷ bs) = sum-zero b (le bs) ∙ ap (λ t. eqb b 0 && t) (le-zero bs)
+  where
+    sum-zero : (x y : ℕ) → eqb (x + 256 * y) 0 ≡ (eqb x 0 && eqb y 0)
+    sum-zero x y =
+        same-test (eqb (x + 256 * y) 0) (eqb x 0 && eqb y 0)
+        (λ e. let z = eqb-true (x + 256 * y) 0 e in and-both (eq-eqb x 0 (omega arith)) (eq-eqb y 0 (omega arith)))
+        (λ e.
+        let p = eqb-true x 0 (and-fst (eqb x 0) (eqb y 0) e) in
+        let q = eqb-true y 0 (and-snd (eqb x 0) (eqb y 0) e) in
+        eq-eqb (x + 256 * y) 0 (omega arith))
 
 -- ---- a number in two parts
 

@@ -38,7 +38,7 @@ siginfoOf-bytesOf r f =
     )
 
 -- a part and what is behind it
-part-rest : (l : List ℕ) (at n : ℕ) → take n (drop at l) ++ drop (at + n) l ≡ drop at l
+pub part-rest : (l : List ℕ) (at n : ℕ) → take n (drop at l) ++ drop (at + n) l ≡ drop at l
 part-rest l at n = rw (← drop-drop n at l) (take-append-drop n (drop at l))
 
 pub bytesOf-siginfoOf : (l : List ℕ) → length l ≡ recordBytes → Bytes l → bytesOf (siginfoOf l) ≡ l

@@ -1,5 +1,7 @@
-use mathlib.Core.Path.{refl}
+use mathlib.Core.Path.{ap, _∙_}
 use borrow.Author.Needs.{needs}
+use lib.ListN.{set}
+use Rattle.sigset.specs.declared.SigSet.{SigSet}
 use Rattle.tables.specs.Tables.{processAt}
 use Rattle.tables.proofs.Words.{length-actions}
 use Rattle.places.specs.Check.{processBy, ignoredBy}
@@ -26,7 +28,15 @@ ignored-requires c κs =
     )
 
 returns-2 : tie.Need-returns-2
-returns-2 c = ?
+returns-2 c =
+    let a = c .before .before .before .before .before .before .before .before .before in
+    let ws = a .args .ps .now in
+    let f = c .before .before .before .before .before in
+    let end =
+    live-process-at (processBy (a .args .hints .now) ws) ws (a .args .notes .now) (a .args .place)
+    (f .field-at .result) (ignoredBy (processAt ws (a .args .place) .holds) .0)
+    (f .field-at .ensures) (c .before .before .before .before .if1 .left) (c .live-process-ok .ensures) in
+    (end .0, ap (λ (i : SigSet). set (a .args .notes .now) (a .args .place) (i .0)) (c .before .ignored .ensures) ∙ end .1)
 
 pub process-ok-spec : {M : Type 1} → statement M
 process-ok-spec =

@@ -1,48 +1,38 @@
+use Prim.Native.Nat.{_≤_, _-_}
+use mathlib.Core.Path.{_≡_, refl, sym, ap, _∙_}
+use mathlib.Core.Bool.{true}
+use borrow.Author.Needs.{needs}
+use borrow.Author.Tests.{not-true, not-false}
+use native.Mathlib.Nat.{zero-add}
+use native.Mathlib.Omega.{arith}
+use lib.ListN.{length}
+use Rattle.limits.specs.Limits.{processPlaces}
+use Rattle.lists.specs.Lists.{all, range}
+use Rattle.lists.proofs.Loops.{range-none, range-more, range-fails}
+use Rattle.tables.specs.Tables.{processesOf}
+use Rattle.places.specs.Check.{processOkAt, processesOk, processBy, IgnoredNoted}
+use Rattle.places.proofs.Notes.{ignored-none, ignored-more}
 use Rattle.places.proofs.processes_ok.Statement.{statement}
 use Rattle.places.proofs.processes_ok.Tie as tie
-use Rattle.places.proofs.processes_ok.Reads as reads
-use Rattle.places.proofs.processes_ok.Lts as lts
-use Rattle.places.proofs.process_ok.Reads as process-ok-reads
 
 abbrev Inv-loop : tie.InvT-loop
-Inv-loop ps hints notes₀ i₀ notes i = ?
+Inv-loop ps hints notes₀ i₀ notes i =
+    (i ≤ processPlaces) × ((length notes ≡ length notes₀)
+    × ((all (processOkAt (processBy hints ps) (processesOf ps)) (range 0 i) ≡ true)
+    × IgnoredNoted (processesOf ps) i notes))
 
 abbrev μ-loop : tie.MeasureT-loop
-μ-loop ps hints notes₀ i₀ notes i = ?
+μ-loop ps hints notes₀ i₀ notes i = processPlaces - i
 
--- src/lib.rt:194:5
 loop-holds : tie.Need-loop-holds Inv-loop μ-loop
 loop-holds c = ?
 
--- src/lib.rt:195:13
-process-ok-requires : tie.Need-process-ok-requires Inv-loop μ-loop
-process-ok-requires c κs = ?
-
--- src/lib.rt:196:13
-same-length : tie.Need-same-length Inv-loop μ-loop
-same-length c = ?
-
--- src/lib.rt:196:13
 returns : tie.Need-returns Inv-loop μ-loop
 returns c = ?
 
--- src/lib.rt:198:9
-add-i : tie.Need-add-i Inv-loop μ-loop
-add-i c = ?
-
--- src/lib.rt:194:5
-loop-less : tie.Need-loop-less Inv-loop μ-loop
-loop-less c = ?
-
--- src/lib.rt:194:5
 loop-again : tie.Need-loop-again Inv-loop μ-loop
 loop-again c = ?
 
--- src/lib.rt:185:1
-same-length-2 : tie.Need-same-length-2 Inv-loop μ-loop
-same-length-2 c = ?
-
--- src/lib.rt:185:1
 returns-2 : tie.Need-returns-2 Inv-loop μ-loop
 returns-2 c = ?
 
@@ -53,11 +43,10 @@ processes-ok-spec =
     Inv-loop
     μ-loop
     loop-holds
-    process-ok-requires
-    same-length
+    (λ c κs. search needs)
+    (λ c. search needs)
     returns
-    add-i
-    loop-less
+    (λ c. search needs)
+    (λ c. search needs)
     loop-again
-    same-length-2
     returns-2)
