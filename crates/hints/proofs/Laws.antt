@@ -1,5 +1,5 @@
--- Laws of a look-up by hints. Every hint is a place, so what is found has the id, whatever the hints are; where no two
--- places have one id, it is the search's place. Assumes nothing.
+-- Laws of a look-up by hints. Every hint is a place, so what is found has the id, whichever it is; where no two
+-- places have one id, it is the place that a search finds. Assumes nothing.
 use Prim.Native.Nat.{ℕ, _≤_, _<_}
 use mathlib.Core.Path.{_≡_, refl, sym, ap, subst, _∙_}
 use mathlib.Core.Bool.{true, false, not, _&&_}

@@ -1,2 +1,2 @@
 pub mod Laws
-mod Table
+pub mod Table

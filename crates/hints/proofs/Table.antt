@@ -101,7 +101,7 @@ module _ (hints ws : List ℕ) (width places : ℕ) (all : Hinted places hints) 
 
     by-first : isId id (getD (idsOf width places ws) (getD hints (firstSlot id) 0) 0) ≡ eqb (wordBy near) id
     by-first =
-        rw (← n) (id-test width places ws (getD hints near 0) (rw (n) (all (firstSlot id) (first-below id))) w id k)
+        rw (← n) (id-test width places ws (getD hints near 0) (rw n (all (firstSlot id) (first-below id))) w id k)
 
     pub seek-near : wordBy near ≡ id → getD hints near 0 ≡ seek hints (idsOf width places ws) id
     seek-near e =
@@ -111,7 +111,7 @@ module _ (hints ws : List ℕ) (width places : ℕ) (all : Hinted places hints) 
     module _ (no : wordBy near ≡ id → ⊥) (far : ℕ) (f : far ≡ secondSlot id) where
       by-second : isId id (getD (idsOf width places ws) (getD hints (secondSlot id) 0) 0) ≡ eqb (wordBy far) id
       by-second =
-          rw (← f) (id-test width places ws (getD hints far 0) (rw (f) (all (secondSlot id) (second-below id))) w id k)
+          rw (← f) (id-test width places ws (getD hints far 0) (rw f (all (secondSlot id) (second-below id))) w id k)
 
       pub seek-far : wordBy far ≡ id → getD hints far 0 ≡ seek hints (idsOf width places ws) id
       seek-far e =

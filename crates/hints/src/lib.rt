@@ -1,6 +1,6 @@
-// The place of an id in a table, by hint: two slots for each id say where to look first, and behind them stands a search
-// from the first place on. A hint is believed only where the place has that id, so the answer is exact whatever the
-// words are.
+// The place of an id in a table, by hint: two slots for each id say where to look first, and behind them stands a
+// search from the first place on. A hint is believed only where the place has that id, so the answer is exact whatever
+// the words are.
 ghost use mathlib.Core.Path.{_≡_};
 ghost use Prim.Native.Nat.{_*_, _≤_, _<_};
 ghost use lib.ListN.{length};

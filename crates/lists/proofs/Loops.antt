@@ -15,7 +15,7 @@ use Rattle.lists.specs.Lists.{all, any, count, find, first, keep, leadin
 use Rattle.lists.specs.Lists.{range, padded, All}
 use Rattle.lists.proofs.Bools.{split, clash, and-fst, and-snd, and-both, and-left, and-right, or-both}
 use Rattle.lists.proofs.Lists.{Pass, All-at, All-set, all-All, All-all, all-append, all-end, any-append, all-map}
-use Rattle.lists.proofs.Lists.{all-same, any-no, all-yes, all-no, any-All, find-yes, find-no, keep-yes, keep-no}
+use Rattle.lists.proofs.Lists.{all-same, any-no, any-All, find-yes, find-no, keep-yes, keep-no}
 use Rattle.lists.proofs.Lists.{count-yes, count-no, leading-yes, leading-no, change-same, any-count, count-none}
 
 -- ---- a turn: what is left from i on
@@ -475,16 +475,3 @@ module _ {A : Type 0} (d : A) where
       let z : n - j + (m - length rs) ≡ m - length fs = omega arith in
       ap₂ (λ x y. x ++ (replicate (n - j) d ++ y)) p (q ∙ b)
       ∙ ap (λ x. fs ++ x) (replicate-append-replicate (n - j) (m - length rs) d ∙ ap (λ i. replicate i d) z)
-
--- ---- every entry from i on passes: `all f (drop i xs) ≡ t`, t being the test where the loop begins
-
-module _ {A : Type 0} (f : A → Bool) (d : A) (xs : List A) (i : ℕ) {t : Bool} where
-  pub rest-more : i < length xs → all f (drop i xs) ≡ t → f (getD xs i d) ≡ true → all f (drop (i + 1) xs) ≡ t
-  rest-more h a e = sym (ap (all f) (next xs i d h) ∙ all-yes f (getD xs i d) (drop (i + 1) xs) e) ∙ a
-
-  pub rest-fails : i < length xs → all f (drop i xs) ≡ t → f (getD xs i d) ≡ false → false ≡ t
-  rest-fails h a e = sym (ap (all f) (next xs i d h) ∙ all-no f (getD xs i d) (drop (i + 1) xs) e) ∙ a
-
-  pub rest-done : length xs ≤ i → all f (drop i xs) ≡ t → true ≡ t
-  unfolding all
-  rest-done h a = sym (ap (all f) (drop-of-length-le xs h)) ∙ a

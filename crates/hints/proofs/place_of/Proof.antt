@@ -14,7 +14,9 @@ returns c =
 
 cast-near : tie.Need-cast-near
 cast-near c =
-    let slot = c .before .first-slot in omega (arith, c .before .before .before .before .before .pre .1 .1 (slot .result) (slot .ensures .1))
+    let s = c .before .before .before .before .before in
+    let slot = c .before .first-slot in
+    omega (arith, s .pre .1 .1 (slot .result) (slot .ensures .1))
 
 mul-if2 : tie.Need-mul-if2
 mul-if2 c =
@@ -50,7 +52,9 @@ returns-2 c =
 
 cast-far : tie.Need-cast-far
 cast-far c =
-    let slot = c .before .second-slot in omega (arith, c .before .before .before .before .before .before .before .before .before .pre .1 .1 (slot .result) (slot .ensures .1))
+    let s = c .before .before .before .before .before .before .before .before .before in
+    let slot = c .before .second-slot in
+    omega (arith, s .pre .1 .1 (slot .result) (slot .ensures .1))
 
 mul-if3 : tie.Need-mul-if3
 mul-if3 c =
@@ -83,7 +87,8 @@ returns-3 c =
     let far = c .before .before .before .second-slot in
     let near = c .before .before .before .before .before .before .before .first-slot in
     seek-far (a .hints .now) (a .ws .now) (a .width) (a .places) (s .pre .1 .1) (omega arith) (a .id) (near .result)
-    (near .ensures .0) (omega arith) (c .before .before .before .before .if2 .left) (far .result) (far .ensures .0) (c .if3 .taken)
+    (near .ensures .0) (omega arith) (c .before .before .before .before .if2 .left) (far .result)
+    (far .ensures .0) (c .if3 .taken)
 
 returns-4 : tie.Need-returns-4
 returns-4 c =
@@ -92,7 +97,8 @@ returns-4 c =
     let far = c .before .before .before .before .second-slot in
     let near = c .before .before .before .before .before .before .before .before .first-slot in
     seek-rest (a .hints .now) (a .ws .now) (a .width) (a .places) (s .pre .1 .1) (omega arith) (a .id) (near .result)
-    (near .ensures .0) (omega arith) (c .before .before .before .before .before .if2 .left) (far .result) (far .ensures .0) (c .before .if3 .left)
+    (near .ensures .0) (omega arith) (c .before .before .before .before .before .if2 .left) (far .result)
+    (far .ensures .0) (c .before .if3 .left)
     (c .search .result) (c .search .ensures)
 
 pub place-of-spec : {M : Type 1} → statement M
