@@ -1,7 +1,7 @@
 -- How the tests of one place end, over plain variables: the proofs of the code pass what they know.
 use Prim.Native.Nat.{ℕ, _<_}
 use mathlib.Core.Path.{_≡_, sym, ap, _∙_}
-use mathlib.Core.Bool.{Bool, false, not, _&&_, _||_}
+use mathlib.Core.Bool.{Bool, not, _&&_, _||_}
 use mathlib.Core.List.{List}
 use lib.Dec.{eqb}
 use lib.ListN.{length, getD, set}
@@ -18,8 +18,9 @@ use Rattle.rules.specs.Sound.{processId, killStopDefault, goodId, unmasked}
 use Rattle.tables.specs.Tables.{processesOf, processAt, headTo}
 use Rattle.tables.proofs.Words.{process-row}
 use Rattle.sigset.specs.declared.SigSet.{SigSet}
-use Rattle.places.specs.Check.{headOk, actionOk, disjoint, ignoredBy, liveProcessOk, processOk, processOkAt}
-use Rattle.places.specs.Check.{liveThreadOk, notedAt, peopledBy}
+use Rattle.soundness.specs.Check.{headOk, actionOk, disjoint, ignoredBy, liveProcessOk, processOk, processOkAt}
+use Rattle.soundness.specs.Check.{liveThreadOk}
+use Rattle.places.specs.Notes.{notedAt, peopledBy}
 
 -- ---- a live place: its tests, one after the other
 

@@ -1,4 +1,3 @@
-pub mod Sets
-pub mod Ids
+mod Sets
 mod Notes
 mod Endings

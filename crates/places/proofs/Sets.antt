@@ -7,16 +7,16 @@ use lib.Bits.{bitAnd, bitOr}
 use lib.Dec.{eqb, leb}
 use lib.ListN.{length, getD, take}
 use lib.Seq.{take-all}
-use borrow.Author.Tests.{eqb-true, eqb-false, eq-eqb, leb-true, le-leb, lt-leb, not-true}
+use borrow.Author.Tests.{eqb-true, eqb-false, leb-true, le-leb, lt-leb}
 use Rattle.limits.specs.Limits.{signals, sigDfl, sigIgn, knownFlags, SIGKILL, SIGSTOP, SIGCHLD, SIGURG, SIGWINCH}
-use Rattle.lists.specs.Lists.{all, range}
-use Rattle.lists.proofs.Bools.{split, same-test, not-and, not-or}
+use Rattle.lists.specs.Lists.{all}
+use Rattle.lists.proofs.Bools.{split, same-test}
 use Rattle.lists.proofs.Bits.{known-or}
-use Rattle.lists.proofs.Lists.{Pass, All-all, all-All, all-and}
-use Rattle.lists.proofs.Loops.{all-none, all-next, All-range, All-range-at}
+use Rattle.lists.proofs.Lists.{all-and}
+use Rattle.lists.proofs.Loops.{all-none, all-next}
 use Rattle.sigset.specs.declared.SigSet.{SigSet}
-use Rattle.sigset.specs.Set.{Signal, bits, empty, has, setOf, union, intersect, ofSignal}
-use Rattle.sigset.proofs.Laws.{has-set, set-cong, is-set, has-empty, has-of, has-union, has-intersect, union-lt}
+use Rattle.sigset.specs.Set.{Signal, empty, has, setOf, union, ofSignal}
+use Rattle.sigset.proofs.Laws.{has-set, set-cong, is-set, has-empty, has-of, has-union, union-lt}
 use Rattle.sigset.proofs.Laws.{set-none}
 use Rattle.types.specs.declared.Action.{Action}
 use Rattle.types.specs.Values.{defaultAction}
@@ -24,9 +24,10 @@ use Rattle.rules.specs.Types.{Process}
 use Rattle.rules.specs.Signals.{ignoring, ignored}
 use Rattle.rules.specs.View.{actionOf}
 use Rattle.rules.proofs.Unmaskable.{unmasked-empty}
-use Rattle.rules.specs.Sound.{unmasked, actionUnmasked, flagsKnown, markNotIgnored, marksNotIgnored}
+use Rattle.rules.specs.Sound.{unmasked, actionUnmasked, flagsKnown}
 use Rattle.places.specs.declared.Gathered.{Gathered}
-use Rattle.places.specs.Check.{ignoredBy, ignoredByChoice, disjoint, actionOk, Gathers}
+use Rattle.soundness.specs.Check.{ignoredBy, actionOk}
+use Rattle.places.specs.Notes.{ignoredByChoice, Gathers}
 
 -- ---- a signal alone where a test holds
 
@@ -187,36 +188,3 @@ module _ (p : Process) where
       ∙ ap (λ (z : Bool). z || (isDefaultAt s && eqb s SIGCHLD))
       (ap (λ (z : SigSet). has z s) ea ∙ has-set (ignoredByChoice p) s i)))
       ∙ spread (ignoredByChoice p s) (isDefaultAt s) (eqb s SIGCHLD) (eqb s SIGURG) (eqb s SIGWINCH))
-
-  -- marks that no ignored signal has
-  mark-apart : (marks : SigSet) (s : ℕ) → Signal s
-      → markNotIgnored marks (actionOf p) s ≡ not (has (intersect marks (ignoredBy p)) s)
-  unfolding ignoredBy
-  mark-apart marks s i =
-      sym (not-and (has marks s) (ignored (actionOf p s) s))
-      ∙ ap not
-      (sym
-      (has-intersect marks (ignoredBy p) s i
-      ∙ ap (λ (b : Bool). has marks s && b) (has-set (λ t. ignored (actionOf p t) t) s i)))
-
-  pub disjoint-is : (marks : SigSet) → disjoint marks (ignoredBy p) ≡ marksNotIgnored marks (actionOf p)
-  unfolding disjoint marksNotIgnored intersect
-  disjoint-is marks =
-      let both : SigSet = intersect marks (ignoredBy p) in
-      same-test (disjoint marks (ignoredBy p)) (marksNotIgnored marks (actionOf p))
-      (λ e.
-      All-all (markNotIgnored marks (actionOf p)) (range 1 signals)
-      (All-range (Pass (markNotIgnored marks (actionOf p))) 1 signals
-      (λ s l h.
-      mark-apart marks s (record { low = l; high = omega arith })
-      ∙ ap not (ap (λ (n : ℕ). has (bits n) s) (eqb-true (both .0) 0 e) ∙ has-empty s))))
-      (λ e.
-      eq-eqb (both .0) 0
-      (ap (λ (a : SigSet). a .0)
-      (set-none (λ s. has marks s && has (ignoredBy p) s)
-      (λ s i.
-      sym (has-intersect marks (ignoredBy p) s i)
-      ∙ not-true (has both s)
-      (sym (mark-apart marks s i)
-      ∙ All-range-at (Pass (markNotIgnored marks (actionOf p))) 1 signals s (i .low) (omega (arith, i .high))
-      (all-All (markNotIgnored marks (actionOf p)) (range 1 signals) e))))))

@@ -9,7 +9,7 @@ use Rattle.limits.specs.Limits.{processPlaces}
 use Rattle.lists.specs.Lists.{all, range}
 use Rattle.lists.proofs.Loops.{range-none, range-more, range-fails}
 use Rattle.tables.specs.Tables.{processesOf}
-use Rattle.places.specs.Check.{peopledBy}
+use Rattle.places.specs.Notes.{peopledBy}
 use Rattle.places.proofs.all_peopled.Statement.{statement}
 use Rattle.places.proofs.all_peopled.Tie as tie
 

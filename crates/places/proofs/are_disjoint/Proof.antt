@@ -2,7 +2,7 @@ use mathlib.Core.Path.{ap}
 use borrow.Author.Needs.{needs}
 use lib.Dec.{eqb}
 use Rattle.sigset.specs.declared.SigSet.{SigSet}
-use Rattle.places.specs.Check.{disjoint}
+use Rattle.soundness.specs.Check.{disjoint}
 use Rattle.places.proofs.are_disjoint.Statement.{statement}
 use Rattle.places.proofs.are_disjoint.Tie as tie
 

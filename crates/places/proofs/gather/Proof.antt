@@ -5,7 +5,7 @@ use native.Mathlib.Omega.{arith}
 use Rattle.limits.specs.Limits.{signals}
 use Rattle.tables.specs.Tables.{processAt}
 use Rattle.tables.proofs.Words.{length-actions}
-use Rattle.places.specs.Check.{Gathers}
+use Rattle.places.specs.Notes.{Gathers}
 use Rattle.places.proofs.Sets.{gathers-none, gathers-next}
 use Rattle.places.proofs.gather.Statement.{statement}
 use Rattle.places.proofs.gather.Tie as tie

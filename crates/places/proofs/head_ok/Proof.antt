@@ -1,6 +1,6 @@
 use Rattle.rules.specs.Sound.{fieldsFit}
 use Rattle.tables.specs.Tables.{headTo}
-use Rattle.places.specs.Check.{headOk}
+use Rattle.soundness.specs.Check.{headOk}
 use borrow.Author.Needs.{needs}
 use Rattle.places.proofs.head_ok.Statement.{statement}
 use Rattle.places.proofs.head_ok.Tie as tie

@@ -7,7 +7,7 @@ use Rattle.limits.specs.Limits.{knownFlags}
 use Rattle.sigset.specs.Set.{bits}
 use Rattle.tables.specs.Tables.{processAt, headTo}
 use Rattle.tables.proofs.Words.{length-actions}
-use Rattle.places.specs.Check.{processBy, disjoint}
+use Rattle.soundness.specs.Check.{processBy, disjoint}
 use Rattle.places.proofs.Sets.{gathered-ok}
 use Rattle.places.proofs.Endings.{live-process}
 use Rattle.places.proofs.live_process_ok.Statement.{statement}

@@ -4,7 +4,7 @@ use lib.Dec.{eqb}
 use Rattle.sigset.specs.Set.{bits}
 use Rattle.rules.specs.Sound.{goodId, unmasked}
 use Rattle.tables.specs.Tables.{threadAt, threadTo}
-use Rattle.places.specs.Check.{threadBy, disjoint}
+use Rattle.soundness.specs.Check.{threadBy, disjoint}
 use Rattle.places.proofs.Endings.{live-thread}
 use Rattle.places.proofs.live_thread_ok.Statement.{statement}
 use Rattle.places.proofs.live_thread_ok.Tie as tie

@@ -4,7 +4,7 @@ use lib.ListN.{set}
 use Rattle.sigset.specs.declared.SigSet.{SigSet}
 use Rattle.tables.specs.Tables.{processAt}
 use Rattle.tables.proofs.Words.{length-actions}
-use Rattle.places.specs.Check.{processBy, ignoredBy}
+use Rattle.soundness.specs.Check.{processBy, ignoredBy}
 use Rattle.places.proofs.Sets.{gathered-chosen}
 use Rattle.places.proofs.Endings.{free-process, live-process-at}
 use Rattle.places.proofs.process_ok.Statement.{statement}

@@ -10,7 +10,8 @@ use Rattle.limits.specs.Limits.{processPlaces}
 use Rattle.lists.specs.Lists.{all, range}
 use Rattle.lists.proofs.Loops.{range-none, range-more, range-fails}
 use Rattle.tables.specs.Tables.{processesOf}
-use Rattle.places.specs.Check.{processOkAt, processesOk, processBy, IgnoredNoted}
+use Rattle.soundness.specs.Check.{processOkAt, processesOk, processBy}
+use Rattle.places.specs.Notes.{IgnoredNoted}
 use Rattle.places.proofs.Notes.{ignored-none, ignored-more}
 use Rattle.places.proofs.processes_ok.Statement.{statement}
 use Rattle.places.proofs.processes_ok.Tie as tie

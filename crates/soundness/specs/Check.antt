@@ -1,14 +1,12 @@
 -- The test of soundness in the order in which it is made: place by place, then record by record.
--- proofs/Places and crate sound's proofs/Regrouped show that it is the rules' test.
-use Prim.Native.Nat.{ℕ, _+_, _≤_, _<_}
-use mathlib.Core.Path.{_≡_}
-use mathlib.Core.Bool.{Bool, true, not, _&&_, cond}
+-- proofs/Regrouped shows that it is the rules' test. Crates places and sound make it.
+use Prim.Native.Nat.{ℕ, _+_, _≤_}
+use mathlib.Core.Bool.{Bool, not, _&&_, cond}
 use mathlib.Core.List.{List, [], map}
-use lib.Bits.{bitAnd}
 use lib.Dec.{eqb, leb}
-use lib.ListN.{getD, set, take}
+use lib.ListN.{getD, set}
 use Rattle.limits.specs.Limits.{processPlaces, processWords, threadPlaces, threadWords, bufferRecords, recordLimit}
-use Rattle.limits.specs.Limits.{signals, sigIgn, siQueue, knownFlags}
+use Rattle.limits.specs.Limits.{siQueue}
 use Rattle.lists.specs.Lists.{all, any, count, find, pairs, range}
 use Rattle.zeros.specs.Zeros.{isNought}
 use Rattle.hints.specs.Hints.{idsOf, seek}
@@ -21,11 +19,10 @@ use Rattle.rules.specs.Signals.{standard, ignored}
 use Rattle.rules.specs.View.{View, isProcess, isThread, belongsTo, sameQueue, queueOf, processQueue, threadQueue}
 use Rattle.rules.specs.View.{inQueue, actionOf}
 use Rattle.rules.specs.Store.{Place, Store, held, freeProcess, freeThread, ofProcess, used, view}
-use Rattle.rules.specs.Sound.{isLive, ifLive, processId, threadId, zeroThread, goodId, fieldsFit, unmasked}
-use Rattle.rules.specs.Sound.{actionUnmasked, flagsKnown, killStopDefault, marksNotIgnored, nameable, restZero}
+use Rattle.rules.specs.Sound.{ifLive, processId, zeroThread, goodId, fieldsFit, unmasked}
+use Rattle.rules.specs.Sound.{actionUnmasked, flagsKnown, killStopDefault, nameable, restZero}
 use Rattle.rules.specs.Sound.{aimedAtThread, aimedAtProcess, recordNotIgnored}
 use Rattle.tables.specs.Tables.{processTo}
-use Rattle.places.specs.declared.Gathered.{Gathered}
 
 -- ---- what is pending against what is ignored
 
@@ -116,41 +113,6 @@ module _ (xs : List (Place Process)) (ys : List (Place Thread)) where
 
 unfoldable pub placesOk : (process thread : ℕ → ℕ) → List (Place Process) → List (Place Thread) → Bool
 placesOk process thread xs ys = processesOk process xs && (threadsOk thread xs ys && peopled xs ys)
-
--- ---- what is noted of the places in passing
-
--- those that it has set to ignore
-abbrev pub ignoredByChoice : Process → ℕ → Bool
-ignoredByChoice p s = eqb (actionOf p s .handler) sigIgn
-
--- what a pass over the first n actions gathers: their flags and masks put together, and the signals set to ignore
-pub record Gathers (p : Process) (n : ℕ) (g : Gathered) : Type 0 where
-  pub known : eqb (bitAnd (g .flags) knownFlags) (g .flags) ≡ all flagsKnown (take n (p .actions))
-  pub maskable : unmasked (g .masks) ≡ all actionUnmasked (take n (p .actions))
-  pub chosen : g .chosen ≡ setOf (λ s. leb s n && ignoredByChoice p s)
-
--- the ignored signals of the live processes in the first n places
-abbrev pub IgnoredNoted : List (Place Process) → (n : ℕ) → List ℕ → Type 0
-IgnoredNoted xs n notes = (i : ℕ) → i < n → isLive processId (getD xs i freeProcess) ≡ true
-    → getD notes i 0 ≡ ignoredBy (getD xs i freeProcess .holds) .0
-
--- the places of the processes of the live threads in the first n places
-abbrev pub OwnersNoted : List (Place Process) → List (Place Thread) → (n : ℕ) → List ℕ → Type 0
-OwnersNoted xs ys n notes = (i : ℕ) → i < n → isLive threadId (getD ys i freeThread) ≡ true
-    → getD notes i 0 ≡ ownerPlace (map held xs) (getD ys i freeThread)
-
--- which live processes have a thread in the first n places
-abbrev pub PeopledNoted : List (Place Process) → List (Place Thread) → (n : ℕ) → List ℕ → Type 0
-PeopledNoted xs ys n notes = (i : ℕ) → i < processPlaces → isLive processId (getD xs i freeProcess) ≡ true
-    → not (eqb (getD notes i 0) 0) ≡ any (belongsTo (getD xs i freeProcess .holds .id)) (take n (map held ys))
-
--- the same, as it is noted
-unfoldable pub peopledBy : List (Place Process) → List ℕ → ℕ → Bool
-peopledBy xs notes i = ifLive processId (λ _. not (eqb (getD notes i 0) 0)) (getD xs i freeProcess)
-
--- one note more, unless the place is free
-unfoldable pub notedAt : {A : Type 0} → (A → ℕ) → List ℕ → (at note : ℕ) → Place A → List ℕ
-notedAt id notes at note x = cond (eqb (id (x .holds)) 0) notes (set notes at note)
 
 -- ---- the records of a buffer, oldest first
 

@@ -17,7 +17,7 @@ use Rattle.rules.specs.View.{isProcess, isThread}
 use Rattle.rules.specs.Store.{Place, held}
 use Rattle.tables.specs.Tables.{processesOf, threadsOf, heldProcesses, heldThreads, processFrom, threadFrom, headed}
 use Rattle.tables.proofs.Words.{length-processesOf, length-threadsOf}
-use Rattle.places.specs.Check.{processBy, threadBy}
+use Rattle.soundness.specs.Check.{processBy, threadBy}
 
 module _ {A : Type 0} (id : A → ℕ) (xs : List (Place A)) where
   abbrev idOf : Place A → ℕ
