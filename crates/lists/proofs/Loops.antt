@@ -1,6 +1,6 @@
 -- What a loop that counts up shows of a list. The entry at i is `getD xs i d`. Assumes nothing.
 use mathlib.Core.Path.{_≡_, refl, sym, ap, ap₂, subst, _∙_}
-use mathlib.Core.Bool.{Bool, true, false, _&&_, and-true, and-false}
+use mathlib.Core.Bool.{Bool, true, false, _&&_, _||_, and-true, and-false, or-false}
 use mathlib.Core.List.{List, [], _∷_, _++_, map, append-nil, append-assoc}
 use mathlib.Core.Option.{some}
 use Prim.Native.Nat.{ℕ, zero, suc, _+_, _-_, _≤_, _<_}
@@ -67,6 +67,13 @@ module _ {A : Type 0} (f : A → Bool) (d : A) where
   unfolding any
   any-more xs i h a e =
       ap (any f) (upto xs i d h) ∙ any-append f (take i xs) (getD xs i d ∷ []) ∙ or-both a (or-both e refl)
+
+  pub any-next : (xs : List A) (i : ℕ) → i < length xs → any f (take (i + 1) xs) ≡ (any f (take i xs) || f (getD xs i d))
+  unfolding any
+  any-next xs i h =
+      ap (any f) (upto xs i d h)
+      ∙ any-append f (take i xs) (getD xs i d ∷ [])
+      ∙ ap (λ b. any f (take i xs) || b) (or-false (f (getD xs i d)))
 
   pub any-here : (xs : List A) (i : ℕ) → i < length xs → f (getD xs i d) ≡ true → any f xs ≡ true
   any-here xs i h e = split (any f xs) (λ a. a) (λ a. clash e (All-at (λ x. f x ≡ false) xs i d h (any-All f xs a)))

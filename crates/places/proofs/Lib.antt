@@ -1,3 +1,4 @@
 mod Sets
 mod Notes
 mod Endings
+mod Owners

@@ -261,7 +261,7 @@ fn thread_ok(
     }
     let process = tables::thread_field_at(ts, place, THREAD_PROCESS);
     let owner = hints::place_of(ps, PROCESS_WORDS, PROCESS_PLACES, ph, process);
-    if owner == PROCESS_PLACES {
+    if PROCESS_PLACES <= owner {
         return false;
     }
     owners[place] = owner as u16;

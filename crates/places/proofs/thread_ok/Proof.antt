@@ -1,94 +1,60 @@
 use borrow.Author.Needs.{needs}
+use native.Mathlib.Omega.{arith}
+use Rattle.soundness.specs.Check.{threadBy}
+use Rattle.places.proofs.Owners.{free-thread, orphan, live-thread}
 use Rattle.places.proofs.thread_ok.Statement.{statement}
 use Rattle.places.proofs.thread_ok.Tie as tie
-use Rattle.places.proofs.thread_ok.Reads as reads
-use Rattle.places.proofs.thread_ok.Lts as lts
-use Rattle.hints.proofs.place_of.Reads as place-of-reads
-use Rattle.places.proofs.free_thread_ok.Reads as free-thread-ok-reads
-use Rattle.places.proofs.live_thread_ok.Reads as live-thread-ok-reads
-use Rattle.tables.proofs.thread_field_at.Reads as thread-field-at-reads
 
--- src/lib.rt:256:8
-thread-field-at-requires : tie.Need-thread-field-at-requires
-thread-field-at-requires c κs = search needs
-
--- src/lib.rt:257:9
-free-thread-ok-requires : tie.Need-free-thread-ok-requires
-free-thread-ok-requires c κs = search needs
-
--- src/lib.rt:257:9
 returns : tie.Need-returns
-returns c = ?
+returns c =
+    let a = c .before .before .before .before .before .before .before .before .before .before .args in
+    free-thread (threadBy (a .th .now) (a .ts .now)) (a .ps .now) (a .ts .now) (a .place)
+    (c .before .before .thread-field-at .result) (a .owners .now) (a .peopled .now)
+    (c .before .before .thread-field-at .ensures) (c .before .if1 .taken) (c .free-thread-ok .ensures)
 
--- src/lib.rt:259:9
-thread-field-at-requires-2 : tie.Need-thread-field-at-requires-2
-thread-field-at-requires-2 c κs = search needs
-
--- src/lib.rt:260:9
 place-of-requires : tie.Need-place-of-requires
-place-of-requires c κs = search needs
+place-of-requires c κs =
+    let a = c .before .before .before .before .before .before .before .before .before .before in
+    ((search needs, search needs), a .pre .1 .0)
 
--- src/lib.rt:262:9
 returns-2 : tie.Need-returns-2
-returns-2 c = ?
+returns-2 c =
+    let f = c .before .before .before .before in
+    let a = f .before .before .before .before .before .before .before .before in
+    orphan (threadBy (a .args .th .now) (a .args .ts .now)) (a .args .ps .now) (a .args .ts .now) (a .args .place)
+    (f .thread-field-at .result) (a .args .owners .now) (a .args .peopled .now) (f .thread-field-at .ensures)
+    (a .args .ph .now) (c .before .before .thread-field-at2 .result) (c .before .place-of .result)
+    (c .before .before .before .if1 .left) (c .before .before .thread-field-at2 .ensures) (a .pre .1 .0 .1)
+    (a .pre .1 .1 .1 .1 .0) (c .before .place-of .ensures) (c .if2 .taken) (a .args .owners .now) (a .args .peopled .now)
 
--- src/lib.rt:264:21
-cast-owners : tie.Need-cast-owners
-cast-owners c = ?
-
--- src/lib.rt:264:5
-mul-owners : tie.Need-mul-owners
-mul-owners c = search needs
-
--- src/lib.rt:264:5
-slice-write-owners : tie.Need-slice-write-owners
-slice-write-owners c = search needs
-
--- src/lib.rt:265:5
-slice-write-peopled : tie.Need-slice-write-peopled
-slice-write-peopled c = ?
-
--- src/lib.rt:266:42
-mul-t14 : tie.Need-mul-t14
-mul-t14 c = ?
-
--- src/lib.rt:266:42
-shared-slice-read-t11 : tie.Need-shared-slice-read-t11
-shared-slice-read-t11 c = ?
-
--- src/lib.rt:266:5
-live-thread-ok-requires : tie.Need-live-thread-ok-requires
-live-thread-ok-requires c κs = search needs
-
--- src/lib.rt:231:1
-same-length : tie.Need-same-length
-same-length c = search needs
-
--- src/lib.rt:231:1
-same-length-2 : tie.Need-same-length-2
-same-length-2 c = search needs
-
--- src/lib.rt:231:1
 returns-3 : tie.Need-returns-3
-returns-3 c = ?
+returns-3 c =
+    let g = c .before .before .before in
+    let f = g .before .before .before in
+    let a = f .before .before .before .before .before .before .before .before in
+    live-thread (threadBy (a .args .th .now) (a .args .ts .now)) (a .args .ps .now) (a .args .ts .now) (a .args .place)
+    (f .thread-field-at .result) (a .args .owners .now) (a .args .peopled .now) (f .thread-field-at .ensures)
+    (a .args .ph .now) (g .before .thread-field-at2 .result) (g .place-of .result) (g .before .before .if1 .left)
+    (g .before .thread-field-at2 .ensures) (a .pre .1 .0 .1) (a .pre .1 .1 .1 .1 .0) (g .place-of .ensures) (omega arith)
+    (a .args .ignored .now) (a .pre .1 .1 .1 .1 .1) (c .live-thread-ok .ensures)
 
 pub thread-ok-spec : {M : Type 1} → statement M
 thread-ok-spec =
     tie.close
     (tie.spec
-    thread-field-at-requires
-    free-thread-ok-requires
+    (λ c κs. search needs)
+    (λ c κs. search needs)
     returns
-    thread-field-at-requires-2
+    (λ c κs. search needs)
     place-of-requires
     returns-2
-    cast-owners
-    mul-owners
-    slice-write-owners
-    slice-write-peopled
-    mul-t14
-    shared-slice-read-t11
-    live-thread-ok-requires
-    same-length
-    same-length-2
+    (λ c. search needs)
+    (λ c. search needs)
+    (λ c. search needs)
+    (λ c. search needs)
+    (λ c. search needs)
+    (λ c. search needs)
+    (λ c κs. search needs)
+    (λ c. search needs)
+    (λ c. search needs)
     returns-3)
