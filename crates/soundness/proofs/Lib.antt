@@ -1,2 +1,4 @@
 pub mod Disjoint
 pub mod Ids
+pub mod Places
+pub mod Regrouped
