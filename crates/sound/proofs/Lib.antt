@@ -1,10 +1,5 @@
 pub mod RecordEndings
 pub mod Marks
-pub mod Passes
-pub mod Turns
-pub mod Places
-pub mod Records
-pub mod Regrouped
 pub mod Loops
 pub mod Whole
 pub mod Facts

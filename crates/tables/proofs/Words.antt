@@ -111,7 +111,7 @@ pub length-actionTo : (a : Action) → length (actionTo a) ≡ actionWords
 unfolding actionTo
 length-actionTo a = refl
 
-process-forth : (x : Place Process) → ActionsLong x → processFrom (processTo x) ≡ x
+pub process-forth : (x : Place Process) → ActionsLong x → processFrom (processTo x) ≡ x
 unfolding processFrom processTo headed headTo
 process-forth x h =
     let e : rows actionFrom actionWords (length (x .holds .actions)) (flat actionTo (x .holds .actions))
@@ -125,7 +125,7 @@ thread-forth : (x : Place Thread) → threadFrom (threadTo x) ≡ x
 unfolding threadFrom threadTo
 thread-forth x = refl
 
-length-processTo : (x : Place Process) → ActionsLong x → length (processTo x) ≡ processWords
+pub length-processTo : (x : Place Process) → ActionsLong x → length (processTo x) ≡ processWords
 unfolding processTo headTo
 length-processTo x h =
     let e : length (flat actionTo (x .holds .actions)) ≡ length (x .holds .actions) * actionWords =

@@ -26,7 +26,7 @@ use Rattle.rules.proofs.Signals.{standard-signal}
 use Rattle.rules.proofs.Marks.{queue-same, same-comm}
 use Rattle.queue.specs.Queue.{signalsIn}
 use Rattle.queue.proofs.Signals.{eqb-comm, any-next, signals-other}
-use Rattle.places.specs.Check.{tallies, seenBy, seenSets, isFresh, bumped, noted, once}
+use Rattle.soundness.specs.Check.{tallies, seenBy, seenSets, isFresh, bumped, noted, once}
 
 -- ---- how many records each process has
 

@@ -12,16 +12,19 @@ use Rattle.types.specs.declared.Siginfo.{Siginfo}
 use Rattle.types.specs.Values.{noSiginfo}
 use Rattle.rules.specs.Types.{Process, Thread}
 use Rattle.rules.specs.View.{isProcess, isThread, threadQueue, liveProcess}
-use Rattle.rules.specs.Store.{Place, held, freeProcess, freeThread, view}
+use Rattle.rules.specs.Store.{Place, Store, held, freeProcess, freeThread, view}
 use Rattle.rules.specs.Sound.{aimedAtThread, aimedAtProcess}
 use Rattle.rules.proofs.Aimed.{thread-live, thread-process-live, thread-queue, thread-queue-one, process-live}
 use Rattle.rules.proofs.Aimed.{process-queue, process-queue-one}
 use Rattle.rules.proofs.Marks.{process-below, thread-below}
-use Rattle.places.specs.Check.{placesView, tallies, bumped, seenSets, ownQueue, isFresh, noted, once, processPlace}
-use Rattle.places.specs.Check.{threadPlace, threadRecordOk, processRecordOk, threadRecordGood, processRecordGood}
-use Rattle.places.specs.Check.{threadRecordsOk, processRecordsOk}
-use Rattle.sound.proofs.Places.{placesStore}
-use Rattle.sound.proofs.Passes.{fresh-is, seen-step, tally-step}
+use Rattle.soundness.specs.Check.{placesView, tallies, bumped, seenSets, ownQueue, isFresh, noted, once, processPlace}
+use Rattle.soundness.specs.Check.{threadPlace, threadRecordOk, processRecordOk, threadRecordGood, processRecordGood}
+use Rattle.soundness.specs.Check.{threadRecordsOk, processRecordsOk}
+use Rattle.soundness.proofs.Passes.{fresh-is, seen-step, tally-step}
+
+-- the store of the view that a record is held against
+abbrev pub placesStore : List (Place Process) → List (Place Thread) → Store
+placesStore xs ys = record { processes = xs; threads = ys; threadBuffer = []; processBuffer = [] }
 
 -- ---- any test of records: good is what is ok and not marked, and fresh what is neither marked nor met before
 

@@ -1,5 +1,5 @@
--- The records: the tests as they are made are the rules' clauses of records,
--- where the ids are distinct and free places zero. Assumes nothing.
+-- One record, and the records of a buffer: the tests as they are made pass exactly if the rules' clauses of records hold,
+-- where the ids are distinct and free places zero; and the limit. Assumes nothing.
 use Prim.Native.Nat.{ℕ, _+_, _≤_, _<_}
 use mathlib.Core.Path.{_≡_, sym, ap, ap₂, _∙_, fun-ext}
 use mathlib.Core.Bool.{Bool, true, not, _&&_, _||_, and-false}
@@ -9,9 +9,9 @@ use lib.ListN.{length, getD, length-map, List·getD-map}
 use borrow.Author.Tests.{eqb-true, le-leb, not-true}
 use native.Mathlib.Omega.{arith}
 use Rattle.limits.specs.Limits.{processPlaces, recordLimit}
-use Rattle.lists.specs.Lists.{all, count, pairs, pairsWhere}
-use Rattle.lists.proofs.Bools.{split, same-test, and-fst, and-imp, not-and}
-use Rattle.lists.proofs.Lists.{Pass, Fail, All-imp, All-any, all-same, all-and, none-count, leading-passes}
+use Rattle.lists.specs.Lists.{all, count, pairs, pairsWhere, All}
+use Rattle.lists.proofs.Bools.{split, same-test, and-fst, and-snd, and-both, and-imp, not-and}
+use Rattle.lists.proofs.Lists.{Pass, Fail, All-imp, all-All, All-all, All-any, none-count, leading-passes}
 use Rattle.lists.proofs.Lists.{pairsWhere-pairs}
 use Rattle.lists.proofs.Loops.{all-at}
 use Rattle.lists.proofs.Index.{all-each, all-below, below-all, getD-mapped}
@@ -25,13 +25,14 @@ use Rattle.rules.specs.Store.{Place, Store, held, freeProcess, freeThread, inUs
 use Rattle.rules.specs.Store.{view}
 use Rattle.rules.specs.Sound.{ifLive, ifFree, processId, threadId, zeroThread, namesLive, aimedAtThread, aimedAtProcess}
 use Rattle.rules.specs.Sound.{recordNotIgnored, isStandard, notTwice, notMarkedToo, withinLimit, limitKept}
+use Rattle.rules.proofs.ClausesByPlace.{GoodRecord}
 use Rattle.rules.proofs.Aimed.{thread-live, thread-owner, process-live, process-own}
 use Rattle.rules.proofs.Signals.{standard-is}
 use Rattle.rules.proofs.Marks.{processWith, threadWith, process-below, thread-below, process-marks, thread-marks}
-use Rattle.places.specs.Check.{tallies, seenSets, ownQueue, isFresh, once, processPlace, threadPlace, threadRecordOk}
-use Rattle.places.specs.Check.{processRecordOk, threadRecordGood, processRecordGood, threadRecordsOk, processRecordsOk}
-use Rattle.places.specs.Check.{withinAt, allWithin}
-use Rattle.sound.proofs.Passes.{fresh-marks}
+use Rattle.soundness.specs.Check.{tallies, seenSets, ownQueue, isFresh, once, processPlace, threadPlace, threadRecordOk}
+use Rattle.soundness.specs.Check.{processRecordOk, threadRecordGood, processRecordGood, threadRecordsOk, processRecordsOk}
+use Rattle.soundness.specs.Check.{withinAt, allWithin}
+use Rattle.soundness.proofs.Passes.{fresh-marks}
 
 -- ---- a standard signal is pending once
 
@@ -46,7 +47,7 @@ once-where x y =
     (λ e. rw e (and-false (standard (y .signal)) ∙ sym (and-false (standard (x .signal))))))
     ∙ not-and (standard (x .signal)) (eqb (x .signal) (y .signal) && same)
 
-pub pairs-once : (rs : List Siginfo) → pairs once rs ≡ pairsWhere isStandard notTwice rs
+pairs-once : (rs : List Siginfo) → pairs once rs ≡ pairsWhere isStandard notTwice rs
 pairs-once rs =
     ap (λ (f : Siginfo → Siginfo → Bool). pairs f rs) (fun-ext (λ x. fun-ext (λ y. once-where x y)))
     ∙ sym (pairsWhere-pairs isStandard notTwice rs)
@@ -62,7 +63,7 @@ module _ (st : Store) (r : Siginfo) where
       ap not (and-imp (standard (r .signal)) (λ t. sym (m ∙ ap (λ (a : Bool). a && b) (standard-is (r .signal) t))))
       ∙ not-and (standard (r .signal)) (markIn st (queueOf r) (r .signal))
 
-  pub thread-unmarked : aimedAtThread (view st) r ≡ true → count (isThread (r .thread)) (map held (st .threads)) ≤ 1
+  thread-unmarked : aimedAtThread (view st) r ≡ true → count (isThread (r .thread)) (map held (st .threads)) ≤ 1
       → isFresh (seenSets threadQueue (st .threads) []) (threadPlace (st .threads) r) (r .signal) ≡ notMarkedToo st r
   unfolding threadPlace
   thread-unmarked e c =
@@ -71,7 +72,7 @@ module _ (st : Store) (r : Siginfo) where
       ∙ marked-too (has (threadWith st (r .thread) .marks) (r .signal))
       (thread-marks st (queueOf r) (thread-live st r e) (r .signal) (thread-owner st r e) c)
 
-  pub process-unmarked : aimedAtProcess (view st) r ≡ true
+  process-unmarked : aimedAtProcess (view st) r ≡ true
       → count (isProcess (r .process)) (map held (st .processes)) ≤ 1
       → all (ifFree threadId zeroThread) (st .threads) ≡ true
       → isFresh (seenSets ownQueue (st .processes) []) (processPlace (st .processes) r) (r .signal) ≡ notMarkedToo st r
@@ -83,47 +84,67 @@ module _ (st : Store) (r : Siginfo) where
       (ap (λ (q : Queue). markIn st q (r .signal)) (process-own st r e)
       ∙ process-marks st (r .process) (process-live st r e) (r .signal) c z)
 
--- ---- the records of a buffer
+-- ---- one record, and the records of a buffer
 
--- what the clauses say of the records of a buffer, by the test of where they are aimed
-abbrev pub clausesOf : Store → (Siginfo → Bool) → List Siginfo → Bool
-clausesOf st aimed rs =
-    ((all aimed rs && all (recordNotIgnored (view st)) rs) && all (notMarkedToo st) rs)
-    && pairsWhere isStandard notTwice rs
+-- a test passes exactly if P holds
+abbrev pub Tells : Bool → Type 0 → Type 0
+Tells b P = (b ≡ true → P) × (P → b ≡ true)
+
+module _ (st : Store) (aims : Siginfo → Bool) where
+  -- the clauses of a record are named here alone
+  record-tells : (fresh : Bool) (r : Siginfo) → (aims r ≡ true → fresh ≡ notMarkedToo st r)
+      → Tells ((aims r && recordNotIgnored (view st) r) && fresh) (GoodRecord st aims r)
+  record-tells fresh r f =
+      (λ e.
+      let ok = and-fst (aims r && recordNotIgnored (view st) r) fresh e in
+      let aimed = and-fst (aims r) (recordNotIgnored (view st) r) ok in
+      record {
+        aimed = aimed;
+        unmarked = sym (f aimed) ∙ and-snd (aims r && recordNotIgnored (view st) r) fresh e;
+        not-ignored = and-snd (aims r) (recordNotIgnored (view st) r) ok;
+      },
+      λ g. and-both (and-both (g .aimed) (g .not-ignored)) (f (g .aimed) ∙ g .unmarked))
+
+  abbrev pub GoodRecords : List Siginfo → Type 0
+  GoodRecords rs = All (GoodRecord st aims) rs × (pairsWhere isStandard notTwice rs ≡ true)
+
+  records-tell : (good : Siginfo → Bool) → ((r : Siginfo) → Tells (good r) (GoodRecord st aims r)) → (rs : List Siginfo)
+      → Tells (all good rs && pairs once rs) (GoodRecords rs)
+  records-tell good h rs =
+      (λ e.
+      (All-imp (Pass good) (GoodRecord st aims) (λ r. h r .0) rs (all-All good rs (and-fst (all good rs) _ e)),
+      sym (pairs-once rs) ∙ and-snd (all good rs) _ e),
+      λ g.
+      and-both (All-all good rs (All-imp (GoodRecord st aims) (Pass good) (λ r. h r .1) rs (g .0)))
+      (pairs-once rs ∙ g .1))
 
 module _ (st : Store) where
-  regroup : (aimed good : Siginfo → Bool) (rs : List Siginfo)
-      → ((r : Siginfo) → good r ≡ ((aimed r && recordNotIgnored (view st) r) && notMarkedToo st r))
-      → (all good rs && pairs once rs) ≡ clausesOf st aimed rs
-  regroup aimed good rs h =
-      ap₂ (λ (a b : Bool). a && b)
-      (all-same good (λ r. (aimed r && recordNotIgnored (view st) r) && notMarkedToo st r) rs h
-      ∙ all-and (λ r. aimed r && recordNotIgnored (view st) r) (notMarkedToo st) rs
-      ∙ ap (λ (b : Bool). b && all (notMarkedToo st) rs) (all-and aimed (recordNotIgnored (view st)) rs))
-      (pairs-once rs)
+  module _ (one : (n : ℕ) → count (isThread n) (map held (st .threads)) ≤ 1) where
+    thread-record : (r : Siginfo)
+        → Tells (threadRecordGood (st .processes) (st .threads) r) (GoodRecord st (aimedAtThread (view st)) r)
+    unfolding threadRecordGood threadRecordOk aimedAtThread namesLive recordNotIgnored liveProcess liveThread theProcess
+        theThread view
+    thread-record r =
+        record-tells st (aimedAtThread (view st)) _ r (λ e. thread-unmarked st r e (one (r .thread)))
 
-  pub thread-records : (rs : List Siginfo) → ((n : ℕ) → count (isThread n) (map held (st .threads)) ≤ 1)
-      → threadRecordsOk (st .processes) (st .threads) rs ≡ clausesOf st (aimedAtThread (view st)) rs
-  unfolding threadRecordsOk threadRecordGood threadRecordOk aimedAtThread namesLive recordNotIgnored liveProcess
-      liveThread theProcess theThread view
-  thread-records rs one =
-      regroup (aimedAtThread (view st)) (threadRecordGood (st .processes) (st .threads)) rs
-      (λ r.
-      and-imp (aimedAtThread (view st) r && recordNotIgnored (view st) r)
-      (λ e. thread-unmarked st r (and-fst (aimedAtThread (view st) r) (recordNotIgnored (view st) r) e)
-      (one (r .thread))))
+    pub thread-records : (rs : List Siginfo)
+        → Tells (threadRecordsOk (st .processes) (st .threads) rs) (GoodRecords st (aimedAtThread (view st)) rs)
+    unfolding threadRecordsOk
+    thread-records =
+        records-tell st (aimedAtThread (view st)) (threadRecordGood (st .processes) (st .threads)) thread-record
 
-  pub process-records : (rs : List Siginfo) → ((n : ℕ) → count (isProcess n) (map held (st .processes)) ≤ 1)
-      → all (ifFree threadId zeroThread) (st .threads) ≡ true
-      → processRecordsOk (st .processes) rs ≡ clausesOf st (aimedAtProcess (view st)) rs
-  unfolding processRecordsOk processRecordGood processRecordOk aimedAtProcess namesLive recordNotIgnored liveProcess
-      theProcess view
-  process-records rs one z =
-      regroup (aimedAtProcess (view st)) (processRecordGood (st .processes)) rs
-      (λ r.
-      and-imp (aimedAtProcess (view st) r && recordNotIgnored (view st) r)
-      (λ e. process-unmarked st r (and-fst (aimedAtProcess (view st) r) (recordNotIgnored (view st) r) e)
-      (one (r .process)) z))
+  module _ (one : (n : ℕ) → count (isProcess n) (map held (st .processes)) ≤ 1)
+      (free : all (ifFree threadId zeroThread) (st .threads) ≡ true) where
+    process-record : (r : Siginfo)
+        → Tells (processRecordGood (st .processes) r) (GoodRecord st (aimedAtProcess (view st)) r)
+    unfolding processRecordGood processRecordOk aimedAtProcess namesLive recordNotIgnored liveProcess theProcess view
+    process-record r =
+        record-tells st (aimedAtProcess (view st)) _ r (λ e. process-unmarked st r e (one (r .process)) free)
+
+    pub process-records : (rs : List Siginfo)
+        → Tells (processRecordsOk (st .processes) rs) (GoodRecords st (aimedAtProcess (view st)) rs)
+    unfolding processRecordsOk
+    process-records = records-tell st (aimedAtProcess (view st)) (processRecordGood (st .processes)) process-record
 
 -- ---- the counts
 
