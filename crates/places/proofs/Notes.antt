@@ -84,7 +84,7 @@ one-note false notes owner i h =
 module _ (xs : List (Place Process)) (ys : List (Place Thread)) where
   pub peopled-none : PeopledNoted xs ys 0 (replicate processPlaces 0)
   unfolding any
-  peopled-none i h live = ap (λ (k : ℕ). not (eqb k 0)) (getD-replicate processPlaces 0 i 0 h)
+  peopled-none i h live = ap (λ (k : ℕ). not (eqb k 0)) (getD-replicate processPlaces i 0 0 h)
 
   module _ (place : ℕ → ℕ) (one : onePlace (map held xs)) (lx : length xs ≡ processPlaces)
       (n : ℕ) (h : n < length ys) (ok : threadOkAt place xs ys n ≡ true) where
