@@ -1,5 +1,5 @@
--- One record, and the records of a buffer: the tests as they are made pass exactly if the rules' clauses of records hold,
--- where the ids are distinct and free places zero; and the limit. Assumes nothing.
+-- One record, and the records of a buffer: the tests as they are made pass exactly if the rules' clauses of records
+-- hold, where the ids are distinct and free places zero; and the limit. Assumes nothing.
 use Prim.Native.Nat.{ℕ, _+_, _≤_, _<_}
 use mathlib.Core.Path.{_≡_, sym, ap, ap₂, _∙_, fun-ext}
 use mathlib.Core.Bool.{Bool, true, not, _&&_, _||_, and-false}
@@ -29,9 +29,9 @@ use Rattle.rules.proofs.ClausesByPlace.{GoodRecord}
 use Rattle.rules.proofs.Aimed.{thread-live, thread-owner, process-live, process-own}
 use Rattle.rules.proofs.Signals.{standard-is}
 use Rattle.rules.proofs.Marks.{processWith, threadWith, process-below, thread-below, process-marks, thread-marks}
-use Rattle.soundness.specs.Check.{tallies, seenSets, ownQueue, isFresh, once, processPlace, threadPlace, threadRecordOk}
-use Rattle.soundness.specs.Check.{processRecordOk, threadRecordGood, processRecordGood, threadRecordsOk, processRecordsOk}
-use Rattle.soundness.specs.Check.{withinAt, allWithin}
+use Rattle.soundness.specs.Check.{tallies, seenSets, ownQueue, isFresh, once, processPlace, threadPlace}
+use Rattle.soundness.specs.Check.{threadRecordOk, processRecordOk, threadRecordGood, processRecordGood}
+use Rattle.soundness.specs.Check.{threadRecordsOk, processRecordsOk, withinAt, allWithin}
 use Rattle.soundness.proofs.Passes.{fresh-marks}
 
 -- ---- a standard signal is pending once
@@ -94,29 +94,32 @@ module _ (st : Store) (aims : Siginfo → Bool) where
   -- the clauses of a record are named here alone
   record-tells : (fresh : Bool) (r : Siginfo) → (aims r ≡ true → fresh ≡ notMarkedToo st r)
       → Tells ((aims r && recordNotIgnored (view st) r) && fresh) (GoodRecord st aims r)
-  record-tells fresh r f =
-      (λ e.
-      let ok = and-fst (aims r && recordNotIgnored (view st) r) fresh e in
-      let aimed = and-fst (aims r) (recordNotIgnored (view st) r) ok in
-      record {
-        aimed = aimed;
-        unmarked = sym (f aimed) ∙ and-snd (aims r && recordNotIgnored (view st) r) fresh e;
-        not-ignored = and-snd (aims r) (recordNotIgnored (view st) r) ok;
-      },
-      λ g. and-both (and-both (g .aimed) (g .not-ignored)) (f (g .aimed) ∙ g .unmarked))
+  record-tells fresh r f = (
+    λ e.
+        let ok = and-fst (aims r && recordNotIgnored (view st) r) fresh e in
+        let aimed = and-fst (aims r) (recordNotIgnored (view st) r) ok in
+        record {
+          aimed = aimed;
+          unmarked = sym (f aimed) ∙ and-snd (aims r && recordNotIgnored (view st) r) fresh e;
+          not-ignored = and-snd (aims r) (recordNotIgnored (view st) r) ok;
+        },
+    λ g. and-both (and-both (g .aimed) (g .not-ignored)) (f (g .aimed) ∙ g .unmarked),
+  )
 
   abbrev pub GoodRecords : List Siginfo → Type 0
   GoodRecords rs = All (GoodRecord st aims) rs × (pairsWhere isStandard notTwice rs ≡ true)
 
   records-tell : (good : Siginfo → Bool) → ((r : Siginfo) → Tells (good r) (GoodRecord st aims r)) → (rs : List Siginfo)
       → Tells (all good rs && pairs once rs) (GoodRecords rs)
-  records-tell good h rs =
-      (λ e.
-      (All-imp (Pass good) (GoodRecord st aims) (λ r. h r .0) rs (all-All good rs (and-fst (all good rs) _ e)),
-      sym (pairs-once rs) ∙ and-snd (all good rs) _ e),
-      λ g.
-      and-both (All-all good rs (All-imp (GoodRecord st aims) (Pass good) (λ r. h r .1) rs (g .0)))
-      (pairs-once rs ∙ g .1))
+  records-tell good h rs = (
+    λ e. (
+      All-imp (Pass good) (GoodRecord st aims) (λ r. h r .0) rs (all-All good rs (and-fst (all good rs) _ e)),
+      sym (pairs-once rs) ∙ and-snd (all good rs) _ e,
+    ),
+    λ g.
+        and-both (All-all good rs (All-imp (GoodRecord st aims) (Pass good) (λ r. h r .1) rs (g .0)))
+        (pairs-once rs ∙ g .1),
+  )
 
 module _ (st : Store) where
   module _ (one : (n : ℕ) → count (isThread n) (map held (st .threads)) ≤ 1) where

@@ -34,8 +34,8 @@ module _ (process : ℕ → ℕ) (xs : List (Place Process)) (long : length xs �
   processes-apart =
       told-apart processId xs freeProcess process
       (λ i h l.
-      process-told process i (getD xs i freeProcess) (below-all (processOkAt process xs) processPlaces k i (omega arith))
-      l)
+      process-told process i (getD xs i freeProcess)
+      (below-all (processOkAt process xs) processPlaces k i (omega arith)) l)
 
   pub processes-one : (n : ℕ) → count (isProcess n) (map held xs) ≤ 1
   unfolding isProcess
@@ -72,53 +72,58 @@ module _ (process thread : ℕ → ℕ) (st : Store) (l : Lengths st)
 
   processes-tell : Tells (processesOk process (st .processes)) GoodProcesses
   unfolding processesOk processOkAt isProcess
-  processes-tell =
-      (λ k.
-      (All-each OwnProcess (st .processes) freeProcess
-      (λ i h.
-      process-own process i (getD (st .processes) i freeProcess)
-      (all-at actionsLong freeProcess (st .processes) i h (l .actions))
-      (below-all (processOkAt process (st .processes)) processPlaces k i (omega (arith, l .processes)))),
-      processes-apart process (st .processes) (l .processes) k),
-      λ g.
-      all-below (processOkAt process (st .processes)) processPlaces
-      (λ i h.
-      let x : Place Process = getD (st .processes) i freeProcess in
-      let inside : i < length (st .processes) = omega (arith, l .processes) in
-      process-ok process i x (All-at OwnProcess (st .processes) i freeProcess inside (g .0))
-      (λ e. by-process (x .holds .id) (one-held processId (st .processes) (g .1) (x .holds .id))
-      ∙ distinct-held processId (st .processes) freeProcess (g .1) i inside e)))
+  processes-tell = (
+    λ k. (
+      All-each OwnProcess (st .processes) freeProcess
+          (λ i h.
+          process-own process i (getD (st .processes) i freeProcess)
+          (all-at actionsLong freeProcess (st .processes) i h (l .actions))
+          (below-all (processOkAt process (st .processes)) processPlaces k i (omega (arith, l .processes)))),
+      processes-apart process (st .processes) (l .processes) k,
+    ),
+    λ g.
+        all-below (processOkAt process (st .processes)) processPlaces
+        (λ i h.
+        let x : Place Process = getD (st .processes) i freeProcess in
+        let inside : i < length (st .processes) = omega (arith, l .processes) in
+        process-ok process i x (All-at OwnProcess (st .processes) i freeProcess inside (g .0))
+        (λ e. by-process (x .holds .id) (one-held processId (st .processes) (g .1) (x .holds .id))
+        ∙ distinct-held processId (st .processes) freeProcess (g .1) i inside e)),
+  )
 
   threads-tell : Tells (threadsOk thread (st .processes) (st .threads)) GoodThreads
   unfolding threadsOk threadOkAt isThread view
-  threads-tell =
-      (λ k.
-      (All-each (GoodThread st) (st .threads) freeThread
-      (λ i h.
-      thread-good thread st i (getD (st .threads) i freeThread)
-      (below-all (threadOkAt thread (st .processes) (st .threads)) threadPlaces k i (omega (arith, l .threads)))),
-      threads-apart thread (st .processes) (st .threads) (l .threads) k),
-      λ g.
-      all-below (threadOkAt thread (st .processes) (st .threads)) threadPlaces
-      (λ i h.
-      let x : Place Thread = getD (st .threads) i freeThread in
-      let inside : i < length (st .threads) = omega (arith, l .threads) in
-      thread-ok thread st i x (All-at (GoodThread st) (st .threads) i freeThread inside (g .0))
-      (λ e. by-thread (x .holds .id) (one-held threadId (st .threads) (g .1) (x .holds .id))
-      ∙ distinct-held threadId (st .threads) freeThread (g .1) i inside e)))
+  threads-tell = (
+    λ k. (
+      All-each (GoodThread st) (st .threads) freeThread
+          (λ i h.
+          thread-good thread st i (getD (st .threads) i freeThread)
+          (below-all (threadOkAt thread (st .processes) (st .threads)) threadPlaces k i (omega (arith, l .threads)))),
+      threads-apart thread (st .processes) (st .threads) (l .threads) k,
+    ),
+    λ g.
+        all-below (threadOkAt thread (st .processes) (st .threads)) threadPlaces
+        (λ i h.
+        let x : Place Thread = getD (st .threads) i freeThread in
+        let inside : i < length (st .threads) = omega (arith, l .threads) in
+        thread-ok thread st i x (All-at (GoodThread st) (st .threads) i freeThread inside (g .0))
+        (λ e. by-thread (x .holds .id) (one-held threadId (st .threads) (g .1) (x .holds .id))
+        ∙ distinct-held threadId (st .threads) freeThread (g .1) i inside e)),
+  )
 
   peopled-tells : Tells (peopled (st .processes) (st .threads)) (HaveThreads st)
   unfolding peopled peopledAt hasThread view
-  peopled-tells =
-      (λ k.
-      All-each (Pass (ifLive processId (hasThread (view st)))) (st .processes) freeProcess
-      (λ i h.
-      below-all (peopledAt (st .processes) (st .threads)) processPlaces k i (omega (arith, l .processes))),
-      λ g.
-      all-below (peopledAt (st .processes) (st .threads)) processPlaces
-      (λ i h.
-      All-at (Pass (ifLive processId (hasThread (view st)))) (st .processes) i freeProcess
-      (omega (arith, l .processes)) g))
+  peopled-tells = (
+    λ k.
+        All-each (Pass (ifLive processId (hasThread (view st)))) (st .processes) freeProcess
+        (λ i h.
+        below-all (peopledAt (st .processes) (st .threads)) processPlaces k i (omega (arith, l .processes))),
+    λ g.
+        all-below (peopledAt (st .processes) (st .threads)) processPlaces
+        (λ i h.
+        All-at (Pass (ifLive processId (hasThread (view st)))) (st .processes) i freeProcess
+        (omega (arith, l .processes)) g),
+  )
 
   -- the records, where the places are good
   module _ (p : GoodProcesses) (t : GoodThreads) where

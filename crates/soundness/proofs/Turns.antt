@@ -17,9 +17,9 @@ use Rattle.rules.specs.Sound.{aimedAtThread, aimedAtProcess}
 use Rattle.rules.proofs.Aimed.{thread-live, thread-process-live, thread-queue, thread-queue-one, process-live}
 use Rattle.rules.proofs.Aimed.{process-queue, process-queue-one}
 use Rattle.rules.proofs.Marks.{process-below, thread-below}
-use Rattle.soundness.specs.Check.{placesView, tallies, bumped, seenSets, ownQueue, isFresh, noted, once, processPlace}
-use Rattle.soundness.specs.Check.{threadPlace, threadRecordOk, processRecordOk, threadRecordGood, processRecordGood}
-use Rattle.soundness.specs.Check.{threadRecordsOk, processRecordsOk}
+use Rattle.soundness.specs.Check.{placesView, tallies, bumped, seenSets, ownQueue, isFresh, noted, once}
+use Rattle.soundness.specs.Check.{processPlace, threadPlace, threadRecordOk, processRecordOk, threadRecordGood}
+use Rattle.soundness.specs.Check.{processRecordGood, threadRecordsOk, processRecordsOk}
 use Rattle.soundness.proofs.Passes.{fresh-is, seen-step, tally-step}
 
 -- the store of the view that a record is held against
