@@ -1,19 +1,21 @@
 -- What is noted of the places in passing, so that threads and records are held against it.
-use Prim.Native.Nat.{ℕ, _<_}
+use Prim.Native.Nat.{ℕ, _≤_, _<_}
 use mathlib.Core.Path.{_≡_}
 use mathlib.Core.Bool.{Bool, true, not, _&&_, cond}
 use mathlib.Core.List.{List, map}
 use lib.Bits.{bitAnd}
 use lib.Dec.{eqb, leb}
-use lib.ListN.{getD, set, take}
-use Rattle.limits.specs.Limits.{processPlaces, knownFlags, sigIgn}
-use Rattle.lists.specs.Lists.{all, any}
+use lib.ListN.{length, getD, set, take}
+use Rattle.limits.specs.Limits.{processPlaces, processTable, threadPlaces, threadTable, knownFlags, sigIgn}
+use Rattle.lists.specs.Lists.{all, any, count}
+use Rattle.hints.specs.Hints.{hintSlots, Hinted}
 use Rattle.sigset.specs.Set.{setOf}
 use Rattle.rules.specs.Types.{Process, Thread}
-use Rattle.rules.specs.View.{belongsTo, actionOf}
+use Rattle.rules.specs.View.{isProcess, isThread, belongsTo, actionOf}
 use Rattle.rules.specs.Store.{Place, held, freeProcess, freeThread}
 use Rattle.rules.specs.Sound.{isLive, ifLive, processId, threadId, unmasked, actionUnmasked, flagsKnown}
-use Rattle.soundness.specs.Check.{ignoredBy, ownerPlace}
+use Rattle.tables.specs.Tables.{processesOf, threadsOf, heldProcesses, heldThreads, threadAt}
+use Rattle.soundness.specs.Check.{onePlace, ignoredBy, ownerPlace}
 use Rattle.places.specs.declared.Gathered.{Gathered}
 
 -- the signals that a process has set to ignore
@@ -48,3 +50,25 @@ peopledBy xs notes i = ifLive processId (λ _. not (eqb (getD notes i 0) 0)) (ge
 -- one note more, unless the place is free
 unfoldable pub notedAt : {A : Type 0} → (A → ℕ) → List ℕ → (at note : ℕ) → Place A → List ℕ
 notedAt id notes at note x = cond (eqb (id (x .holds)) 0) notes (set notes at note)
+
+-- ---- what a record is held against, once all places are found sound
+
+-- one aimed at a process: the process by its hints, and what it ignores
+pub record ProcessesNoted (ps ph ignored : List ℕ) : Type 0 where
+  pub long : length ps ≡ processTable
+  pub hints : (length ph ≡ hintSlots) × Hinted processPlaces ph
+  pub notes : length ignored ≡ processPlaces
+  pub one : onePlace (heldProcesses ps)
+  pub ignores : IgnoredNoted (processesOf ps) processPlaces ignored
+
+-- one aimed at a thread: the thread by its hints, and the place of its process
+pub record ThreadsNoted (ps ts th ignored owners : List ℕ) : Type 0 where
+  pub long : (length ps ≡ processTable) × (length ts ≡ threadTable)
+  pub hints : (length th ≡ hintSlots) × Hinted threadPlaces th
+  pub notes : (length ignored ≡ processPlaces) × (length owners ≡ threadPlaces)
+  pub oneProcess : onePlace (heldProcesses ps)
+  pub oneThread : (n : ℕ) → count (isThread n) (heldThreads ts) ≤ 1
+  pub owned : (i : ℕ) → i < threadPlaces → isLive threadId (threadAt ts i) ≡ true
+      → any (isProcess (threadAt ts i .holds .process)) (heldProcesses ps) ≡ true
+  pub ignores : IgnoredNoted (processesOf ps) processPlaces ignored
+  pub owners : OwnersNoted (processesOf ps) (threadsOf ts) threadPlaces owners

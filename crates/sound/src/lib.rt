@@ -1,269 +1,35 @@
 // Is the store sound? One test of the four lent tables, for any words, any bytes and any lengths.
 ghost use mathlib.Core.Path.{_≡_};
-ghost use mathlib.Core.Bool.{true, _&&_, cond};
-ghost use mathlib.Core.List.{[]};
-ghost use Prim.Native.Nat.{_≤_, _<_};
-ghost use lib.ListN.{length, getD};
-ghost use Rattle.limits.specs.Limits.{processPlaces, processTable, threadPlaces, threadTable, bufferRecords};
-ghost use Rattle.limits.specs.Limits.{bufferBytes};
-ghost use Rattle.rules.specs.View.{threadQueue};
-ghost use Rattle.queue.specs.Queue.{recordsOf};
-ghost use Rattle.tables.specs.Tables.{processesOf, threadsOf, heldProcesses, processAt};
+ghost use mathlib.Core.Bool.{true};
+ghost use lib.ListN.{length};
+ghost use Rattle.limits.specs.Limits.{processTable, threadTable, bufferBytes};
+ghost use Rattle.queue.specs.Queue.{isLaid};
 ghost use Rattle.sound.specs.Lent.{soundTables, before};
-ghost use Rattle.places.specs.Check.{placesOk, tallies, seenSets, ownQueue, isFresh, isDelivered, bumped, noted};
-ghost use Rattle.places.specs.Check.{onePlace, smallCounts, processPlace, threadPlace, threadRecordOk, processRecordOk};
-ghost use Rattle.places.specs.Check.{threadRecordsOk, processRecordsOk, withinAt, allWithin, recordsOk};
-use limits::PROCESS_MARKS;
+use hints::HINT_SLOTS;
 use limits::PROCESS_PLACES;
 use limits::PROCESS_TABLE;
-use limits::RECORD_LIMIT;
-use limits::SI_QUEUE;
-use limits::THREAD_MARKS;
+use limits::PROCESS_WORDS;
 use limits::THREAD_PLACES;
-use limits::THREAD_PROCESS;
 use limits::THREAD_TABLE;
-use sigset::SigSet;
-use types::Siginfo;
+use limits::THREAD_WORDS;
 
-// ---- one record, after those before it: `counts` has how many each process has,
-//      `seen` which signals are pending in each queue
-
-fn record_not_ignored(ps: &[u64], place: usize, r: Siginfo) -> bool
-    requires { ⌜ (length (now ps) ≡ processTable) × (place < processPlaces) ⌝ }
-    ensures { λ h. ⌜ h ≡ isDelivered (processAt (now (ps .entry)) place .holds) r ⌝ }
-{
-    let s = r.signal;
-    if !decide::is_nameable(s) {
-        return false;
-    }
-    let ignored = decide::is_ignored(tables::action_at(ps, place, s), s);
-    (r.code == SI_QUEUE) & !ignored
-}
-
-// The record is counted and noted, unless its signal may be pending only once and is so already.
-fn admit(s: u32, counts: &mut [usize], place: usize, seen: &mut [u64], queue: usize) -> bool
-    requires { ⌜ (place < length (now counts)) × (queue < length (now seen)) ⌝ }
-    requires { ⌜ getD (now counts) place 0 ≤ bufferRecords ⌝ }
-    ensures { λ h. ⌜ h ≡ isFresh (now (seen .entry)) queue s ⌝ }
-    ensures { λ h. ⌜ now (counts .exit) ≡ cond h (bumped (now (counts .entry)) place) (now (counts .entry)) ⌝ }
-    ensures { λ h. ⌜ now (seen .exit) ≡ cond h (noted (now (seen .entry)) queue s) (now (seen .entry)) ⌝ }
-{
-    let before = SigSet(seen[queue]);
-    if decide::is_standard(s) & SigSet::has(before, s) {
-        return false;
-    }
-    counts[place] = counts[place] + 1;
-    let after = SigSet::union(before, SigSet::of_signal(s));
-    seen[queue] = after.0;
-    true
-}
-
-// Is a record of the thread buffer well aimed and not_ignored? Its process and its thread were looked up before.
-fn thread_record_ok(ps: &[u64], ts: &[u64], r: Siginfo, place: usize, queue: usize) -> bool
+// Places, then records, of tables of the right lengths, with nothing behind their records.
+fn contents_ok(ps: &[u64], ts: &[u64], tb: &[u8], pb: &[u8]) -> bool
     requires { ⌜ (length (now ps) ≡ processTable) × (length (now ts) ≡ threadTable) ⌝ }
-    requires { ⌜ (place ≡ processPlace (processesOf (now ps)) r) × (queue ≡ threadPlace (threadsOf (now ts)) r) ⌝ }
-    ensures { λ h. ⌜ h ≡ threadRecordOk (processesOf (now (ps .entry))) (threadsOf (now (ts .entry))) r ⌝ }
+    requires { ⌜ (isLaid (now tb) ≡ true) × (isLaid (now pb) ≡ true) ⌝ }
+    ensures { λ r. ⌜ r ≡ soundTables (before ps ts tb pb) ⌝ }
 {
-    if (place == PROCESS_PLACES) | (queue == THREAD_PLACES) {
+    let mut ph = [0u16; HINT_SLOTS];
+    let mut th = [0u16; HINT_SLOTS];
+    let mut ignored = [0u64; PROCESS_PLACES];
+    let mut owners = [0u16; THREAD_PLACES];
+    hints::fill(ps, PROCESS_WORDS, PROCESS_PLACES, &mut ph);
+    hints::fill(ts, THREAD_WORDS, THREAD_PLACES, &mut th);
+    if !places::places_ok(ps, ts, &ph, &th, &mut ignored, &mut owners) {
         return false;
     }
-    if tables::thread_field_at(ts, queue, THREAD_PROCESS) != r.process as u64 {
-        return false;
-    }
-    record_not_ignored(ps, place, r)
+    records::records_ok(ps, ts, &ph, &th, &ignored, &owners, tb, pb)
 }
-
-fn thread_record(ps: &[u64], ts: &[u64], r: Siginfo, counts: &mut [usize], seen: &mut [u64]) -> bool
-    requires { ⌜ (length (now ps) ≡ processTable) × (length (now ts) ≡ threadTable) ⌝ }
-    requires { ⌜ (length (now counts) ≡ processPlaces) × (length (now seen) ≡ threadPlaces) ⌝ }
-    requires { ⌜ smallCounts (now counts) ⌝ }
-    ensures { λ h. ⌜ h ≡ (threadRecordOk (processesOf (now (ps .entry))) (threadsOf (now (ts .entry))) r
-        && isFresh (now (seen .entry)) (threadPlace (threadsOf (now (ts .entry))) r) (r .signal)) ⌝ }
-    ensures { λ h. ⌜ now (counts .exit)
-        ≡ cond h (bumped (now (counts .entry)) (processPlace (processesOf (now (ps .entry))) r))
-        (now (counts .entry)) ⌝ }
-    ensures { λ h. ⌜ now (seen .exit)
-        ≡ cond h (noted (now (seen .entry)) (threadPlace (threadsOf (now (ts .entry))) r) (r .signal))
-        (now (seen .entry)) ⌝ }
-{
-    let place = tables::find_process(ps, r.process as u64);
-    let queue = tables::find_thread(ts, r.thread as u64);
-    if !thread_record_ok(ps, ts, r, place, queue) {
-        return false;
-    }
-    admit(r.signal, counts, place, seen, queue)
-}
-
-fn process_record_ok(ps: &[u64], r: Siginfo, place: usize) -> bool
-    requires { ⌜ (length (now ps) ≡ processTable) × (place ≡ processPlace (processesOf (now ps)) r) ⌝ }
-    ensures { λ h. ⌜ h ≡ processRecordOk (processesOf (now (ps .entry))) r ⌝ }
-{
-    if (place == PROCESS_PLACES) | (r.thread != 0) {
-        return false;
-    }
-    record_not_ignored(ps, place, r)
-}
-
-fn process_record(ps: &[u64], r: Siginfo, counts: &mut [usize], seen: &mut [u64]) -> bool
-    requires { ⌜ length (now ps) ≡ processTable ⌝ }
-    requires { ⌜ (length (now counts) ≡ processPlaces) × (length (now seen) ≡ processPlaces) ⌝ }
-    requires { ⌜ smallCounts (now counts) ⌝ }
-    ensures { λ h. ⌜ h ≡ (processRecordOk (processesOf (now (ps .entry))) r
-        && isFresh (now (seen .entry)) (processPlace (processesOf (now (ps .entry))) r) (r .signal)) ⌝ }
-    ensures { λ h. ⌜ now (counts .exit)
-        ≡ cond h (bumped (now (counts .entry)) (processPlace (processesOf (now (ps .entry))) r))
-        (now (counts .entry)) ⌝ }
-    ensures { λ h. ⌜ now (seen .exit)
-        ≡ cond h (noted (now (seen .entry)) (processPlace (processesOf (now (ps .entry))) r) (r .signal))
-        (now (seen .entry)) ⌝ }
-{
-    let place = tables::find_process(ps, r.process as u64);
-    if !process_record_ok(ps, r, place) {
-        return false;
-    }
-    admit(r.signal, counts, place, seen, place)
-}
-
-// ---- all records
-
-// Before the first record, what is pending in a queue is its marks.
-fn thread_marks(ts: &[u64], seen: &mut [u64])
-    requires { ⌜ (length (now ts) ≡ threadTable) × (length (now seen) ≡ threadPlaces) ⌝ }
-    ensures { λ _. ⌜ now (seen .exit) ≡ seenSets threadQueue (threadsOf (now (ts .entry))) [] ⌝ }
-{
-    let mut i = 0;
-    while i < THREAD_PLACES {
-        seen[i] = tables::thread_field_at(ts, i, THREAD_MARKS);
-        i += 1;
-    }
-}
-
-fn process_marks(ps: &[u64], seen: &mut [u64])
-    requires { ⌜ (length (now ps) ≡ processTable) × (length (now seen) ≡ processPlaces) ⌝ }
-    ensures { λ _. ⌜ now (seen .exit) ≡ seenSets ownQueue (processesOf (now (ps .entry))) [] ⌝ }
-{
-    let mut i = 0;
-    while i < PROCESS_PLACES {
-        seen[i] = tables::field_at(ps, i, PROCESS_MARKS);
-        i += 1;
-    }
-}
-
-// Are the records of the thread buffer as they must be? If so, they are counted.
-fn thread_records(ps: &[u64], ts: &[u64], b: &[u8], counts: &mut [usize], seen: &mut [u64]) -> bool
-    requires { ⌜ (length (now ps) ≡ processTable)
-        × ((length (now ts) ≡ threadTable) × (length (now b) ≡ bufferBytes)) ⌝ }
-    requires { ⌜ placesOk (processesOf (now ps)) (threadsOf (now ts)) ≡ true ⌝ }
-    requires { ⌜ now counts ≡ tallies (heldProcesses (now ps)) [] ⌝ }
-    requires { ⌜ now seen ≡ seenSets threadQueue (threadsOf (now ts)) [] ⌝ }
-    ensures { λ h. ⌜ h ≡ threadRecordsOk (processesOf (now (ps .entry))) (threadsOf (now (ts .entry)))
-        (recordsOf (now (b .entry))) ⌝ }
-    ensures { λ h.
-        ⌜ (h ≡ true → now (counts .exit) ≡ tallies (heldProcesses (now (ps .entry))) (recordsOf (now (b .entry)))) ⌝ }
-{
-    let n = queue::used(b);
-    let mut i = 0;
-    while i < n {
-        if !thread_record(ps, ts, siginfo::read(b, i), counts, seen) {
-            return false;
-        }
-        i += 1;
-    }
-    true
-}
-
-fn process_records(ps: &[u64], b: &[u8], counts: &mut [usize], seen: &mut [u64]) -> bool
-    requires { ⌜ (length (now ps) ≡ processTable) × (length (now b) ≡ bufferBytes) ⌝ }
-    requires { ⌜ onePlace (heldProcesses (now ps)) ⌝ }
-    requires { ⌜ now counts ≡ tallies (heldProcesses (now ps)) [] ⌝ }
-    requires { ⌜ now seen ≡ seenSets ownQueue (processesOf (now ps)) [] ⌝ }
-    ensures { λ h. ⌜ h ≡ processRecordsOk (processesOf (now (ps .entry))) (recordsOf (now (b .entry))) ⌝ }
-    ensures { λ h.
-        ⌜ (h ≡ true → now (counts .exit) ≡ tallies (heldProcesses (now (ps .entry))) (recordsOf (now (b .entry)))) ⌝ }
-{
-    let n = queue::used(b);
-    let mut i = 0;
-    while i < n {
-        if !process_record(ps, siginfo::read(b, i), counts, seen) {
-            return false;
-        }
-        i += 1;
-    }
-    true
-}
-
-fn thread_buffer_ok(ps: &[u64], ts: &[u64], b: &[u8], counts: &mut [usize]) -> bool
-    requires { ⌜ (length (now ps) ≡ processTable)
-        × ((length (now ts) ≡ threadTable) × (length (now b) ≡ bufferBytes)) ⌝ }
-    requires { ⌜ placesOk (processesOf (now ps)) (threadsOf (now ts)) ≡ true ⌝ }
-    requires { ⌜ now counts ≡ tallies (heldProcesses (now ps)) [] ⌝ }
-    ensures { λ h. ⌜ h ≡ threadRecordsOk (processesOf (now (ps .entry))) (threadsOf (now (ts .entry)))
-        (recordsOf (now (b .entry))) ⌝ }
-    ensures { λ h.
-        ⌜ (h ≡ true → now (counts .exit) ≡ tallies (heldProcesses (now (ps .entry))) (recordsOf (now (b .entry)))) ⌝ }
-{
-    let mut seen = [0u64; THREAD_PLACES];
-    thread_marks(ts, &mut seen);
-    thread_records(ps, ts, b, counts, &mut seen)
-}
-
-fn process_buffer_ok(ps: &[u64], b: &[u8], counts: &mut [usize]) -> bool
-    requires { ⌜ (length (now ps) ≡ processTable) × (length (now b) ≡ bufferBytes) ⌝ }
-    requires { ⌜ onePlace (heldProcesses (now ps)) ⌝ }
-    requires { ⌜ now counts ≡ tallies (heldProcesses (now ps)) [] ⌝ }
-    ensures { λ h. ⌜ h ≡ processRecordsOk (processesOf (now (ps .entry))) (recordsOf (now (b .entry))) ⌝ }
-    ensures { λ h.
-        ⌜ (h ≡ true → now (counts .exit) ≡ tallies (heldProcesses (now (ps .entry))) (recordsOf (now (b .entry)))) ⌝ }
-{
-    let mut seen = [0u64; PROCESS_PLACES];
-    process_marks(ps, &mut seen);
-    process_records(ps, b, counts, &mut seen)
-}
-
-fn within_at(cs: &[usize], ds: &[usize], i: usize) -> bool
-    requires { ⌜ (i < length (now cs)) × (i < length (now ds)) ⌝ }
-    ensures { λ h. ⌜ h ≡ withinAt (now (cs .entry)) (now (ds .entry)) i ⌝ }
-{
-    if RECORD_LIMIT < cs[i] {
-        return false;
-    }
-    ds[i] <= RECORD_LIMIT - cs[i]
-}
-
-// Has no process more records than it may, both buffers counted in?
-fn all_within(cs: &[usize], ds: &[usize]) -> bool
-    requires { ⌜ (length (now cs) ≡ processPlaces) × (length (now ds) ≡ processPlaces) ⌝ }
-    ensures { λ h. ⌜ h ≡ allWithin (now (cs .entry)) (now (ds .entry)) ⌝ }
-{
-    let mut i = 0;
-    while i < PROCESS_PLACES {
-        if !within_at(cs, ds, i) {
-            return false;
-        }
-        i += 1;
-    }
-    true
-}
-
-fn records_ok(ps: &[u64], ts: &[u64], tb: &[u8], pb: &[u8]) -> bool
-    requires { ⌜ (length (now ps) ≡ processTable) × (length (now ts) ≡ threadTable) ⌝ }
-    requires { ⌜ (length (now tb) ≡ bufferBytes) × (length (now pb) ≡ bufferBytes) ⌝ }
-    requires { ⌜ placesOk (processesOf (now ps)) (threadsOf (now ts)) ≡ true ⌝ }
-    ensures { λ h. ⌜ h ≡ recordsOk (processesOf (now (ps .entry))) (threadsOf (now (ts .entry)))
-        (recordsOf (now (tb .entry))) (recordsOf (now (pb .entry))) ⌝ }
-{
-    let mut to_threads = [0usize; PROCESS_PLACES];
-    let mut to_processes = [0usize; PROCESS_PLACES];
-    if !thread_buffer_ok(ps, ts, tb, &mut to_threads) {
-        return false;
-    }
-    if !process_buffer_ok(ps, pb, &mut to_processes) {
-        return false;
-    }
-    all_within(&to_threads, &to_processes)
-}
-
-// ---- the store
 
 // Is the store sound? Any words, any bytes and any lengths are answered.
 pub fn sound(ps: &[u64], ts: &[u64], tb: &[u8], pb: &[u8]) -> bool
@@ -278,10 +44,7 @@ pub fn sound(ps: &[u64], ts: &[u64], tb: &[u8], pb: &[u8]) -> bool
     if !queue::is_laid(pb) {
         return false;
     }
-    if !places::places_ok(ps, ts) {
-        return false;
-    }
-    records_ok(ps, ts, tb, pb)
+    contents_ok(ps, ts, tb, pb)
 }
 
 // The same for a host that links it.

@@ -117,8 +117,8 @@ placesOk process thread xs ys = processesOk process xs && (threadsOk thread xs y
 -- ---- the records of a buffer, oldest first
 
 -- a record is queued, names a signal that it may, and is not ignored by its process
-unfoldable pub isDelivered : Process → Siginfo → Bool
-isDelivered p r = nameable (r .signal) && (eqb (r .code) siQueue && not (ignored (actionOf p (r .signal)) (r .signal)))
+unfoldable pub isDelivered : (ignores : SigSet) → Siginfo → Bool
+isDelivered ignores r = nameable (r .signal) && (eqb (r .code) siQueue && not (has ignores (r .signal)))
 
 -- no two places have one process
 abbrev pub onePlace : List Process → Type 0

@@ -6,10 +6,10 @@ use native.Mathlib.Omega.{arith}
 use lib.ListN.{length}
 use Rattle.queue.specs.Queue.{recordsOf}
 use Rattle.queue.proofs.Buffer.{length-recordsOf}
-use Rattle.sound.proofs.Loops.{ProcessPass, process-start, process-ready, process-fails, process-next}
-use Rattle.sound.proofs.Loops.{process-end}
-use Rattle.sound.proofs.process_records.Statement.{statement}
-use Rattle.sound.proofs.process_records.Tie as tie
+use Rattle.records.proofs.Loops.{ProcessPass, process-start, process-ready, process-fails, process-next}
+use Rattle.records.proofs.Loops.{process-end}
+use Rattle.records.proofs.process_records.Statement.{statement}
+use Rattle.records.proofs.process_records.Tie as tie
 
 abbrev Inv-loop : tie.InvT-loop
 Inv-loop ps b counts₀ seen₀ n i₀ counts seen i =

@@ -9,10 +9,10 @@ use Rattle.lists.proofs.Loops.{filled, filled-none}
 use Rattle.rules.specs.Store.{freeProcess}
 use Rattle.tables.specs.Tables.{processesOf, headTo}
 use Rattle.tables.proofs.Words.{length-processesOf}
-use Rattle.places.specs.Check.{seenBy, ownQueue}
-use Rattle.sound.proofs.Marks.{marks-more, marks-done}
-use Rattle.sound.proofs.process_marks.Statement.{statement}
-use Rattle.sound.proofs.process_marks.Tie as tie
+use Rattle.soundness.specs.Check.{seenBy, ownQueue}
+use Rattle.records.proofs.Marks.{marks-more, marks-done}
+use Rattle.records.proofs.process_marks.Statement.{statement}
+use Rattle.records.proofs.process_marks.Tie as tie
 
 abbrev Inv-loop : tie.InvT-loop
 Inv-loop ps seen₀ i₀ seen i =

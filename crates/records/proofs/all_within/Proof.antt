@@ -8,9 +8,9 @@ use native.Mathlib.Omega.{arith}
 use Rattle.limits.specs.Limits.{processPlaces}
 use Rattle.lists.specs.Lists.{all, range}
 use Rattle.lists.proofs.Loops.{range-none, range-more, range-fails}
-use Rattle.places.specs.Check.{withinAt, allWithin}
-use Rattle.sound.proofs.all_within.Statement.{statement}
-use Rattle.sound.proofs.all_within.Tie as tie
+use Rattle.soundness.specs.Check.{withinAt, allWithin}
+use Rattle.records.proofs.all_within.Statement.{statement}
+use Rattle.records.proofs.all_within.Tie as tie
 
 abbrev Inv-loop : tie.InvT-loop
 Inv-loop cs ds i₀ i = (i ≤ processPlaces) × (all (withinAt cs ds) (range 0 i) ≡ true)

@@ -1,11 +1,11 @@
 use mathlib.Core.Path.{refl, sym, _∙_}
 use borrow.Author.Tests.{not-true, not-false}
 use Rattle.lists.proofs.Bools.{and-left}
-use Rattle.places.specs.Check.{processPlace}
-use Rattle.sound.proofs.RecordEndings.{process-counted, admitted}
+use Rattle.soundness.specs.Check.{processPlace}
+use Rattle.records.proofs.RecordEndings.{process-counted, admitted}
 use borrow.Author.Needs.{needs}
-use Rattle.sound.proofs.process_record.Statement.{statement}
-use Rattle.sound.proofs.process_record.Tie as tie
+use Rattle.records.proofs.process_record.Statement.{statement}
+use Rattle.records.proofs.process_record.Tie as tie
 
 process-record-ok-requires : tie.Need-process-record-ok-requires
 unfolding processPlace

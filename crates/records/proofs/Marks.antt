@@ -13,7 +13,7 @@ use Rattle.sigset.specs.Set.{has, setOf, union}
 use Rattle.sigset.proofs.Laws.{has-set, is-set}
 use Rattle.rules.specs.Types.{Queue}
 use Rattle.rules.specs.Store.{Place}
-use Rattle.places.specs.Check.{seenBy, seenSets}
+use Rattle.soundness.specs.Check.{seenBy, seenSets}
 
 module _ {A : Type 0} (queue : A → Queue) where
   pub marks-only : (x : Place A) → x .marks .0 < 2 ^ signals → seenBy queue [] x ≡ x .marks .0

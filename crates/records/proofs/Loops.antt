@@ -21,12 +21,12 @@ use Rattle.queue.specs.Queue.{recordsOf}
 use Rattle.queue.proofs.Buffer.{length-recordsOf, record-read}
 use Rattle.tables.specs.Tables.{processesOf, threadsOf, heldProcesses}
 use Rattle.tables.proofs.Words.{length-processesOf, length-threadsOf, length-heldProcesses}
-use Rattle.places.specs.Check.{placesOk, tallies, seenBy, seenSets, ownQueue, isFresh, bumped, noted, smallCounts}
-use Rattle.places.specs.Check.{onePlace, processPlace, threadPlace, threadRecordOk, processRecordOk, threadRecordsOk}
-use Rattle.places.specs.Check.{processRecordsOk}
-use Rattle.sound.proofs.Passes.{tally-bound}
-use Rattle.sound.proofs.Turns as turn
-use Rattle.sound.proofs.Regrouped.{places-one-process, places-one-thread}
+use Rattle.soundness.specs.Check.{placesOk, tallies, seenBy, seenSets, ownQueue, isFresh, bumped, noted, smallCounts}
+use Rattle.soundness.specs.Check.{onePlace, processPlace, threadPlace, threadRecordOk, processRecordOk, threadRecordsOk}
+use Rattle.soundness.specs.Check.{processRecordsOk}
+use Rattle.soundness.proofs.Passes.{tally-bound}
+use Rattle.soundness.proofs.Turns as turn
+use Rattle.soundness.proofs.Regrouped.{places-one-process, places-one-thread}
 
 -- what was read is the record at i
 this-record : (b : List ℕ) (i : ℕ) (r : Siginfo) → i < length (recordsOf b) → r ≡ siginfoOf (row recordBytes b i)

@@ -10,10 +10,10 @@ use Rattle.rules.specs.View.{threadQueue}
 use Rattle.rules.specs.Store.{freeThread}
 use Rattle.tables.specs.Tables.{threadsOf, threadTo}
 use Rattle.tables.proofs.Words.{length-threadsOf}
-use Rattle.places.specs.Check.{seenBy}
-use Rattle.sound.proofs.Marks.{marks-more, marks-done}
-use Rattle.sound.proofs.thread_marks.Statement.{statement}
-use Rattle.sound.proofs.thread_marks.Tie as tie
+use Rattle.soundness.specs.Check.{seenBy}
+use Rattle.records.proofs.Marks.{marks-more, marks-done}
+use Rattle.records.proofs.thread_marks.Statement.{statement}
+use Rattle.records.proofs.thread_marks.Tie as tie
 
 abbrev Inv-loop : tie.InvT-loop
 Inv-loop ts seen₀ i₀ seen i =

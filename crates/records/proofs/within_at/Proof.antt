@@ -1,7 +1,7 @@
 use Rattle.places.proofs.Endings.{over, room-left}
 use borrow.Author.Needs.{needs}
-use Rattle.sound.proofs.within_at.Statement.{statement}
-use Rattle.sound.proofs.within_at.Tie as tie
+use Rattle.records.proofs.within_at.Statement.{statement}
+use Rattle.records.proofs.within_at.Tie as tie
 
 returns : tie.Need-returns
 returns c =

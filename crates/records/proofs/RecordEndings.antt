@@ -21,9 +21,9 @@ use Rattle.rules.proofs.Marks.{first-held}
 use Rattle.rules.proofs.Aimed.{thread-live, thread-process-live, process-live}
 use Rattle.tables.specs.Tables.{processesOf, threadsOf, heldProcesses, heldThreads, processAt, threadAt, threadTo}
 use Rattle.tables.proofs.Words.{length-heldProcesses, length-heldThreads}
-use Rattle.sound.proofs.Places.{placesStore}
-use Rattle.places.specs.Check.{isDelivered, isFresh, bumped, noted, placesView, processPlace, threadPlace}
-use Rattle.places.specs.Check.{threadRecordOk, processRecordOk}
+use Rattle.soundness.proofs.Turns.{placesStore}
+use Rattle.soundness.specs.Check.{isDelivered, isFresh, bumped, noted, placesView, processPlace, threadPlace}
+use Rattle.soundness.specs.Check.{threadRecordOk, processRecordOk}
 
 -- ---- the shape of the two tests: code, signal, live process, where it is aimed, not ignored
 

@@ -6,9 +6,9 @@ use native.Mathlib.Omega.{arith}
 use lib.ListN.{length}
 use Rattle.queue.specs.Queue.{recordsOf}
 use Rattle.queue.proofs.Buffer.{length-recordsOf}
-use Rattle.sound.proofs.Loops.{ThreadPass, thread-start, thread-ready, thread-fails, thread-next, thread-end}
-use Rattle.sound.proofs.thread_records.Statement.{statement}
-use Rattle.sound.proofs.thread_records.Tie as tie
+use Rattle.records.proofs.Loops.{ThreadPass, thread-start, thread-ready, thread-fails, thread-next, thread-end}
+use Rattle.records.proofs.thread_records.Statement.{statement}
+use Rattle.records.proofs.thread_records.Tie as tie
 
 abbrev Inv-loop : tie.InvT-loop
 Inv-loop ps ts b counts₀ seen₀ n i₀ counts seen i =

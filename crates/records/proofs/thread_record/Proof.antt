@@ -1,11 +1,11 @@
 use mathlib.Core.Path.{refl, sym, _∙_}
 use borrow.Author.Tests.{not-true, not-false}
 use Rattle.lists.proofs.Bools.{and-left}
-use Rattle.places.specs.Check.{processPlace, threadPlace}
-use Rattle.sound.proofs.RecordEndings.{thread-counted, thread-noted, admitted}
+use Rattle.soundness.specs.Check.{processPlace, threadPlace}
+use Rattle.records.proofs.RecordEndings.{thread-counted, thread-noted, admitted}
 use borrow.Author.Needs.{needs}
-use Rattle.sound.proofs.thread_record.Statement.{statement}
-use Rattle.sound.proofs.thread_record.Tie as tie
+use Rattle.records.proofs.thread_record.Statement.{statement}
+use Rattle.records.proofs.thread_record.Tie as tie
 
 thread-record-ok-requires : tie.Need-thread-record-ok-requires
 unfolding processPlace threadPlace

@@ -3,11 +3,11 @@ use borrow.Author.Tests.{not-true, not-false}
 use Rattle.queue.specs.Queue.{recordsOf}
 use Rattle.tables.specs.Tables.{processesOf, threadsOf}
 use Rattle.tables.proofs.Words.{length-processesOf, length-threadsOf}
-use Rattle.sound.proofs.Regrouped.{places-one-process}
-use Rattle.sound.proofs.Whole.{zero-counts, threads-fail, processes-fail, both-counted}
+use Rattle.soundness.proofs.Regrouped.{places-one-process}
+use Rattle.records.proofs.Whole.{zero-counts, threads-fail, processes-fail, both-counted}
 use borrow.Author.Needs.{needs}
-use Rattle.sound.proofs.records_ok.Statement.{statement}
-use Rattle.sound.proofs.records_ok.Tie as tie
+use Rattle.records.proofs.records_ok.Statement.{statement}
+use Rattle.records.proofs.records_ok.Tie as tie
 
 thread-buffer-ok-requires : tie.Need-thread-buffer-ok-requires
 thread-buffer-ok-requires c κs =

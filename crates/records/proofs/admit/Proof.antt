@@ -2,11 +2,11 @@ use mathlib.Core.Path.{_≡_, refl, ap, _∙_}
 use lib.ListN.{getD, set}
 use Rattle.sigset.specs.declared.SigSet.{SigSet}
 use Rattle.sigset.specs.Set.{bits, union, ofSignal}
-use Rattle.places.specs.Check.{bumped, noted}
+use Rattle.soundness.specs.Check.{bumped, noted}
 use Rattle.places.proofs.Endings.{stale, fresh}
 use borrow.Author.Needs.{needs}
-use Rattle.sound.proofs.admit.Statement.{statement}
-use Rattle.sound.proofs.admit.Tie as tie
+use Rattle.records.proofs.admit.Statement.{statement}
+use Rattle.records.proofs.admit.Tie as tie
 
 returns : tie.Need-returns
 returns c =
