@@ -71,4 +71,4 @@ pub record ThreadsNoted (ps ts th ignored owners : List ℕ) : Type 0 where
   pub owned : (i : ℕ) → i < threadPlaces → isLive threadId (threadAt ts i) ≡ true
       → any (isProcess (threadAt ts i .holds .process)) (heldProcesses ps) ≡ true
   pub ignores : IgnoredNoted (processesOf ps) processPlaces ignored
-  pub owners : OwnersNoted (processesOf ps) (threadsOf ts) threadPlaces owners
+  pub owner : OwnersNoted (processesOf ps) (threadsOf ts) threadPlaces owners

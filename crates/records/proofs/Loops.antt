@@ -15,18 +15,17 @@ use Rattle.types.specs.declared.Siginfo.{Siginfo}
 use Rattle.types.specs.Values.{noSiginfo}
 use Rattle.siginfo.specs.Bytes.{siginfoOf}
 use Rattle.rules.specs.Types.{Process}
-use Rattle.rules.specs.View.{threadQueue}
+use Rattle.rules.specs.View.{isThread, threadQueue}
 use Rattle.rules.specs.Store.{ofProcess}
 use Rattle.queue.specs.Queue.{recordsOf}
 use Rattle.queue.proofs.Buffer.{length-recordsOf, record-read}
-use Rattle.tables.specs.Tables.{processesOf, threadsOf, heldProcesses}
+use Rattle.tables.specs.Tables.{processesOf, threadsOf, heldProcesses, heldThreads}
 use Rattle.tables.proofs.Words.{length-processesOf, length-threadsOf, length-heldProcesses}
-use Rattle.soundness.specs.Check.{placesOk, tallies, seenBy, seenSets, ownQueue, isFresh, bumped, noted, smallCounts}
+use Rattle.soundness.specs.Check.{tallies, seenBy, seenSets, ownQueue, isFresh, bumped, noted, smallCounts}
 use Rattle.soundness.specs.Check.{onePlace, processPlace, threadPlace, threadRecordOk, processRecordOk, threadRecordsOk}
 use Rattle.soundness.specs.Check.{processRecordsOk}
 use Rattle.soundness.proofs.Passes.{tally-bound}
 use Rattle.soundness.proofs.Turns as turn
-use Rattle.soundness.proofs.Regrouped.{places-one-process, places-one-thread}
 
 -- what was read is the record at i
 this-record : (b : List ℕ) (i : ℕ) (r : Siginfo) → i < length (recordsOf b) → r ≡ siginfoOf (row recordBytes b i)
@@ -126,21 +125,20 @@ module _ (ps ts b : List ℕ) where
         λ f. clash f refl,
       )
 
-      pub thread-next : (counts′ seen′ : List ℕ) → placesOk (processesOf ps) (threadsOf ts) ≡ true → h ≡ true
+      pub thread-next : (counts′ seen′ : List ℕ) → onePlace (heldProcesses ps)
+          → ((n : ℕ) → count (isThread n) (heldThreads ts) ≤ 1) → h ≡ true
           → counts′ ≡ cond h (bumped counts (processPlace (processesOf ps) r)) counts
           → seen′ ≡ cond h (noted seen (threadPlace (threadsOf ts) r) (r .signal)) seen
           → ThreadPass counts′ seen′ (i + 1)
-      thread-next counts′ seen′ places y ec es =
+      thread-next counts′ seen′ one single y ec es =
           let xs = processesOf ps in
           let ys = threadsOf ts in
           let ok = and-fst (threadRecordOk xs ys r) (isFresh seen (threadPlace ys r) (r .signal)) (sym he ∙ y) in
           let new = and-snd (threadRecordOk xs ys r) (isFresh seen (threadPlace ys r) (r .signal)) (sym he ∙ y) in
           one-more ps (seenSets threadQueue ys) (threadRecordsOk xs ys) b counts seen i k counts′ seen′
           (processPlace xs r) (threadPlace ys r) (r .signal) y ec es
-          (turn.thread-tally xs ys (recordsOf b) i r l (this-record b i r l e) ok
-          (places-one-process xs ys places (length-processesOf ps) (length-threadsOf ts) (r .process)))
-          (turn.thread-step xs ys (recordsOf b) i r l (this-record b i r l e) ok
-          (places-one-thread xs ys places (length-processesOf ps) (length-threadsOf ts) (r .thread)))
+          (turn.thread-tally xs ys (recordsOf b) i r l (this-record b i r l e) ok (one (r .process)))
+          (turn.thread-step xs ys (recordsOf b) i r l (this-record b i r l e) ok (single (r .thread)))
           (turn.thread-more xs ys (recordsOf b) i r l (this-record b i r l e) ok (k .passed) (sym fresh-thread ∙ new))
 
 -- ---- the process buffer

@@ -1,5 +1,2 @@
-pub mod RecordEndings
-pub mod Marks
-pub mod Loops
 pub mod Whole
 pub mod Facts

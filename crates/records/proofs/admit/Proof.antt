@@ -3,7 +3,7 @@ use lib.ListN.{getD, set}
 use Rattle.sigset.specs.declared.SigSet.{SigSet}
 use Rattle.sigset.specs.Set.{bits, union, ofSignal}
 use Rattle.soundness.specs.Check.{bumped, noted}
-use Rattle.places.proofs.Endings.{stale, fresh}
+use Rattle.records.proofs.Endings.{stale, fresh}
 use borrow.Author.Needs.{needs}
 use Rattle.records.proofs.admit.Statement.{statement}
 use Rattle.records.proofs.admit.Tie as tie

@@ -1,57 +1,95 @@
 use mathlib.Core.Path.{refl, sym, _∙_}
-use borrow.Author.Tests.{not-true, not-false}
-use Rattle.lists.proofs.Bools.{and-left}
-use Rattle.soundness.specs.Check.{processPlace}
-use Rattle.records.proofs.RecordEndings.{process-counted, admitted}
 use borrow.Author.Needs.{needs}
+use borrow.Author.Tests.{not-true, not-false}
+use native.Mathlib.Omega.{arith}
+use Rattle.lists.proofs.Bools.{and-left}
+use Rattle.records.proofs.Endings.{process-place, misaimed, process-inside, process-delivered, admitted}
 use Rattle.records.proofs.process_record.Statement.{statement}
 use Rattle.records.proofs.process_record.Tie as tie
 
-process-record-ok-requires : tie.Need-process-record-ok-requires
-unfolding processPlace
-process-record-ok-requires c κs = (c .before .before .before .before .before .pre .0, c .find-process .ensures)
+place-of-requires : tie.Need-place-of-requires
+place-of-requires c κs =
+    let a = c .before .before .before .before .before .before in
+    ((a .pre .0 .long, search needs), a .pre .0 .hints)
 
 returns : tie.Need-returns
-returns c = (
-  sym (and-left _ (sym (c .before .process-record-ok .ensures)
-      ∙ not-true (c .before .process-record-ok .result) (c .if1 .taken))),
-  (refl, refl),
-)
-
-admit-requires : tie.Need-admit-requires
-unfolding processPlace
-admit-requires c κs =
+returns c =
     let a = c .before .before .before .before .before .before .before .before .before in
-    let ok =
-    sym (c .before .before .before .process-record-ok .ensures)
-    ∙ not-false (c .before .before .before .process-record-ok .result) (c .before .before .if1 .left) in
-    let p = process-counted (a .args .ps .now) (a .args .r) ok in
-    let ep = c .before .before .before .before .find-process .ensures in (
-      (rw (ep, a .pre .1 .0 .0) p, rw (ep, a .pre .1 .0 .1) p),
-      a .pre .1 .1 (c .before .before .before .before .find-process .result),
+    let q = c .before .before in (
+      sym (and-left _ (sym (misaimed (a .args .ps .now) (a .args .ph .now) (a .args .ignored .now) (a .pre .0) (a .args .r)
+          (q .place-of .result) (q .place-of .ensures) refl (c .if1 .taken)))),
+      (refl, refl),
     )
 
+mul-ignored : tie.Need-mul-t12
+mul-ignored c =
+    let a = c .before .before .before .before .before .before .before .before .before in
+    let q = c .before .before in
+    let h =
+    process-inside (a .args .ps .now) (a .args .ph .now) (a .args .ignored .now) (a .pre .0) (a .args .r)
+    (q .place-of .result) (q .place-of .ensures) refl (c .if1 .left) in
+    omega (arith, h)
+
+shared-slice-read-ignored : tie.Need-shared-slice-read-t8
+shared-slice-read-ignored c =
+    let a = c .before .before .before .before .before .before .before .before .before .before in
+    let q = c .before .before .before in
+    let h =
+    process-inside (a .args .ps .now) (a .args .ph .now) (a .args .ignored .now) (a .pre .0) (a .args .r)
+    (q .place-of .result) (q .place-of .ensures) refl (c .before .if1 .left) in
+    omega (arith, h, a .pre .0 .notes)
+
 returns-2 : tie.Need-returns-2
-unfolding processPlace
 returns-2 c =
+    let a = c .before .before .before .before .before .before .before .before .before .before .before .before in
+    let q = c .before .before .before .before .before in
+    let k =
+    process-delivered (a .args .ps .now) (a .args .ph .now) (a .args .ignored .now) (a .pre .0) (a .args .r)
+    (q .place-of .result) (q .place-of .ensures) refl (c .before .before .before .if1 .left) in (
+      sym (and-left _ (sym k ∙ sym (c .before .is-delivered .ensures)
+          ∙ not-true (c .before .is-delivered .result) (c .if2 .taken))),
+      (refl, refl),
+    )
+
+admit-requires : tie.Need-admit-requires
+admit-requires c κs =
+    let a = c .before .before .before .before .before .before .before .before .before .before .before .before .before .before in
+    let t = c .before .before .before .before .before in
+    let q = t .before .before in
+    let h =
+    process-inside (a .args .ps .now) (a .args .ph .now) (a .args .ignored .now) (a .pre .0) (a .args .r)
+    (q .place-of .result) (q .place-of .ensures) refl (t .if1 .left) in
+    ((omega (arith, h, a .pre .1 .0 .0), omega (arith, h, a .pre .1 .0 .1)), a .pre .1 .1 _)
+
+returns-3 : tie.Need-returns-3
+returns-3 c =
+    let a = c .before .before .before .before .before .before .before .before .before .before .before .before .before .before .before .before .before .before .before in
     let d = c .before .before .before .before in
-    let ok =
-    sym (d .before .before .before .before .process-record-ok .ensures)
-    ∙ not-false (d .before .before .before .before .process-record-ok .result) (d .before .before .before .if1 .left) in
-    let ep = d .before .before .before .before .before .find-process .ensures in
-    let a =
-    c .before .before .before .before .before .before .before .before .before .before .before .before .before .before in
-    admitted (a .args .seen .now) (a .args .counts .now) (a .args .r .signal) ok ep ep (d .admit .ensures)
+    let i = d .before .before .before .before in
+    let q = i .before .before .before .before in
+    let place =
+    process-place (a .args .ps .now) (a .args .ph .now) (a .args .ignored .now) (a .pre .0) (a .args .r)
+    (q .place-of .result) (q .place-of .ensures) in
+    let k =
+    process-delivered (a .args .ps .now) (a .args .ph .now) (a .args .ignored .now) (a .pre .0) (a .args .r)
+    (q .place-of .result) (q .place-of .ensures) refl (i .before .before .if1 .left) in
+    admitted (a .args .seen .now) (a .args .counts .now) (a .args .r .signal)
+    (sym k ∙ sym (i .is-delivered .ensures)
+    ∙ not-false (i .is-delivered .result) (d .before .before .before .if2 .left))
+    place place (d .admit .ensures)
 
 pub process-record-spec : {M : Type 1} → statement M
 process-record-spec =
     tie.close
     (tie.spec
     (λ c. search needs)
-    (λ c κs. search needs)
-    process-record-ok-requires
+    place-of-requires
     returns
+    mul-ignored
+    shared-slice-read-ignored
+    (λ c κs. search needs)
+    returns-2
     admit-requires
     (λ c. search needs)
     (λ c. search needs)
-    returns-2)
+    returns-3)

@@ -1,37 +1,32 @@
 use mathlib.Core.Path.{sym, _∙_}
 use borrow.Author.Tests.{not-true, not-false}
 use Rattle.queue.specs.Queue.{recordsOf}
-use Rattle.tables.specs.Tables.{processesOf, threadsOf}
-use Rattle.tables.proofs.Words.{length-processesOf, length-threadsOf}
-use Rattle.soundness.proofs.Regrouped.{places-one-process}
-use Rattle.records.proofs.Whole.{zero-counts, threads-fail, processes-fail, both-counted}
+use Rattle.records.proofs.Both.{zero-counts, threads-fail, processes-fail, both-counted}
 use borrow.Author.Needs.{needs}
 use Rattle.records.proofs.records_ok.Statement.{statement}
 use Rattle.records.proofs.records_ok.Tie as tie
 
 thread-buffer-ok-requires : tie.Need-thread-buffer-ok-requires
 thread-buffer-ok-requires c κs =
-    let a = c .before .before .before .before .before in
-    ((a .pre .0 .0, (a .pre .0 .1, a .pre .1 .0 .0)), (a .pre .1 .1, zero-counts (a .args .ps .now)))
+    let a = c .before .before .before .before .before .before .before .before .before in
+    ((a .pre .0 .1, a .pre .1 .0), zero-counts (a .args .ps .now))
 
 returns : tie.Need-returns
 returns c =
-    let a = c .before .before .before .before .before .before .before .before in
+    let a = c .before .before .before .before .before .before .before .before .before .before .before .before in
     let d = c .before .before in
     threads-fail (a .args .ps .now) (a .args .ts .now) (recordsOf (a .args .tb .now)) (recordsOf (a .args .pb .now))
     (sym (d .thread-buffer-ok .ensures .0) ∙ not-true (d .thread-buffer-ok .result) (c .if1 .taken))
 
 process-buffer-ok-requires : tie.Need-process-buffer-ok-requires
 process-buffer-ok-requires c κs =
-    let a = c .before .before .before .before .before .before .before .before .before in
-    let one =
-    places-one-process (processesOf (a .args .ps .now)) (threadsOf (a .args .ts .now)) (a .pre .1 .1)
-    (length-processesOf (a .args .ps .now)) (length-threadsOf (a .args .ts .now)) in
-    ((a .pre .0 .0, a .pre .1 .0 .1), (one, zero-counts (a .args .ps .now)))
+    let a = c .before .before .before .before .before .before .before .before .before .before .before .before .before in
+    ((a .pre .0 .0, a .pre .1 .1), zero-counts (a .args .ps .now))
 
 returns-2 : tie.Need-returns-2
 returns-2 c =
-    let a = c .before .before .before .before .before .before .before .before .before .before .before .before in
+    let a = c .before .before .before .before .before .before .before .before .before .before .before .before
+    .before .before .before .before in
     let d = c .before .before in
     processes-fail (a .args .ps .now) (a .args .ts .now) (recordsOf (a .args .tb .now)) (recordsOf (a .args .pb .now))
     (sym (d .process-buffer-ok .ensures .0) ∙ not-true (d .process-buffer-ok .result) (c .if2 .taken))
@@ -39,14 +34,14 @@ returns-2 c =
 returns-3 : tie.Need-returns-3
 returns-3 c =
     let a = c .before .before .before .before .before .before .before .before .before .before .before .before .before
-    .before .before in
+    .before .before .before .before .before .before in
     let p = c .before .before .before .before .before in
     let t = p .before .before .before .before in
     let yt = not-false (t .thread-buffer-ok .result) (p .before .before .if1 .left) in
     let yp = not-false (p .process-buffer-ok .result) (c .before .before .before .if2 .left) in
     c .all-within .ensures
     ∙ both-counted (a .args .ps .now) (a .args .ts .now) (recordsOf (a .args .tb .now)) (recordsOf (a .args .pb .now))
-    (t .thread-buffer-ok .last .1 .1 .1 .0) (p .process-buffer-ok .last .1 .1 .0)
+    (t .thread-buffer-ok .last .1 .1 .1 .1 .1 .1 .0) (p .process-buffer-ok .last .1 .1 .1 .1 .0)
     (sym (t .thread-buffer-ok .ensures .0) ∙ yt) (sym (p .process-buffer-ok .ensures .0) ∙ yp)
     (t .thread-buffer-ok .ensures .1 yt) (p .process-buffer-ok .ensures .1 yp)
 

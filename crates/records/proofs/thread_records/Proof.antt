@@ -11,46 +11,46 @@ use Rattle.records.proofs.thread_records.Statement.{statement}
 use Rattle.records.proofs.thread_records.Tie as tie
 
 abbrev Inv-loop : tie.InvT-loop
-Inv-loop ps ts b counts₀ seen₀ n i₀ counts seen i =
+Inv-loop ps ts th ignored owners b counts₀ seen₀ n i₀ counts seen i =
     (i ≤ n) × ((length counts ≡ length counts₀) × ((length seen ≡ length seen₀) × ThreadPass ps ts b counts seen i))
 
 abbrev μ-loop : tie.MeasureT-loop
-μ-loop ps ts b counts₀ seen₀ n i₀ counts seen i = n - i
+μ-loop ps ts th ignored owners b counts₀ seen₀ n i₀ counts seen i = n - i
 
 loop-holds : tie.Need-loop-holds Inv-loop μ-loop
 loop-holds c =
-    let a = c .before .before .before .before .before .before in (
+    let a = c .before .before .before .before .before .before .before .before .before in (
       search needs,
       (
         refl,
         (
           refl,
           thread-start (a .args .ps .now) (a .args .ts .now) (a .args .b .now) (a .args .counts .now)
-              (a .args .seen .now) (a .pre .1 .1 .0) (a .pre .1 .1 .1),
+              (a .args .seen .now) (a .pre .1 .0) (a .pre .1 .1),
         ),
       ),
     )
 
 read-requires : tie.Need-read-requires Inv-loop μ-loop
 read-requires c κs =
-    let a = c .before .before .before .before .before .before .before .before in
+    let a = c .before .before .before .before .before .before .before .before .before .before .before in
     let n = length-recordsOf (a .args .b .now) in
-    omega (arith, c .before .before .used .ensures, a .pre .0 .1 .1)
+    omega (arith, c .before .before .used .ensures, a .pre .0 .1)
 
 thread-record-requires : tie.Need-thread-record-requires Inv-loop μ-loop
 thread-record-requires c κs =
     let l = c .before .before .before .before in
-    let a = l .before .before .before .before .before .before .before in
+    let a = l .before .before .before .before .before .before .before .before .before .before in
     let inside : l .loop .i < length (recordsOf (a .args .b .now)) = rw (← l .before .used .ensures) (omega arith) in (
-      (a .pre .0 .0, a .pre .0 .1 .0),
+      a .pre .0 .0,
       thread-ready (a .args .ps .now) (a .args .ts .now) (a .args .b .now) (l .loop .counts) (l .loop .seen)
           (l .loop .i) (l .loop .inv .1 .1 .1) inside,
     )
 
 returns : tie.Need-returns Inv-loop μ-loop
 returns c =
-    let a = c .before .before .before .before .before .before .before .before .before .before .before .before .before
-    .before .before .before .before in
+    let a = c .before .before .before .before .before .before .before .before .before .before .before .before
+    .before .before .before .before .before .before .before .before in
     let l = c .before .before .before .before .before .before .before .before .before .before in
     let m = c .before .before .before .before .before in
     let inside : l .loop .i < length (recordsOf (a .args .b .now)) = rw (← l .before .used .ensures) (omega arith) in
@@ -61,8 +61,8 @@ returns c =
 
 loop-again : tie.Need-loop-again Inv-loop μ-loop
 loop-again c =
-    let a = c .before .before .before .before .before .before .before .before .before .before .before .before .before
-    .before .before .before .before in
+    let a = c .before .before .before .before .before .before .before .before .before .before .before .before
+    .before .before .before .before .before .before .before .before in
     let l = c .before .before .before .before .before .before .before .before .before .before in
     let m = c .before .before .before .before .before in
     let inside : l .loop .i < length (recordsOf (a .args .b .now)) = rw (← l .before .used .ensures) (omega arith) in
@@ -70,14 +70,15 @@ loop-again c =
     thread-next (a .args .ps .now) (a .args .ts .now) (a .args .b .now) (l .loop .counts) (l .loop .seen) (l .loop .i)
     (l .loop .inv .1 .1 .1) inside (m .before .before .before .read .result)
     (m .before .before .before .read .ensures) (m .thread-record .ensures .0)
-    (m .thread-record .last .1 .1 .1 .0) (m .thread-record .last .1 .1 .1 .1 .0) (a .pre .1 .0)
+    (m .thread-record .last .1 .1 .1 .1 .1 .1 .0) (m .thread-record .last .1 .1 .1 .1 .1 .1 .1 .0)
+    (a .pre .0 .0 .oneProcess) (a .pre .0 .0 .oneThread)
     (not-false (m .thread-record .result) (c .if1 .left)) (m .thread-record .ensures .1 .0)
     (m .thread-record .ensures .1 .1) in
     (search needs, (search needs, (search needs, next)))
 
 returns-2 : tie.Need-returns-2 Inv-loop μ-loop
 returns-2 c =
-    let a = c .before .before .before .before .before .before .before .before in
+    let a = c .before .before .before .before .before .before .before .before .before .before .before in
     thread-end (a .args .ps .now) (a .args .ts .now) (a .args .b .now) (c .before .loop .counts) (c .before .loop .seen)
     (c .before .loop .i) (rw (← c .before .before .used .ensures) (omega arith)) (c .before .loop .inv .1 .1 .1)
 

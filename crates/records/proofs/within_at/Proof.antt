@@ -1,4 +1,4 @@
-use Rattle.places.proofs.Endings.{over, room-left}
+use Rattle.records.proofs.Endings.{over, room-left}
 use borrow.Author.Needs.{needs}
 use Rattle.records.proofs.within_at.Statement.{statement}
 use Rattle.records.proofs.within_at.Tie as tie

@@ -1,0 +1,297 @@
+-- How the tests of one record end, over plain variables: the proofs of the code pass what they know. Assumes nothing.
+use Prim.Native.Nat.{ℕ, _+_, _-_, _≤_, _<_}
+use mathlib.Core.Path.{_≡_, refl, sym, ap, ap₂, _∙_}
+use mathlib.Core.Bool.{Bool, true, false, not, _&&_, _||_, cond}
+use mathlib.Core.List.{List, []}
+use mathlib.Core.Option.{Option·getD}
+use native.Mathlib.Omega.{arith}
+use lib.Dec.{eqb, leb}
+use lib.ListN.{getD}
+use borrow.Author.Tests.{eqb-true, eq-eqb, ne-eqb, leb-true, leb-false, le-leb, lt-leb, not-true, not-false}
+use Rattle.limits.specs.Limits.{processPlaces, threadPlaces, recordLimit, siQueue}
+use Rattle.limits.specs.Limits.{processId as wordOfId}
+use Rattle.lists.specs.Lists.{any, first, find}
+use Rattle.lists.proofs.Bools.{same-test, or-cases, or-fst-false, or-snd-false, and-snd, and-imp}
+use Rattle.lists.proofs.Loops.{find-le, find-at}
+use Rattle.lists.proofs.Finds.{found-any, absent-any, any-inside}
+use Rattle.sigset.specs.Set.{bits, has}
+use Rattle.sigset.proofs.Laws.{has-set}
+use Rattle.types.specs.declared.Siginfo.{Siginfo}
+use Rattle.rules.specs.Types.{Process, Thread, noProcess, noThread}
+use Rattle.rules.specs.Signals.{standard, ignored}
+use Rattle.rules.specs.View.{isProcess, isThread, actionOf, liveProcess, liveThread, theProcess, theThread}
+use Rattle.rules.specs.Store.{view, freeProcess, freeThread}
+use Rattle.rules.specs.Sound.{nameable, namesLive, aimedAtThread, aimedAtProcess, recordNotIgnored}
+use Rattle.rules.proofs.Ids.{named-live}
+use Rattle.rules.proofs.Marks.{first-held}
+use Rattle.rules.proofs.Signals.{nameable-signal}
+use Rattle.tables.specs.Tables.{processesOf, threadsOf, heldProcesses, heldThreads, processAt, threadAt, headTo}
+use Rattle.tables.proofs.Words.{length-heldProcesses, length-heldThreads}
+use Rattle.tables.proofs.Places.{held-at}
+use Rattle.soundness.specs.Check.{isDelivered, isFresh, withinAt, bumped, noted, placesView, processPlace, threadPlace}
+use Rattle.soundness.specs.Check.{threadRecordOk, processRecordOk, ignoredBy, ownerPlace, processBy, threadBy}
+use Rattle.soundness.proofs.Ids.{process-found, thread-found}
+use Rattle.places.specs.Notes.{ProcessesNoted, ThreadsNoted}
+
+-- ---- one signal against the set of its queue
+
+module _ (seen : List ℕ) (q s : ℕ) {a b : Bool} (ea : a ≡ standard s) (eb : b ≡ has (bits (getD seen q 0)) s) where
+  pub stale : (a && b) ≡ true → false ≡ isFresh seen q s
+  unfolding isFresh
+  stale e = sym (ap not (sym (ap₂ (λ x y. x && y) ea eb) ∙ e))
+
+  pub fresh : (a && b) ≡ false → true ≡ isFresh seen q s
+  unfolding isFresh
+  fresh e = sym (ap not (sym (ap₂ (λ x y. x && y) ea eb) ∙ e))
+
+-- ---- two counts against the limit, without adding them up
+
+module _ (cs ds : List ℕ) (i : ℕ) where
+  pub over : recordLimit < getD cs i 0 → false ≡ withinAt cs ds i
+  unfolding withinAt
+  over h = sym (lt-leb (getD cs i 0 + getD ds i 0) recordLimit (omega arith))
+
+  pub room-left : getD cs i 0 ≤ recordLimit → leb (getD ds i 0) (recordLimit - getD cs i 0) ≡ withinAt cs ds i
+  unfolding withinAt
+  room-left h =
+      same-test (leb (getD ds i 0) (recordLimit - getD cs i 0)) (leb (getD cs i 0 + getD ds i 0) recordLimit)
+      (λ e. let k : getD ds i 0 ≤ recordLimit - getD cs i 0 = leb-true (getD ds i 0) (recordLimit - getD cs i 0) e in
+      le-leb (getD cs i 0 + getD ds i 0) recordLimit (omega arith))
+      (λ e. let k : getD cs i 0 + getD ds i 0 ≤ recordLimit = leb-true (getD cs i 0 + getD ds i 0) recordLimit e in
+      le-leb (getD ds i 0) (recordLimit - getD cs i 0) (omega arith))
+
+-- ---- the shape of the two tests: code, signal, live process, where it is aimed, not ignored
+
+no-process : (c n a h : Bool) → false ≡ (((c && (n && false)) && a) && h)
+no-process true true a h = refl
+no-process true false a h = refl
+no-process false n a h = refl
+
+no-aim : (l h : Bool) → false ≡ ((l && false) && h)
+no-aim true h = refl
+no-aim false h = refl
+
+no-aim-there : (l a h : Bool) → false ≡ ((l && (a && false)) && h)
+no-aim-there true true h = refl
+no-aim-there true false h = refl
+no-aim-there false a h = refl
+
+all-there : (c n h : Bool) → (n && (c && h)) ≡ (((c && (n && true)) && true) && h)
+all-there true true h = refl
+all-there true false h = refl
+all-there false true h = refl
+all-there false false h = refl
+
+-- what is noted of the ignored signals tells as the actions do
+delivered : (p : Process) (r : Siginfo)
+    → isDelivered (ignoredBy p) r
+    ≡ (nameable (r .signal) && (eqb (r .code) siQueue && not (ignored (actionOf p (r .signal)) (r .signal))))
+unfolding isDelivered ignoredBy
+delivered p r =
+    and-imp (nameable (r .signal))
+    (λ n. ap (λ b. eqb (r .code) siQueue && not b)
+    (has-set (λ s. ignored (actionOf p s) s) (r .signal) (nameable-signal (r .signal) n)))
+
+-- ---- a record by the place of its process
+
+module _ (ws : List ℕ) (r : Siginfo) (place : ℕ) (at : place ≡ find (isProcess (r .process)) (heldProcesses ws)) where
+  its-process : Option·getD (first (isProcess (r .process)) (heldProcesses ws)) noProcess ≡ processAt ws place .holds
+  its-process =
+      first-held freeProcess (isProcess (r .process)) (processesOf ws) ∙ ap (λ k. processAt ws k .holds) (sym at)
+
+  no-such-process : processPlaces ≤ place → any (isProcess (r .process)) (heldProcesses ws) ≡ false
+  no-such-process h =
+      absent-any (isProcess (r .process)) noProcess (heldProcesses ws) processPlaces place (length-heldProcesses ws) at
+      (omega (arith, at, find-le (isProcess (r .process)) (heldProcesses ws), length-heldProcesses ws))
+
+  module _ (h : place < processPlaces) where
+    such-process : any (isProcess (r .process)) (heldProcesses ws) ≡ true
+    such-process =
+        found-any (isProcess (r .process)) noProcess (heldProcesses ws) processPlaces place (length-heldProcesses ws) at
+        (λ e. absurd (omega arith))
+
+    -- it is live
+    live-place : not (eqb (processAt ws place .holds .id) 0) ≡ true
+    unfolding isProcess
+    live-place =
+        let long = length-heldProcesses ws in
+        let mine : isProcess (r .process) (processAt ws place .holds) ≡ true =
+        ap (isProcess (r .process))
+        (sym (held-at (processesOf ws) place freeProcess) ∙ ap (λ k. getD (heldProcesses ws) k noProcess) at)
+        ∙ find-at (isProcess (r .process)) noProcess (heldProcesses ws) (omega (arith, at)) in
+        ap not (named-live (r .process) (processAt ws place .holds .id) mine)
+
+-- ---- a record of the process buffer
+
+module _ (ws ph ignored : List ℕ) (n : ProcessesNoted ws ph ignored) (r : Siginfo) (place : ℕ)
+    (e : place ≡ processBy ph ws (r .process)) where
+  at-process : place ≡ find (isProcess (r .process)) (heldProcesses ws)
+  at-process = e ∙ process-found ph ws (r .process) (n .hints .1) (n .one (r .process))
+
+  pub process-place : place ≡ processPlace (processesOf ws) r
+  unfolding processPlace
+  process-place = at-process
+
+  module _ {t : Bool} (z : t ≡ not (eqb (r .thread) 0)) where
+    pub misaimed : (leb processPlaces place || t) ≡ true → false ≡ processRecordOk (processesOf ws) r
+    unfolding processRecordOk aimedAtProcess namesLive liveProcess view
+    misaimed k =
+        or-cases (leb processPlaces place) t k
+        (λ h. rw (no-such-process ws r place at-process (leb-true processPlaces place h))
+        (no-process (eqb (r .code) siQueue)
+        (nameable (r .signal)) (eqb (r .thread) 0) (recordNotIgnored (placesView (processesOf ws) []) r)))
+        (λ h. rw (not-true (eqb (r .thread) 0) (sym z ∙ h))
+        (no-aim (namesLive (placesView (processesOf ws) []) r) (recordNotIgnored (placesView (processesOf ws) []) r)))
+
+    module _ (k : (leb processPlaces place || t) ≡ false) where
+      pub process-inside : place < processPlaces
+      process-inside = leb-false processPlaces place (or-fst-false (leb processPlaces place) t k)
+
+      pub process-delivered : isDelivered (bits (getD ignored place 0)) r ≡ processRecordOk (processesOf ws) r
+      unfolding processRecordOk aimedAtProcess namesLive recordNotIgnored liveProcess theProcess view
+      process-delivered =
+          let live = such-process ws r place at-process process-inside in
+          let aimed = not-false (eqb (r .thread) 0) (sym z ∙ or-snd-false (leb processPlaces place) t k) in
+          ap (λ w. isDelivered (bits w) r)
+          (n .ignores place process-inside (live-place ws r place at-process process-inside))
+          ∙ delivered (processAt ws place .holds) r
+          ∙ rw (live, aimed, its-process ws r place at-process)
+          (all-there (eqb (r .code) siQueue) (nameable (r .signal)) _)
+
+-- ---- a record of the thread buffer
+
+module _ (ws vs th ignored owners : List ℕ) (n : ThreadsNoted ws vs th ignored owners) (r : Siginfo) (queue : ℕ)
+    (e : queue ≡ threadBy th vs (r .thread)) where
+  at-thread : queue ≡ find (isThread (r .thread)) (heldThreads vs)
+  at-thread = e ∙ thread-found th vs (r .thread) (n .hints .1) (n .oneThread (r .thread))
+
+  pub thread-place : queue ≡ threadPlace (threadsOf vs) r
+  unfolding threadPlace
+  thread-place = at-thread
+
+  pub lost : threadPlaces ≤ queue → false ≡ threadRecordOk (processesOf ws) (threadsOf vs) r
+  unfolding threadRecordOk aimedAtThread liveThread view
+  lost h =
+      let z : queue ≡ threadPlaces =
+      omega (arith, at-thread, find-le (isThread (r .thread)) (heldThreads vs), length-heldThreads vs) in
+      rw (absent-any (isThread (r .thread)) noThread (heldThreads vs) threadPlaces queue (length-heldThreads vs)
+      at-thread z)
+      (no-aim (namesLive (placesView (processesOf ws) (threadsOf vs)) r)
+      (recordNotIgnored (placesView (processesOf ws) (threadsOf vs)) r))
+
+  module _ (h : queue < threadPlaces) where
+    abbrev itsThread : Thread
+    itsThread = threadAt vs queue .holds
+
+    its-thread : Option·getD (first (isThread (r .thread)) (heldThreads vs)) noThread ≡ itsThread
+    its-thread =
+        first-held freeThread (isThread (r .thread)) (threadsOf vs) ∙ ap (λ k. threadAt vs k .holds) (sym at-thread)
+
+    such-thread : any (isThread (r .thread)) (heldThreads vs) ≡ true
+    such-thread =
+        found-any (isThread (r .thread)) noThread (heldThreads vs) threadPlaces queue (length-heldThreads vs) at-thread
+        (λ z. absurd (omega arith))
+
+    live-thread : not (eqb (itsThread .id) 0) ≡ true
+    unfolding isThread
+    live-thread =
+        let long = length-heldThreads vs in
+        let mine : isThread (r .thread) itsThread ≡ true =
+        ap (isThread (r .thread))
+        (sym (held-at (threadsOf vs) queue freeThread) ∙ ap (λ k. getD (heldThreads vs) k noThread) at-thread)
+        ∙ find-at (isThread (r .thread)) noThread (heldThreads vs) (omega (arith, at-thread)) in
+        ap not (named-live (r .thread) (itsThread .id) mine)
+
+    -- the place of its process
+    abbrev place : ℕ
+    place = getD owners queue 0
+
+    at-owner : place ≡ find (isProcess (itsThread .process)) (heldProcesses ws)
+    unfolding ownerPlace
+    at-owner = n .owner queue h live-thread
+
+    owner-inside : place < processPlaces
+    owner-inside =
+        rw at-owner
+        (any-inside (isProcess (itsThread .process)) (heldProcesses ws) processPlaces (length-heldProcesses ws)
+        (n .owned queue h live-thread))
+
+    owner-id : processAt ws place .holds .id ≡ itsThread .process
+    unfolding isProcess
+    owner-id =
+        let p : ℕ = itsThread .process in
+        let long = length-heldProcesses ws in
+        let inside = owner-inside in
+        eqb-true (processAt ws place .holds .id) p
+        (and-snd (not (eqb p 0)) (eqb (processAt ws place .holds .id) p)
+        (ap (isProcess p)
+        (sym (held-at (processesOf ws) place freeProcess) ∙ ap (λ k. getD (heldProcesses ws) k noProcess) at-owner)
+        ∙ find-at (isProcess p) noProcess (heldProcesses ws) (omega (arith, at-owner))))
+
+    module _ (w : ℕ) (ew : w ≡ getD (headTo (processAt ws place)) wordOfId 0) where
+      its-owner : itsThread .process ≡ w
+      unfolding headTo
+      its-owner = sym (ew ∙ owner-id)
+
+      of-thread : theThread (placesView (processesOf ws) (threadsOf vs)) (r .thread) .process ≡ w
+      unfolding theThread view
+      of-thread = ap (λ (t : Thread). t .process) its-thread ∙ its-owner
+
+      of-another : (w ≡ r .process → ⊥) → false ≡ threadRecordOk (processesOf ws) (threadsOf vs) r
+      unfolding threadRecordOk aimedAtThread
+      of-another z =
+          rw (of-thread, ne-eqb w (r .process) z)
+          (no-aim-there (namesLive (placesView (processesOf ws) (threadsOf vs)) r)
+          (liveThread (placesView (processesOf ws) (threadsOf vs)) (r .thread))
+          (recordNotIgnored (placesView (processesOf ws) (threadsOf vs)) r))
+
+      module _ (z : w ≡ r .process) where
+        at-place : place ≡ find (isProcess (r .process)) (heldProcesses ws)
+        at-place = at-owner ∙ ap (λ k. find (isProcess k) (heldProcesses ws)) (its-owner ∙ z)
+
+        owner-place : place ≡ processPlace (processesOf ws) r
+        unfolding processPlace
+        owner-place = at-place
+
+        thread-delivered : isDelivered (bits (getD ignored place 0)) r
+            ≡ threadRecordOk (processesOf ws) (threadsOf vs) r
+        unfolding threadRecordOk aimedAtThread namesLive recordNotIgnored liveProcess liveThread theProcess view
+        thread-delivered =
+            let live = such-process ws r place at-place owner-inside in
+            ap (λ k. isDelivered (bits k) r) (n .ignores place owner-inside (live-place ws r place at-place owner-inside))
+            ∙ delivered (processAt ws place .holds) r
+            ∙ rw (live, such-thread, of-thread, eq-eqb w (r .process) z, its-process ws r place at-place)
+            (all-there (eqb (r .code) siQueue) (nameable (r .signal)) _)
+
+-- what the place of a thread that was found tells of the record
+pub record ThreadFound (ws vs ignored owners : List ℕ) (r : Siginfo) (queue : ℕ) : Type 0 where
+  pub inside : getD owners queue 0 < processPlaces
+  pub another : (w : ℕ) → w ≡ getD (headTo (processAt ws (getD owners queue 0))) wordOfId 0 → (w ≡ r .process → ⊥)
+      → threadRecordOk (processesOf ws) (threadsOf vs) r ≡ false
+  pub place : (w : ℕ) → w ≡ getD (headTo (processAt ws (getD owners queue 0))) wordOfId 0 → w ≡ r .process
+      → getD owners queue 0 ≡ processPlace (processesOf ws) r
+  pub delivery : (w : ℕ) → w ≡ getD (headTo (processAt ws (getD owners queue 0))) wordOfId 0 → w ≡ r .process
+      → threadRecordOk (processesOf ws) (threadsOf vs) r ≡ isDelivered (bits (getD ignored (getD owners queue 0) 0)) r
+
+pub found : (ws vs th ignored owners : List ℕ) (n : ThreadsNoted ws vs th ignored owners) (r : Siginfo) (queue : ℕ)
+    → queue ≡ threadBy th vs (r .thread) → queue < threadPlaces
+    → ThreadFound ws vs ignored owners r queue
+found ws vs th ignored owners n r queue e h =
+    record {
+      inside = owner-inside ws vs th ignored owners n r queue e h;
+      another = λ w ew z. sym (of-another ws vs th ignored owners n r queue e h w ew z);
+      place = owner-place ws vs th ignored owners n r queue e h;
+      delivery = λ w ew z. sym (thread-delivered ws vs th ignored owners n r queue e h w ew z);
+    }
+
+-- what `admit` did, said of the places that the record names
+module _ (seen counts : List ℕ) (s : ℕ) {ok h : Bool} {place place′ queue queue′ : ℕ} {seen′ counts′ : List ℕ} where
+  pub admitted : ok ≡ true → place ≡ place′ → queue ≡ queue′
+      → (h ≡ isFresh seen queue s)
+      × ((counts′ ≡ cond h (bumped counts place) counts) × (seen′ ≡ cond h (noted seen queue s) seen))
+      → (h ≡ (ok && isFresh seen queue′ s))
+      × ((counts′ ≡ cond h (bumped counts place′) counts) × (seen′ ≡ cond h (noted seen queue′ s) seen))
+  admitted e p q k = (
+    k .0 ∙ rw (e, q),
+    (k .1 .0 ∙ ap (λ n. cond h (bumped counts n) counts) p, k .1 .1 ∙ ap (λ n. cond h (noted seen n s) seen) q),
+  )

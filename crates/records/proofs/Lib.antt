@@ -1,0 +1,4 @@
+mod Endings
+mod Marks
+mod Loops
+mod Both
