@@ -6,7 +6,7 @@ use mathlib.Core.Bool.{true, false, not, _&&_}
 use mathlib.Core.List.{List}
 use native.Mathlib.Omega.{arith}
 use lib.Dec.{eqb}
-use lib.ListN.{length, getD}
+use lib.ListN.{length, getD, replicate, getD-replicate}
 use borrow.Author.Tests.{eqb-true, eq-eqb, not-true}
 use Rattle.lists.specs.Lists.{any, count, find}
 use Rattle.lists.proofs.Bools.{split, clash, and-fst, and-snd, and-both, and-left}
@@ -43,6 +43,10 @@ id-is n id e = eqb-true id n (and-snd (not (eqb n 0)) (eqb id n) e)
 id-live : (n id : ℕ) → isId n id ≡ true → eqb n 0 ≡ false
 unfolding isId
 id-live n id e = not-true (eqb n 0) (and-fst (not (eqb n 0)) (eqb id n) e)
+
+-- hints that are all zero name the first place
+pub none-hinted : (places : ℕ) → 1 ≤ places → Hinted places (replicate hintSlots 0)
+none-hinted places h slot l = rw (getD-replicate {A = ℕ} hintSlots slot 0 0 l) h
 
 -- ---- a look-up
 

@@ -1,2 +1,3 @@
-pub mod Whole
+mod Whole
+mod Noted
 pub mod Facts

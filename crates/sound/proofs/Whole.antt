@@ -1,26 +1,26 @@
 -- The whole test as the code makes it: lengths of the words, buffers laid out, places, records. Over plain variables.
-use mathlib.Core.Path.{_≡_, refl, sym, ap, ap₂, _∙_}
+use Prim.Native.Nat.{ℕ, _≤_}
+use mathlib.Core.Path.{_≡_, refl, sym, ap, _∙_}
 use mathlib.Core.Bool.{Bool, true, false, not, _&&_, _||_, and-false}
-use mathlib.Core.List.{List, []}
-use Prim.Native.Nat.{ℕ}
+use mathlib.Core.List.{List}
 use lib.Dec.{eqb}
-use lib.ListN.{length, replicate}
+use lib.ListN.{length}
 use borrow.Author.Tests.{eqb-true, eq-eqb, not-true, not-false}
 use Rattle.limits.specs.Limits.{processPlaces, processTable, threadPlaces, threadTable, bufferRecords, bufferBytes}
+use Rattle.lists.specs.Lists.{count, find}
 use Rattle.lists.proofs.Bools.{and-both, and-left, and-right, or-cases, or-fst-false, or-snd-false}
-use Rattle.types.specs.declared.Siginfo.{Siginfo}
+use Rattle.hints.specs.Hints.{Hinted}
+use Rattle.rules.specs.View.{isProcess, isThread}
 use Rattle.rules.specs.Store.{used}
 use Rattle.rules.specs.Sound.{lengthsRight, restZero}
 use Rattle.queue.specs.Queue.{slotsOf, recordsOf, isLaid}
 use Rattle.queue.proofs.Buffer.{length-slotsOf}
-use Rattle.tables.specs.Tables.{processesOf, threadsOf, heldProcesses}
-use Rattle.tables.proofs.Words.{length-processesOf, length-threadsOf, length-heldProcesses, all-actionsLong}
+use Rattle.tables.specs.Tables.{processesOf, threadsOf, heldProcesses, heldThreads}
+use Rattle.tables.proofs.Words.{length-processesOf, length-threadsOf, all-actionsLong}
+use Rattle.soundness.specs.Check.{processBy, threadBy, placesOk, recordsOk, checked}
+use Rattle.soundness.proofs.Ids.{process-found, thread-found}
+use Rattle.soundness.proofs.Regrouped.{regrouped}
 use Rattle.sound.specs.Lent.{lent, decoded, lengthsAre, soundTables}
-use Rattle.places.specs.Check.{tallies, placesOk, threadRecordsOk, processRecordsOk, allWithin, recordsOk, checked}
-use Rattle.sound.proofs.Passes.{tally-start}
-use Rattle.sound.proofs.Regrouped.{regrouped}
-
--- ---- the whole
 
 shape : (a b c d p t q r : Bool)
     → ((a && (b && (c && d))) && (p && (t && (q && r)))) ≡ (a && (b && ((c && t) && ((d && q) && (p && r)))))
@@ -42,22 +42,37 @@ module _ (ps ts tb pb : List ℕ) where
       (and-both (eq-eqb (length (slotsOf tb)) bufferRecords (length-slotsOf tb))
       (eq-eqb (length (slotsOf pb)) bufferRecords (length-slotsOf pb)))))
 
-  told : soundTables (lent ps ts tb pb)
-      ≡ (eqb (length ps) processTable && (eqb (length ts) threadTable
-      && (isLaid tb && (isLaid pb && (placesOk (processesOf ps) (threadsOf ts)
-      && recordsOk (processesOf ps) (threadsOf ts) (recordsOf tb) (recordsOf pb))))))
+  abbrev tested : (p t : ℕ → ℕ) → Bool
+  tested p t =
+      eqb (length ps) processTable && (eqb (length ts) threadTable
+      && (isLaid tb && (isLaid pb && (placesOk p t (processesOf ps) (threadsOf ts)
+      && recordsOk (processesOf ps) (threadsOf ts) (recordsOf tb) (recordsOf pb)))))
+
+  -- by any two functions that find an id where a search does
+  told : (p t : ℕ → ℕ)
+      → ((n : ℕ) → count (isProcess n) (heldProcesses ps) ≤ 1 → p n ≡ find (isProcess n) (heldProcesses ps))
+      → ((n : ℕ) → count (isThread n) (heldThreads ts) ≤ 1 → t n ≡ find (isThread n) (heldThreads ts))
+      → soundTables (lent ps ts tb pb) ≡ tested p t
   unfolding soundTables lengthsAre isLaid recordsOf checked decoded
-  told =
-      ap (λ b. lengthsAre (lent ps ts tb pb) && b) (sym (regrouped (decoded (lent ps ts tb pb)) decoded-long))
+  told p t fp ft =
+      ap (λ b. lengthsAre (lent ps ts tb pb) && b)
+      (sym (regrouped p t (decoded (lent ps ts tb pb)) fp ft decoded-long))
       ∙ shape (eqb (length ps) processTable) (eqb (length ts) threadTable) (eqb (length tb) bufferBytes)
       (eqb (length pb) bufferBytes)
-      (placesOk (processesOf ps) (threadsOf ts)) (restZero (slotsOf tb)) (restZero (slotsOf pb))
+      (placesOk p t (processesOf ps) (threadsOf ts)) (restZero (slotsOf tb)) (restZero (slotsOf pb))
       (recordsOk (processesOf ps) (threadsOf ts) (used (slotsOf tb)) (used (slotsOf pb)))
+
+  -- by the search itself
+  searched : soundTables (lent ps ts tb pb)
+      ≡ tested (λ n. find (isProcess n) (heldProcesses ps)) (λ n. find (isThread n) (heldThreads ts))
+  searched =
+      told (λ n. find (isProcess n) (heldProcesses ps)) (λ n. find (isThread n) (heldThreads ts)) (λ n c. refl)
+      (λ n c. refl)
 
   pub wrong-length : (not (eqb (length ps) processTable) || not (eqb (length ts) threadTable)) ≡ true
       → false ≡ soundTables (lent ps ts tb pb)
   wrong-length e =
-      sym (told ∙ or-cases (not (eqb (length ps) processTable)) (not (eqb (length ts) threadTable)) e
+      sym (searched ∙ or-cases (not (eqb (length ps) processTable)) (not (eqb (length ts) threadTable)) e
       (λ n. and-left _ (not-true (eqb (length ps) processTable) n))
       (λ n. and-right (eqb (length ps) processTable) (and-left _ (not-true (eqb (length ts) threadTable) n))))
 
@@ -79,15 +94,23 @@ module _ (ps ts tb pb : List ℕ) where
     threads-long = eqb-true (length ts) threadTable right-threads
 
     pub threads-unlaid : isLaid tb ≡ false → false ≡ soundTables (lent ps ts tb pb)
-    threads-unlaid e = sym (told ∙ rw (right-words, right-threads, e))
+    threads-unlaid e = sym (searched ∙ rw (right-words, right-threads, e))
 
     pub processes-unlaid : isLaid tb ≡ true → isLaid pb ≡ false → false ≡ soundTables (lent ps ts tb pb)
-    processes-unlaid t e = sym (told ∙ rw (right-words, right-threads, t, e))
+    processes-unlaid t e = sym (searched ∙ rw (right-words, right-threads, t, e))
 
-    module _ (t : isLaid tb ≡ true) (p : isLaid pb ≡ true) where
-      pub places-wrong : placesOk (processesOf ps) (threadsOf ts) ≡ false → false ≡ soundTables (lent ps ts tb pb)
-      places-wrong e = sym (told ∙ rw (right-words, right-threads, t, p, e))
+  -- lengths and what is behind the records being right, places and records decide
+  module _ (ph th : List ℕ) (hp : Hinted processPlaces ph) (ht : Hinted threadPlaces th)
+      (lp : length ps ≡ processTable) (lt : length ts ≡ threadTable) (t : isLaid tb ≡ true) (p : isLaid pb ≡ true) where
+    hinted : soundTables (lent ps ts tb pb) ≡ tested (processBy ph ps) (threadBy th ts)
+    hinted = told (processBy ph ps) (threadBy th ts) (λ n c. process-found ph ps n hp c) (λ n c. thread-found th ts n ht c)
 
-      pub records-decide : placesOk (processesOf ps) (threadsOf ts) ≡ true
-          → recordsOk (processesOf ps) (threadsOf ts) (recordsOf tb) (recordsOf pb) ≡ soundTables (lent ps ts tb pb)
-      records-decide e = sym (told ∙ rw (right-words, right-threads, t, p, e))
+    pub places-wrong : placesOk (processBy ph ps) (threadBy th ts) (processesOf ps) (threadsOf ts) ≡ false
+        → false ≡ soundTables (lent ps ts tb pb)
+    places-wrong e =
+        sym (hinted ∙ rw (eq-eqb (length ps) processTable lp, eq-eqb (length ts) threadTable lt, t, p, e))
+
+    pub records-decide : placesOk (processBy ph ps) (threadBy th ts) (processesOf ps) (threadsOf ts) ≡ true
+        → recordsOk (processesOf ps) (threadsOf ts) (recordsOf tb) (recordsOf pb) ≡ soundTables (lent ps ts tb pb)
+    records-decide e =
+        sym (hinted ∙ rw (eq-eqb (length ps) processTable lp, eq-eqb (length ts) threadTable lt, t, p, e))
