@@ -155,6 +155,10 @@ extern "C" {
 #define RREZHBUTA_ANSWER_NO_ACTION UINT64_C(20)
 #define RREZHBUTA_ANSWER_WORDS 12
 
+/* ---- What a call needs of the thread that makes it: so many bytes of stack below the frame of its caller, arguments
+   and return address counted in. This is no number of crates/limits; host/c/stack.c measures every call against it. */
+#define RREZHBUTA_STACK 8192
+
 /* ---- The tables */
 
 /* What a process does on a signal. */

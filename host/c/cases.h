@@ -34,24 +34,30 @@ struct outcome {
 };
 
 /* Makes the call, with room for so many words of the answer. */
-static inline struct outcome made(const struct rrezhbuta_tables *tables, const struct arguments *call, size_t room)
+static inline void make(const struct rrezhbuta_tables *tables, const struct arguments *call, size_t room,
+                        struct outcome *outcome)
 {
     const uint32_t *narrow = call->narrow;
-    struct outcome outcome = {0, {0}};
     uint64_t *processes = (uint64_t *)tables->processes;
-    uint8_t *buffers[] = {(uint8_t *)tables->thread_buffer, (uint8_t *)tables->process_buffer};
-    size_t words = rrezhbuta_length(tables->process_places, RREZHBUTA_PROCESS_WORDS);
-    size_t bytes[] = {rrezhbuta_length(tables->thread_records, RREZHBUTA_RECORD_BYTES),
-                      rrezhbuta_length(tables->process_records, RREZHBUTA_RECORD_BYTES)};
+    uint8_t *to_threads = (uint8_t *)tables->thread_buffer, *to_processes = (uint8_t *)tables->process_buffer;
+    const size_t words = rrezhbuta_length(tables->process_places, RREZHBUTA_PROCESS_WORDS),
+                 thread_bytes = rrezhbuta_length(tables->thread_records, RREZHBUTA_RECORD_BYTES),
+                 process_bytes = rrezhbuta_length(tables->process_records, RREZHBUTA_RECORD_BYTES);
+    *outcome = (struct outcome){0, {0}};
     if (call->number == LOOK_SLOT)
-        outcome.answer[0] = rrezhbuta_look_slot(processes, words, buffers[0], bytes[0], buffers[1], bytes[1],
-                                                tables->threads, tables->thread_places, narrow[0]);
+        outcome->answer[0] = rrezhbuta_look_slot(processes, words, to_threads, thread_bytes, to_processes,
+                                                 process_bytes, tables->threads, tables->thread_places, narrow[0]);
     else
-        outcome.refusal =
-            rrezhbuta_call(processes, words, buffers[0], bytes[0], buffers[1], bytes[1], outcome.answer, room,
-                           tables->threads, tables->thread_places, call->number, narrow[0], narrow[1], narrow[2],
-                           narrow[3], narrow[4], narrow[5], call->wide[0], call->wide[1], call->wide[2]);
-    return outcome;
+        outcome->refusal = rrezhbuta_call(processes, words, to_threads, thread_bytes, to_processes, process_bytes,
+                                          outcome->answer, room, tables->threads, tables->thread_places, call->number,
+                                          narrow[0], narrow[1], narrow[2], narrow[3], narrow[4], narrow[5],
+                                          call->wide[0], call->wide[1], call->wide[2]);
+}
+
+/* Is it what the case says? */
+static inline int as_said(const struct test_case *test, const struct outcome *outcome)
+{
+    return outcome->refusal == test->refusal && (test->refusal != 0 || outcome->answer[0] == test->answer);
 }
 
 /* ---- Scenes */
@@ -311,7 +317,7 @@ static const struct misfit {
 
 /* ---- All of them in turn, each with the room that there is for the answer */
 
-typedef void visitor(const struct test_case *made, size_t room);
+typedef void visitor(const struct test_case *test, size_t room);
 
 static inline void visit_listed(visitor *visit, const struct test_case *cases, size_t count)
 {
