@@ -2,7 +2,7 @@
 
 use crate::limits::*;
 use crate::Tables;
-use rrezhbuta_ids::Family;
+use rrezhbuta_ids::{Family, HINTS};
 
 /// Numbers from a seed (xorshift).
 pub struct Numbers(u64);
@@ -180,6 +180,19 @@ impl Ids {
         Ids {
             processes: numbers.shuffled(processes.ids(2 * PROCESS_PLACES)),
             threads: numbers.shuffled(threads.ids(2 * THREAD_PLACES)),
+        }
+    }
+
+    /// Each has the number of its place for its first slot, and those that nobody has are these numbers: the hint there is
+    /// the very number that is looked for.
+    pub fn beside_places() -> Ids {
+        let of = |places: usize| {
+            let places = places as u32;
+            (HINTS..HINTS + places).chain(1..places).collect()
+        };
+        Ids {
+            processes: of(PROCESS_PLACES),
+            threads: of(THREAD_PLACES),
         }
     }
 

@@ -12,7 +12,7 @@ fn judged(tables: &Tables, what: &str) -> bool {
     said
 }
 
-/// The ids of each pair of families, for the processes and for the threads.
+/// The ids of each pair of families, for the processes and for the threads, and those beside the numbers of places.
 fn each_pair(mut with: impl FnMut(&Ids, &str)) {
     let mut numbers = Numbers::new(20_261_117);
     for processes in Family::ALL {
@@ -21,6 +21,7 @@ fn each_pair(mut with: impl FnMut(&Ids, &str)) {
             with(&ids, &format!("{processes:?} and {threads:?}"));
         }
     }
+    with(&Ids::beside_places(), "beside the numbers of places");
 }
 
 #[test]
