@@ -4,7 +4,7 @@ use crate::work::Batch;
 use rrezhbuta::Tables;
 use rrezhbuta_compare::image::encode;
 use rrezhbuta_compare::layer::{to_library, Layer, Library};
-use rrezhbuta_compare::step::Expectation;
+use rrezhbuta_compare::step::{Expectation, Told};
 use rrezhbuta_model::{Call, Model};
 use std::hint::black_box;
 use std::time::{Duration, Instant};
@@ -72,11 +72,27 @@ fn time_model(start: &Model, batch: &Batch) -> Duration {
     let mut model = start.clone();
     let began = Instant::now();
     for call in &batch.calls {
-        // clearing checks lengths only
-        assert!(*call == Call::Clear || black_box(&model).judge().is_ok());
-        let _ = black_box(model.call(black_box(call)));
+        let _ = black_box(model_call(&mut model, black_box(call)));
     }
     began.elapsed()
+}
+
+/// A call on the model as the library makes one: the whole state is judged first. Never inlined: its instructions are
+/// counted by its name.
+#[inline(never)]
+pub fn model_call(model: &mut Model, call: &Call) -> Told {
+    // clearing checks lengths only
+    assert!(*call == Call::Clear || model.judge().is_ok());
+    model.call(call)
+}
+
+/// Makes the batch once on one side, the library's or the model's, for a tool to count its instructions.
+pub fn make(start: &Model, batch: &Batch, on_library: bool) {
+    if on_library {
+        time_library(&tables_of(start), batch);
+    } else {
+        time_model(start, batch);
+    }
 }
 
 /// The median of a call, in microseconds.

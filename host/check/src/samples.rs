@@ -35,6 +35,13 @@ impl Numbers {
     }
 }
 
+/// How full the tables are that a check is measured on.
+pub const FILLINGS: [(&str, fn() -> Tables); 3] = [
+    ("empty", Tables::empty),
+    ("half full", Tables::half),
+    ("full", Tables::full),
+];
+
 impl Tables {
     /// All zero: no process.
     pub fn empty() -> Tables {
@@ -183,8 +190,8 @@ impl Ids {
         }
     }
 
-    /// Each has the number of its place for its first slot, and those that nobody has are these numbers: the hint there is
-    /// the very number that is looked for.
+    /// Each has the number of its place for its first slot, and those that nobody has are these numbers: the hint there
+    /// is the very number that is looked for.
     pub fn beside_places() -> Ids {
         let of = |places: usize| {
             let places = places as u32;

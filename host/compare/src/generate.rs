@@ -31,8 +31,9 @@ const FILLING: [usize; 14] = [
 const JOB_CONTROL: [u32; 8] = [17, 18, 19, 20, 21, 22, 23, 28];
 const LARGEST_ID: u32 = 2_147_483_647;
 
-/// How many ids there are to choose from.
-const IDS: usize = 5 * THREAD_PLACES;
+/// How many ids there are to choose from, more than are in use at once.
+const IDS: usize = 300;
+const _: () = assert!(IDS > THREAD_PLACES);
 
 /// A source of calls.
 #[derive(Clone, Debug)]
@@ -133,7 +134,10 @@ impl Generator {
     fn stray(&mut self) -> u32 {
         match self.random.below(4) {
             0 => 0,
-            1 => self.random.pick(&self.ids),
+            1 => match self.random.below(200) {
+                0 => 0,
+                n => self.ids[n - 1],
+            },
             2 => LARGEST_ID + self.random.below(2) as u32,
             _ => self.random.next_u64() as u32,
         }
