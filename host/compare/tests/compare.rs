@@ -17,7 +17,7 @@ use rrezhbuta_model::{BUFFER_RECORDS, PROCESS_PLACES, THREAD_PLACES};
 
 const SHORT: Options = Options {
     calls: 80 * BUFFER_RECORDS as u64,
-    damaged: 4_000,
+    damaged: 8 * BUFFER_RECORDS as u64,
     seed: 7,
 };
 
@@ -37,7 +37,8 @@ fn the_library_and_the_model_agree() {
     let many = BUFFER_RECORDS * 7 / 8;
     assert!(records.iter().all(|&n| n > many), "{summary}");
     assert_eq!(summary.damaged(), SHORT.damaged);
-    assert!((400..3_600).contains(&summary.unharmed), "{summary}");
+    let tenth = SHORT.damaged / 10;
+    assert!((tenth..9 * tenth).contains(&summary.unharmed), "{summary}");
     assert!(summary.broken.iter().all(|&n| n > 0), "{summary}");
 }
 
