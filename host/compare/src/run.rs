@@ -158,7 +158,7 @@ fn run_damaged<L: Layer>(
 ) -> Result<(), Box<Failure>> {
     let mut reached = Reached::new(&mut random, 0);
     for done in 0..options.damaged {
-        if reached.calls.len() > 2000 {
+        if reached.calls.len() > 4 * BUFFER_RECORDS {
             reached = Reached::new(&mut random, done);
         }
         reached.go_on(random.below(8));
