@@ -4,7 +4,7 @@ use crate::work::Batch;
 use rrezhbuta::Tables;
 use rrezhbuta_compare::image::encode;
 use rrezhbuta_compare::layer::{to_library, Layer, Library};
-use rrezhbuta_compare::step::{Expectation, Told};
+use rrezhbuta_compare::step::Expectation;
 use rrezhbuta_model::{Call, Model};
 use std::hint::black_box;
 use std::time::{Duration, Instant};
@@ -61,32 +61,36 @@ fn time_library(start: &Tables<'_>, batch: &Batch) -> Duration {
     let calls: Vec<_> = batch.calls.iter().map(to_library).collect();
     let mut tables = start.snapshot();
     let began = Instant::now();
-    for call in &calls {
-        // both answers and refusals count
-        let _ = black_box(tables.call(black_box(call)));
-    }
+    run_library(&mut tables, &calls);
     began.elapsed()
 }
 
 fn time_model(start: &Model, batch: &Batch) -> Duration {
     let mut model = start.clone();
     let began = Instant::now();
-    for call in &batch.calls {
-        let _ = black_box(model_call(&mut model, black_box(call)));
-    }
+    run_model(&mut model, &batch.calls);
     began.elapsed()
 }
 
-/// A call on the model as the library makes one: the whole state is judged first. Never inlined: its instructions are
-/// counted by its name.
+/// Never inlined, like the next one: host/instructions counts what is done in here, by its name.
 #[inline(never)]
-pub fn model_call(model: &mut Model, call: &Call) -> Told {
-    // clearing checks lengths only
-    assert!(*call == Call::Clear || model.judge().is_ok());
-    model.call(call)
+fn run_library(tables: &mut Tables<'_>, calls: &[rrezhbuta::Call]) {
+    for call in calls {
+        // both answers and refusals count
+        let _ = black_box(tables.call(black_box(call)));
+    }
 }
 
-/// Makes the batch once on one side, the library's or the model's, for a tool to count its instructions.
+#[inline(never)]
+fn run_model(model: &mut Model, calls: &[Call]) {
+    for call in calls {
+        // clearing checks lengths only
+        assert!(*call == Call::Clear || black_box(&*model).judge().is_ok());
+        let _ = black_box(model.call(black_box(call)));
+    }
+}
+
+/// Makes the batch once on one side, the library's or the model's, for its instructions to be counted.
 pub fn make(start: &Model, batch: &Batch, on_library: bool) {
     if on_library {
         time_library(&tables_of(start), batch);
