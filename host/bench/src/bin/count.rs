@@ -1,5 +1,5 @@
 //! Makes a batch of calls for a tool to count their instructions, and prints how many there are: `count proved|model
-//! NAME`, with the name of a call or `mix`.
+//! BATCH`. Or names the batches: `count names`.
 
 use rrezhbuta_bench::timing::make;
 use rrezhbuta_bench::work::{all, half_full, Batch};
@@ -19,8 +19,12 @@ fn asked(args: &[String]) -> Option<(Batch, bool)> {
 
 fn main() -> ExitCode {
     let args: Vec<String> = std::env::args().skip(1).collect();
+    if args == ["names"] {
+        all().for_each(|batch| println!("{}", batch.name));
+        return ExitCode::SUCCESS;
+    }
     let Some((batch, on_library)) = asked(&args) else {
-        eprintln!("usage: count proved|model NAME, with the name of a call or mix");
+        eprintln!("usage: count proved|model BATCH, or count names");
         return ExitCode::from(2);
     };
     make(&half_full(), &batch, on_library);

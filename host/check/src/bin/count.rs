@@ -1,4 +1,5 @@
-//! Makes checks for a tool to count their instructions, and prints how many: `count proved|plain FILLING`.
+//! Makes checks for a tool to count their instructions, and prints how many: `count proved|plain FILLING`. Or names the
+//! fillings: `count names`.
 
 use rrezhbuta_check::samples::FILLINGS;
 use rrezhbuta_check::{is_sound, plain, Tables};
@@ -20,8 +21,12 @@ fn asked(args: &[String]) -> Option<(fn(&Tables) -> bool, Tables)> {
 
 fn main() -> ExitCode {
     let args: Vec<String> = std::env::args().skip(1).collect();
+    if args == ["names"] {
+        FILLINGS.iter().for_each(|(name, _)| println!("{name}"));
+        return ExitCode::SUCCESS;
+    }
     let Some((check, tables)) = asked(&args) else {
-        eprintln!("usage: count proved|plain empty|'half full'|full");
+        eprintln!("usage: count proved|plain FILLING, or count names");
         return ExitCode::from(2);
     };
     for _ in 0..CHECKS {
