@@ -35,7 +35,6 @@ static int told_by_child(const struct test_case *test, size_t room)
 {
     const struct rrezhbuta_tables tables = set_up(test);
     int status = 0;
-    fflush(NULL);
     pid_t child = fork();
     CHECK(child != -1);
     if (child == 0) {

@@ -1,7 +1,7 @@
 //! Tables whose ids meet in the slots of a search by hints: sound ones, ids that two places have, ids that nobody has.
 
 use rrezhbuta_check::limits::*;
-use rrezhbuta_check::samples::{put, used, Ids, Numbers};
+use rrezhbuta_check::samples::{get, put, used, Ids, Numbers};
 use rrezhbuta_check::{is_sound, plain, Tables};
 use rrezhbuta_ids::Family;
 
@@ -64,24 +64,61 @@ fn an_id_that_two_processes_have_is_found() {
     }
 }
 
+/// The change makes sound tables unsound.
+fn not_found(sound: &Tables, which: &str, change: impl Fn(&mut Tables)) {
+    let mut tables = sound.clone();
+    change(&mut tables);
+    assert!(!judged(&tables, which), "{which}");
+}
+
 #[test]
 fn an_id_that_nobody_has_is_not_found() {
     each_pair(|ids, which| {
         let sound = Tables::filled(1, RECORD_LIMIT, ids);
-        let not_found = |change: &dyn Fn(&mut Tables)| {
-            let mut tables = sound.clone();
-            change(&mut tables);
-            assert!(!judged(&tables, which), "{which}");
-        };
         let (processes, threads) = ids.spare();
         for (n, &id) in processes.iter().enumerate() {
-            let thread = (n * 7 + 1) % THREAD_PLACES * THREAD_WORDS;
-            not_found(&|t| t.threads[thread + THREAD_PROCESS] = id as u64);
-            not_found(&|t| put(&mut t.process_buffer, 5 * n, RECORD_PROCESS, id));
-            not_found(&|t| put(&mut t.thread_buffer, 5 * n, RECORD_PROCESS, id));
+            let owner = (n * 7 + 1) % THREAD_PLACES * THREAD_WORDS + THREAD_PROCESS;
+            not_found(&sound, which, |t| t.threads[owner] = id as u64);
+            not_found(&sound, which, |t| {
+                put(&mut t.process_buffer, 5 * n, RECORD_PROCESS, id)
+            });
+            not_found(&sound, which, |t| {
+                put(&mut t.thread_buffer, 5 * n, RECORD_PROCESS, id)
+            });
         }
         for (n, &id) in threads.iter().enumerate() {
-            not_found(&|t| put(&mut t.thread_buffer, n, RECORD_THREAD, id));
+            not_found(&sound, which, |t| {
+                put(&mut t.thread_buffer, n, RECORD_THREAD, id)
+            });
+        }
+    });
+}
+
+/// Neither slot tells an id from one with further bits.
+#[test]
+fn an_id_with_further_bits_is_not_found() {
+    each_pair(|ids, which| {
+        let sound = Tables::filled(1, RECORD_LIMIT, ids);
+        for bit in 31..64 {
+            for field in [THREAD_ID, THREAD_PROCESS] {
+                let word = bit % THREAD_PLACES * THREAD_WORDS + field;
+                not_found(&sound, which, |t| t.threads[word] |= 1 << bit);
+            }
+        }
+        for slot in 0..RECORD_LIMIT / 2 {
+            let further = |buffer: &mut [u8], field| {
+                let id = get(buffer, slot, field);
+                put(buffer, slot, field, id | 1 << 31);
+            };
+            not_found(&sound, which, |t| {
+                further(&mut t.process_buffer, RECORD_PROCESS)
+            });
+            not_found(&sound, which, |t| {
+                further(&mut t.thread_buffer, RECORD_PROCESS)
+            });
+            not_found(&sound, which, |t| {
+                further(&mut t.thread_buffer, RECORD_THREAD)
+            });
         }
     });
 }
