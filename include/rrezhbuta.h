@@ -5,9 +5,10 @@
  * refused, is in docs/CALLS.md; host/c/loop.c is the loop that a host runs.
  *
  * Every call checks the whole of the four tables, then does its work or refuses it. It returns 0, or an errno and has
- * then written nothing, neither to a table nor through a pointer that it was given for its result. The layer keeps no
- * state and no pointer between calls. It takes no lock: a host with several threads makes one call at a time on the
- * same tables. No two of the lent tables may overlap.
+ * then written nothing, neither to a table nor through a pointer that it was given for its result. Where it is refused,
+ * or only asks, the tables may lie in read-only pages. The layer keeps no state and no pointer between calls. It takes
+ * no lock: a host with several threads makes one call at a time on the same tables. No two of the lent tables may
+ * overlap.
  */
 #ifndef RREZHBUTA_H
 #define RREZHBUTA_H
@@ -154,6 +155,10 @@ extern "C" {
 #define RREZHBUTA_ANSWER_STOP UINT64_C(19)
 #define RREZHBUTA_ANSWER_NO_ACTION UINT64_C(20)
 #define RREZHBUTA_ANSWER_WORDS 12
+
+/* ---- What a call needs of the thread that makes it: so many bytes of stack below the frame of its caller, arguments
+   and return address counted in. This is no number of crates/limits; host/c/stack.c measures every call against it. */
+#define RREZHBUTA_STACK 8192
 
 /* ---- The tables */
 

@@ -1,33 +1,17 @@
 /* Every function of rrezhbuta.h on the linked library. Ends with status 1 and the line of the first check that
    fails. */
 
-#include <stdio.h>
-#include <stdlib.h>
 #include <string.h>
 
-#include "rrezhbuta.h"
+#include "common.h"
 
 #define ALL_ONES UINT64_MAX
-#define BIT(signal) (UINT64_C(1) << ((signal)-1))
 #define UNMASKABLE (BIT(RREZHBUTA_SIGKILL) | BIT(RREZHBUTA_SIGSTOP))
-#define HANDLER 5000
 #define OLD UINT64_C(0xA5A5)
 
 static struct rrezhbuta_store store, before;
 static struct rrezhbuta_tables tables;
-static int checks;
 
-static void check(int holds, const char *said, int line)
-{
-    checks++;
-    if (holds)
-        return;
-    fprintf(stderr, "host/c/test.c:%d: not so: %s\n", line, said);
-    exit(1);
-}
-
-#define CHECK(condition) check((condition), #condition, __LINE__)
-#define DONE(call) CHECK((call) == 0)
 /* the call is refused with that errno, and every table is bit for bit as it was */
 #define REFUSED(refusal, call)                                                                                         \
     (before = store, CHECK((call) == (int)(refusal)), CHECK(memcmp(&store, &before, sizeof store) == 0))
@@ -36,16 +20,13 @@ static void check(int holds, const char *said, int line)
 
 static int add(uint32_t id, uint32_t user, uint32_t thread, uint64_t mask)
 {
-    struct rrezhbuta_new_process process = {id, user, user, user, 7, thread, mask};
-    return rrezhbuta_add_process(&tables, &process);
+    return add_user(&tables, id, user, thread, mask);
 }
 
 static void start(void)
 {
     tables = rrezhbuta_lend(&store);
-    DONE(rrezhbuta_clear(&tables));
-    DONE(add(1, 0, 2, 0));
-    DONE(add(100, 1000, 200, 0));
+    two(&tables);
 }
 
 static uint64_t kill_sent(uint32_t thread, uint32_t signal)
@@ -422,7 +403,7 @@ static void the_order_of_takes(void)
     sigqueue_sent(200, 35, 5);
     sigqueue_sent(0, 34, 6);
     const uint64_t wanted[] = {6, 5, 4, 1, 2, 3};
-    for (size_t n = 0; n < sizeof wanted / sizeof *wanted; n++)
+    for (size_t n = 0; n < COUNT(wanted); n++)
         CHECK(value_taken(200) == wanted[n]);
     CHECK(take(200).answer == RREZHBUTA_ANSWER_NOTHING);
 }
@@ -560,7 +541,7 @@ static void wrong_lengths(void)
     CHECK(rrezhbuta_look_part(&tables, 200) != NULL);
     size_t *lengths[] = {&tables.process_places, &tables.thread_places, &tables.thread_records,
                          &tables.process_records};
-    for (size_t n = 0; n < sizeof lengths / sizeof *lengths; n++) {
+    for (size_t n = 0; n < COUNT(lengths); n++) {
         refused_at(lengths[n], *lengths[n] - 1);
         /* too long by each power of two: 2^59 records more are 2^64 bytes more, which a size_t does not show */
         for (size_t more = 1; more != 0; more *= 2)
@@ -572,7 +553,7 @@ static void wrong_lengths(void)
 static void lengths_that_no_size_holds(void)
 {
     const size_t sizes[] = {RREZHBUTA_PROCESS_WORDS, RREZHBUTA_RECORD_BYTES};
-    for (size_t n = 0; n < sizeof sizes / sizeof *sizes; n++) {
+    for (size_t n = 0; n < COUNT(sizes); n++) {
         const size_t most = SIZE_MAX / sizes[n];
         CHECK(rrezhbuta_length(most, sizes[n]) == most * sizes[n]);
         CHECK(rrezhbuta_length(most + 1, sizes[n]) == 0);

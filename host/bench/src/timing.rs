@@ -61,22 +61,42 @@ fn time_library(start: &Tables<'_>, batch: &Batch) -> Duration {
     let calls: Vec<_> = batch.calls.iter().map(to_library).collect();
     let mut tables = start.snapshot();
     let began = Instant::now();
-    for call in &calls {
-        // both answers and refusals count
-        let _ = black_box(tables.call(black_box(call)));
-    }
+    run_library(&mut tables, &calls);
     began.elapsed()
 }
 
 fn time_model(start: &Model, batch: &Batch) -> Duration {
     let mut model = start.clone();
     let began = Instant::now();
-    for call in &batch.calls {
+    run_model(&mut model, &batch.calls);
+    began.elapsed()
+}
+
+/// Never inlined, like the next one: host/instructions counts what is done in here, by its name.
+#[inline(never)]
+fn run_library(tables: &mut Tables<'_>, calls: &[rrezhbuta::Call]) {
+    for call in calls {
+        // both answers and refusals count
+        let _ = black_box(tables.call(black_box(call)));
+    }
+}
+
+#[inline(never)]
+fn run_model(model: &mut Model, calls: &[Call]) {
+    for call in calls {
         // clearing checks lengths only
-        assert!(*call == Call::Clear || black_box(&model).judge().is_ok());
+        assert!(*call == Call::Clear || black_box(&*model).judge().is_ok());
         let _ = black_box(model.call(black_box(call)));
     }
-    began.elapsed()
+}
+
+/// Makes the batch once on one side, the library's or the model's, for its instructions to be counted.
+pub fn make(start: &Model, batch: &Batch, on_library: bool) {
+    if on_library {
+        time_library(&tables_of(start), batch);
+    } else {
+        time_model(start, batch);
+    }
 }
 
 /// The median of a call, in microseconds.

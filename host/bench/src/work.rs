@@ -3,13 +3,18 @@
 use rrezhbuta_compare::generate::{Generator, Style};
 use rrezhbuta_compare::random::Random;
 use rrezhbuta_compare::summary::CALLS;
+use rrezhbuta_ids::Family;
 use rrezhbuta_model::signal::{KILL, LAST, NODEFER, STOP};
 use rrezhbuta_model::{Action, Answer, Call, Model, NewProcess, Set};
 use rrezhbuta_model::{PROCESS_PLACES, RECORD_LIMIT, THREAD_PLACES};
 
 /// How many calls the mix has.
 const MIX: usize = 1000;
+/// How many calls most batches have.
+const BATCH: usize = 64;
 const THREADS_EACH: u32 = (THREAD_PLACES / PROCESS_PLACES) as u32;
+/// How many processes stay.
+const KEPT: usize = PROCESS_PLACES / 2;
 
 /// A batch of calls, made from the same tables in each round.
 #[derive(Clone, Debug)]
@@ -37,7 +42,12 @@ fn thread(n: usize) -> u32 {
 }
 
 fn process(n: usize) -> u32 {
-    100 + (n % (PROCESS_PLACES / 2)) as u32 * 2
+    100 + (n % KEPT) as u32 * 2
+}
+
+/// Realtime signals without a record or a mark, another one when every process has had its turn.
+fn unused(n: usize) -> u32 {
+    32 + (n / KEPT) as u32
 }
 
 fn add_process(id: u32, thread: u32) -> Call {
@@ -137,24 +147,24 @@ fn batch(name: &'static str, count: usize, call: impl Fn(usize) -> Call) -> Batc
 pub fn batches() -> Vec<Batch> {
     let calls = [
         batch(CALLS[0], 1, |_| Call::Clear),
-        batch(CALLS[1], 8, |n| add_process(1 + n as u32, 1 + n as u32)),
-        batch(CALLS[2], 16, |n| Call::AddThread {
+        batch(CALLS[1], KEPT, |n| add_process(1 + n as u32, 1 + n as u32)),
+        batch(CALLS[2], THREAD_PLACES / 4, |n| Call::AddThread {
             creator: thread(n),
             id: 1 + n as u32,
         }),
-        batch(CALLS[3], 4, |n| Call::EndProcess { id: process(n) }),
-        batch(CALLS[4], 16, |n| Call::EndThread { id: thread(n) }),
-        batch(CALLS[5], 64, |n| kill(process(n), 0, 32 + n as u32 / 8)),
-        batch(CALLS[6], 64, |n| sigqueue(process(n), thread(n), 33)),
-        batch(CALLS[7], 64, |n| sigaction(process(n), 32 + n as u32 / 8)),
-        batch(CALLS[8], 64, |n| sigmask(thread(n), n as u32 % 3)),
-        batch(CALLS[9], 64, |n| Call::Sigpending { thread: thread(n) }),
-        batch(CALLS[10], 64, |n| Call::Look { thread: thread(n) }),
-        batch(CALLS[11], 64, |n| Call::Who {
+        batch(CALLS[3], KEPT / 2, |n| Call::EndProcess { id: process(n) }),
+        batch(CALLS[4], 2 * KEPT, |n| Call::EndThread { id: thread(n) }),
+        batch(CALLS[5], BATCH, |n| kill(process(n), 0, unused(n))),
+        batch(CALLS[6], BATCH, |n| sigqueue(process(n), thread(n), 33)),
+        batch(CALLS[7], BATCH, |n| sigaction(process(n), unused(n))),
+        batch(CALLS[8], BATCH, |n| sigmask(thread(n), n as u32 % 3)),
+        batch(CALLS[9], BATCH, |n| Call::Sigpending { thread: thread(n) }),
+        batch(CALLS[10], BATCH, |n| Call::Look { thread: thread(n) }),
+        batch(CALLS[11], BATCH, |n| Call::Who {
             process: process(n),
         }),
-        batch(CALLS[12], 64, |n| Call::Take { thread: thread(n) }),
-        batch(CALLS[13], 64, |n| Call::Sigreturn {
+        batch(CALLS[12], BATCH, |n| Call::Take { thread: thread(n) }),
+        batch(CALLS[13], BATCH, |n| Call::Sigreturn {
             thread: thread(n),
             mask: 1 << (n % 32),
         }),
@@ -172,7 +182,7 @@ fn sigmask(thread: u32, way: u32) -> Call {
 
 /// Random calls of every kind, most of them accepted, with what ends added anew.
 pub fn mix(seed: u64) -> Batch {
-    let mut generator = Generator::new(Random::new(seed), Style::Mixed);
+    let mut generator = Generator::new(Random::new(seed), Style::Mixed, Family::Places);
     let mut model = half_full();
     let mut calls = Vec::new();
     while calls.len() < MIX {
@@ -185,4 +195,9 @@ pub fn mix(seed: u64) -> Batch {
         }
     }
     Batch { name: "mix", calls }
+}
+
+/// A batch for each call, and the mix.
+pub fn all() -> impl Iterator<Item = Batch> {
+    batches().into_iter().chain([mix(1)])
 }

@@ -3,16 +3,19 @@
 use rrezhbuta_bench::timing::{accepted, time};
 use rrezhbuta_bench::work::{batches, half_full, mix};
 use rrezhbuta_compare::summary::{kind, CALLS};
-use rrezhbuta_model::{Answer, Call};
+use rrezhbuta_model::{Answer, Call, PROCESS_PLACES, RECORD_LIMIT, THREAD_PLACES};
 
 #[test]
 fn the_tables_are_half_full() {
     let model = half_full();
     let rows = model.rows();
-    assert_eq!(rows.processes.iter().filter(|p| p.id != 0).count(), 8);
-    assert_eq!(rows.threads.iter().filter(|t| t.id != 0).count(), 32);
-    let records = rows.thread_records.len() + rows.process_records.len();
-    assert_eq!(records, 128);
+    let processes = rows.processes.iter().filter(|p| p.id != 0).count();
+    assert_eq!(processes, PROCESS_PLACES / 2);
+    let threads = rows.threads.iter().filter(|t| t.id != 0).count();
+    assert_eq!(threads, THREAD_PLACES / 2);
+    let each = processes * RECORD_LIMIT / 4;
+    let records = [&rows.thread_records, &rows.process_records];
+    assert_eq!(records.map(Vec::len), [each; 2]);
     assert_eq!(rows.processes[1].id, 0);
     assert_eq!(model.judge(), Ok(()));
 }

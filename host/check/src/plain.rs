@@ -171,7 +171,8 @@ impl<const QUEUES: usize> Pass<QUEUES> {
     }
 }
 
-/// Are the tables sound?
+/// Are the tables sound? Never inlined: its instructions are counted by its name.
+#[inline(never)]
 pub fn is_sound(tables: &Tables) -> bool {
     if tables.processes.len() != PROCESS_TABLE
         || tables.threads.len() != THREAD_TABLE

@@ -1,6 +1,7 @@
 //! Every clause of document 01's soundness, broken by itself in tables that are sound but for it.
 
 use rrezhbuta_check::limits::*;
+use rrezhbuta_check::samples::{put, used};
 use rrezhbuta_check::{is_sound, plain, Tables};
 
 /// What is done to the tables, in words and in code.
@@ -19,21 +20,6 @@ fn action(t: &mut Tables, place: usize, signal: u32, field: usize) -> &mut u64 {
 
 fn thread(t: &mut Tables, place: usize, field: usize) -> &mut u64 {
     &mut t.threads[place * THREAD_WORDS + field]
-}
-
-fn put(buffer: &mut [u8], slot: usize, field: usize, number: u32) {
-    buffer[slot * RECORD_BYTES + field..][..4].copy_from_slice(&number.to_le_bytes());
-}
-
-fn get(buffer: &[u8], slot: usize, field: usize) -> u32 {
-    let bytes = &buffer[slot * RECORD_BYTES + field..][..4];
-    u32::from_le_bytes(bytes.try_into().expect("four bytes"))
-}
-
-fn used(buffer: &[u8]) -> usize {
-    (0..BUFFER_RECORDS)
-        .find(|&slot| get(buffer, slot, RECORD_PROCESS) == 0)
-        .unwrap_or(BUFFER_RECORDS)
 }
 
 /// A record like that in the first slot, with another signal, behind the last.

@@ -4,6 +4,7 @@ use crate::random::Random;
 use rrezhbuta::limits::{PROCESS_WORDS, RECORD_BYTES, THREAD_WORDS};
 use rrezhbuta::limits::{THREAD_ID, THREAD_MASK, THREAD_PROCESS};
 use rrezhbuta::{Tables, Thread};
+use rrezhbuta_ids::HINTS;
 
 /// One of the four tables.
 #[derive(Clone, Copy, Debug, PartialEq, Eq)]
@@ -198,14 +199,14 @@ fn edit_thread(tables: &Tables<'_>, random: &mut Random) -> Edit {
     Edit::Set(Which::Threads, at, word(words[at], &words, random))
 }
 
-/// Another value for a word: near by, from elsewhere in the table, or any.
+/// Another value for a word: near by, from elsewhere in the table, an id in the same slot of the hints, or any.
 fn word(old: u64, table: &[u64], random: &mut Random) -> u64 {
     match random.below(6) {
         0 => 0,
         1 => random.below(3) as u64,
         2 => table[random.below(table.len())],
         3 => old ^ 1 << random.below(64),
-        4 => old.wrapping_add(1),
+        4 => old.wrapping_add(random.pick(&[1, HINTS as u64])),
         _ => random.next_u64(),
     }
 }

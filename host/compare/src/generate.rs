@@ -1,6 +1,7 @@
 //! Random calls that know what the model holds, so that most are accepted.
 
 use crate::random::Random;
+use rrezhbuta_ids::Family;
 use rrezhbuta_model::signal::{outcome, Outcome, DEFAULT, FLAGS, KILL, LAST, STOP};
 use rrezhbuta_model::{Action, Call, Model, NewProcess, Process, Rows, Set, Thread};
 use rrezhbuta_model::{PROCESS_PLACES, RECORD_LIMIT, THREAD_PLACES};
@@ -30,11 +31,16 @@ const FILLING: [usize; 14] = [
 const JOB_CONTROL: [u32; 8] = [17, 18, 19, 20, 21, 22, 23, 28];
 const LARGEST_ID: u32 = 2_147_483_647;
 
+/// How many ids there are to choose from, more than are in use at once.
+const IDS: usize = 300;
+const _: () = assert!(IDS > THREAD_PLACES);
+
 /// A source of calls.
 #[derive(Clone, Debug)]
 pub struct Generator {
     random: Random,
     style: Style,
+    ids: Vec<u32>,
 }
 
 fn live(rows: &Rows) -> impl Iterator<Item = &Process> + Clone {
@@ -51,9 +57,10 @@ fn has_room(rows: &Rows, process: u32) -> bool {
 }
 
 impl Generator {
-    /// Calls of that style from that source.
-    pub fn new(random: Random, style: Style) -> Generator {
-        Generator { random, style }
+    /// Calls of that style from that source, with ids of that family.
+    pub fn new(random: Random, style: Style, family: Family) -> Generator {
+        let ids = family.ids(IDS);
+        Generator { random, style, ids }
     }
 
     /// The next call, for a model as it is.
@@ -127,7 +134,10 @@ impl Generator {
     fn stray(&mut self) -> u32 {
         match self.random.below(4) {
             0 => 0,
-            1 => self.random.below(200) as u32,
+            1 => match self.random.below(200) {
+                0 => 0,
+                n => self.ids[n - 1],
+            },
             2 => LARGEST_ID + self.random.below(2) as u32,
             _ => self.random.next_u64() as u32,
         }
@@ -165,9 +175,9 @@ impl Generator {
 
     /// An id that is free in most cases.
     fn fresh(&mut self, is_live: impl Fn(u32) -> bool) -> u32 {
-        let mut id = self.random.below(300) as u32 + 1;
+        let mut id = self.random.pick(&self.ids);
         while is_live(id) && !self.random.one_in(30) {
-            id = self.random.below(300) as u32 + 1;
+            id = self.random.pick(&self.ids);
         }
         match self.random.below(60) {
             0 => self.stray(),

@@ -9,7 +9,8 @@ use crate::shrink::shrink;
 use crate::step::{Difference, Expectation};
 use crate::summary::Summary;
 use rrezhbuta::Tables;
-use rrezhbuta_model::{Call, Model};
+use rrezhbuta_ids::Family;
+use rrezhbuta_model::{Call, Model, BUFFER_RECORDS};
 use std::fmt;
 
 /// How much is run.
@@ -78,14 +79,21 @@ pub fn shrunk<L: Layer>(layer: &mut L, calls: &[Call]) -> Option<Failure> {
     })
 }
 
-/// The style of a stretch, and how many calls it has.
+/// The style of a stretch, and how many calls it has: enough to fill the buffers where that is the style.
 fn stretch(number: u64) -> (Style, u64) {
+    let records = BUFFER_RECORDS as u64;
     match number % 12 {
-        0 => (Style::ToThreads, 4000),
-        1 => (Style::ToProcesses, 4000),
-        2 => (Style::Crowded, 3000),
-        _ => (Style::Mixed, 1000),
+        0 => (Style::ToThreads, 8 * records),
+        1 => (Style::ToProcesses, 8 * records),
+        2 => (Style::Crowded, 6 * records),
+        _ => (Style::Mixed, 2 * records),
     }
+}
+
+/// The ids of a stretch: half the time small ones, else those of a family. Each style meets each family in its turn.
+fn family(number: u64) -> Family {
+    let family = Family::ALL.get(number as usize % 13);
+    *family.unwrap_or(&Family::Places)
 }
 
 /// Makes the calls, then those on damaged tables, and counts them. `progress` gets how many are done.
@@ -100,7 +108,8 @@ pub fn run<L: Layer>(
     while summary.total() < options.calls {
         let (style, length) = stretch(number);
         let length = length.min(options.calls - summary.total());
-        let generator = Generator::new(Random::new(random.next_u64()), style);
+        let seed = Random::new(random.next_u64());
+        let generator = Generator::new(seed, style, family(number));
         run_stretch(layer, generator, length, &mut summary)?;
         number += 1;
         progress(summary.total());
@@ -149,7 +158,7 @@ fn run_damaged<L: Layer>(
 ) -> Result<(), Box<Failure>> {
     let mut reached = Reached::new(&mut random, 0);
     for done in 0..options.damaged {
-        if reached.calls.len() > 2000 {
+        if reached.calls.len() > 4 * BUFFER_RECORDS {
             reached = Reached::new(&mut random, done);
         }
         reached.go_on(random.below(8));
@@ -173,10 +182,11 @@ pub struct Reached {
 
 impl Reached {
     fn new(random: &mut Random, number: u64) -> Reached {
+        let (seed, style) = (Random::new(random.next_u64()), stretch(number).0);
         let mut reached = Reached {
             model: Model::new(),
             calls: Vec::new(),
-            generator: Generator::new(Random::new(random.next_u64()), stretch(number).0),
+            generator: Generator::new(seed, style, family(number)),
         };
         reached.go_on(100);
         reached

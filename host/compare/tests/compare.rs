@@ -1,6 +1,6 @@
 //! The library against the model on a short run, and layers with a fault: found, and made as short as can be.
 
-use rrezhbuta::limits::PROCESS_STOPPED;
+use rrezhbuta::limits::{PROCESS_STOPPED, PROCESS_WORDS, RECORD_BYTES};
 use rrezhbuta::Tables;
 use rrezhbuta_compare::edit::{Edit, Which};
 use rrezhbuta_compare::generate::{Generator, Style};
@@ -10,19 +10,21 @@ use rrezhbuta_compare::random::Random;
 use rrezhbuta_compare::run::{replay, run, shrunk, Options};
 use rrezhbuta_compare::shrink::shrink;
 use rrezhbuta_compare::step::{Place, Told};
+use rrezhbuta_ids::Family;
 use rrezhbuta_model::errno::{EAGAIN, EFAULT};
-use rrezhbuta_model::{Answer, Buffer, Call, Model, NewProcess};
+use rrezhbuta_model::{Answer, Buffer, Call, Model, NewProcess, Unsound};
+use rrezhbuta_model::{BUFFER_RECORDS, PROCESS_PLACES, THREAD_PLACES};
 
 const SHORT: Options = Options {
-    calls: 40_000,
-    damaged: 4_000,
+    calls: 80 * BUFFER_RECORDS as u64,
+    damaged: 8 * BUFFER_RECORDS as u64,
     seed: 7,
 };
 
 #[test]
 fn the_library_and_the_model_agree() {
     let summary = run(&mut Library::default(), &SHORT, |_| ()).unwrap_or_else(|f| panic!("{f}"));
-    assert_eq!(summary.total(), 44_000);
+    assert_eq!(summary.total(), SHORT.calls + SHORT.damaged);
     // clearing is refused for a wrong length alone, which a short run may not try
     let [clear, others @ ..] = summary.calls;
     assert!(clear[0] > 0, "{summary}");
@@ -30,10 +32,13 @@ fn the_library_and_the_model_agree() {
     assert!(summary.answers.iter().all(|&n| n > 0), "{summary}");
     assert!(summary.errnos.iter().all(|&n| n > 0), "{summary}");
     assert!(summary.accepted_share() >= 70.0, "{summary}");
-    assert_eq!(summary.most[..2], [16, 64], "{summary}");
-    assert!(summary.most[2..].iter().all(|&n| n > 450), "{summary}");
-    assert_eq!(summary.damaged(), 4_000);
-    assert!((400..3_600).contains(&summary.unharmed), "{summary}");
+    let [processes, threads, records @ ..] = summary.most;
+    assert_eq!([processes, threads], [PROCESS_PLACES, THREAD_PLACES]);
+    let many = BUFFER_RECORDS * 7 / 8;
+    assert!(records.iter().all(|&n| n > many), "{summary}");
+    assert_eq!(summary.damaged(), SHORT.damaged);
+    let tenth = SHORT.damaged / 10;
+    assert!((tenth..9 * tenth).contains(&summary.unharmed), "{summary}");
     assert!(summary.broken.iter().all(|&n| n > 0), "{summary}");
 }
 
@@ -95,9 +100,11 @@ impl Layer for Faulty {
         match slot {
             None => &[],
             Some(slot) if slot.buffer == Buffer::Thread => {
-                &self.tables.thread_buffer()[slot.index * 32..][..32]
+                &self.tables.thread_buffer()[slot.index * RECORD_BYTES..][..RECORD_BYTES]
             }
-            Some(slot) => &self.tables.process_buffer()[slot.index * 32..][..32],
+            Some(slot) => {
+                &self.tables.process_buffer()[slot.index * RECORD_BYTES..][..RECORD_BYTES]
+            }
         }
     }
 }
@@ -123,17 +130,65 @@ fn end_thread_writes_nothing(model: &Model, call: &Call) -> Option<Told> {
 
 /// Calls that the fault does not touch, from the generator.
 fn noise(count: usize, is_noise: impl Fn(&Call) -> bool) -> Vec<Call> {
-    let mut generator = Generator::new(Random::new(3), Style::Mixed);
+    let generator = Generator::new(Random::new(3), Style::Mixed, Family::Places);
+    generated(generator, count, is_noise).0
+}
+
+/// So many calls of a kind that a generator makes, and the model after them.
+fn generated(
+    mut generator: Generator,
+    count: usize,
+    wanted: impl Fn(&Call) -> bool,
+) -> (Vec<Call>, Model) {
     let mut model = Model::new();
     let mut calls = Vec::new();
     while calls.len() < count {
         let call = generator.call(&model);
-        if is_noise(&call) {
+        if wanted(&call) {
             let _ = model.call(&call);
             calls.push(call);
         }
     }
-    calls
+    (calls, model)
+}
+
+/// The calls that fill the tables with ids of the family, and the model after them.
+fn crowded(family: Family) -> (Vec<Call>, Model) {
+    let generator = Generator::new(Random::new(11), Style::Crowded, family);
+    generated(generator, 4 * BUFFER_RECORDS, |call| *call != Call::Clear)
+}
+
+#[test]
+fn the_library_and_the_model_agree_on_ids_of_each_family() {
+    for family in Family::ALL {
+        let (calls, model) = crowded(family);
+        let rows = model.rows();
+        let live = rows.threads.iter().filter(|t| t.id != 0).count();
+        assert!(live > THREAD_PLACES * 7 / 8, "{family:?}: {live}");
+        let difference = replay(&mut Library::default(), &calls);
+        assert_eq!(difference, None, "{family:?}");
+    }
+}
+
+#[test]
+fn an_id_that_two_threads_have_is_efault_in_each_family() {
+    for family in Family::ALL {
+        let (_, model) = crowded(family);
+        let mut live = (0..THREAD_PLACES).filter(|&n| model.rows().threads[n].id != 0);
+        let (first, last) = (live.next(), live.next_back());
+        let (first, last) = first.zip(last).expect("two threads");
+        for (from, to) in [(first, last), (last, first)] {
+            let mut rows = model.rows().clone();
+            rows.threads[to].id = rows.threads[from].id;
+            assert_eq!(Model::from_rows(rows.clone()), Err(Unsound::SameId));
+            let (mut tables, mut library) = (Tables::new(), Library::default());
+            encode(&rows, &mut tables);
+            library.load(tables);
+            let thread = rows.threads[from].id as u32;
+            let told = library.call(&Call::Sigpending { thread });
+            assert_eq!(told, Err(EFAULT), "{family:?}");
+        }
+    }
 }
 
 /// The three calls that show the fault of `kill_needs_room`, on a process that no other call names.
@@ -193,7 +248,8 @@ fn a_fault_in_a_long_run_is_found_and_every_call_of_the_list_is_needed() {
     let mut layer = faulty(end_thread_writes_nothing);
     let failure = run(&mut layer, &SHORT, |_| ()).expect_err("the fault shows");
     let calls = &failure.calls;
-    assert!(calls.len() <= 3, "{failure}");
+    // a process, the thread that ends, and those in between that create one another
+    assert!(calls.len() <= 6, "{failure}");
     assert!(matches!(calls.last(), Some(Call::EndThread { .. })));
     assert!(!matches!(failure.difference.place, Place::Answer));
     for left_out in 0..calls.len() {
@@ -218,7 +274,7 @@ fn a_clause_that_is_not_checked_is_found_in_damaged_tables() {
     let [Edit::Set(Which::Processes, at, value)] = failure.damage[..] else {
         panic!("{failure}");
     };
-    assert!(at % 199 == PROCESS_STOPPED && value > 1);
+    assert!(at % PROCESS_WORDS == PROCESS_STOPPED && value > 1);
 }
 
 #[test]
@@ -244,12 +300,7 @@ fn shrinking_keeps_what_is_needed_in_its_order() {
 
 #[test]
 fn tables_come_back_from_the_rows_that_they_say() {
-    let mut generator = Generator::new(Random::new(11), Style::Crowded);
-    let mut model = Model::new();
-    for _ in 0..500 {
-        let call = generator.call(&model);
-        let _ = model.call(&call);
-    }
+    let (_, model) = crowded(Family::Places);
     let mut tables = Tables::new();
     encode(model.rows(), &mut tables);
     assert_eq!(decode(&tables).as_ref(), Some(model.rows()));

@@ -101,8 +101,8 @@ pub fn call(tables: &mut Tables<'_>, answer: &mut [u64], numbers: &Numbers) -> u
     }
 }
 
-/// Where the record lies that a thread takes next: 0 for none, 1 to 512 for a slot of the thread buffer, 513 to 1024
-/// for a slot of the process buffer.
+/// Where the record lies that a thread takes next: 0 for none, from 1 to `BUFFER_RECORDS` for a slot of the thread
+/// buffer, from there on for a slot of the process buffer.
 pub fn look_slot(tables: &Tables<'_>, thread: u32) -> u64 {
     // SAFETY: each pointer is that of a live slice that is borrowed for the call and comes with its length; the library
     // only reads, within the lengths, and keeps no pointer.

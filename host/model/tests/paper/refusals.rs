@@ -2,7 +2,7 @@
 
 use crate::common::*;
 use rrezhbuta_model::errno::{EAGAIN, EEXIST, EINVAL, EPERM, ESRCH};
-use rrezhbuta_model::{Answer, Call, Model, NewProcess};
+use rrezhbuta_model::{Answer, Call, Model, NewProcess, PROCESS_PLACES, THREAD_PLACES};
 
 const LARGEST: u32 = 2_147_483_647;
 
@@ -151,18 +151,19 @@ fn eexist_before_eagain() {
     refused(&mut model, process(100, 0, 300, 0), EEXIST);
     refused(&mut model, process(300, 0, 200, 0), EEXIST);
     refused(&mut model, thread(200, 201), EEXIST);
-    for id in 102..116 {
+    let last = 100 + PROCESS_PLACES as u32 - 1;
+    for id in 102..=last {
         assert_eq!(model.call(&process(id, 0, id, 0)), Ok(Answer::Done));
     }
-    refused(&mut model, process(115, 0, 300, 0), EEXIST);
+    refused(&mut model, process(last, 0, 300, 0), EEXIST);
     refused(&mut model, process(300, 0, 300, 0), EAGAIN);
-    for id in 1000..1048 {
+    for id in (1000..).take(THREAD_PLACES - PROCESS_PLACES) {
         assert_eq!(model.call(&thread(200, id)), Ok(Answer::Done));
     }
     refused(&mut model, thread(200, 1000), EEXIST);
     refused(&mut model, thread(200, 2000), EAGAIN);
     // a process place is free again, a thread place is not
-    assert_eq!(model.call(&Call::EndProcess { id: 115 }), Ok(Answer::Done));
+    assert_eq!(model.call(&Call::EndProcess { id: last }), Ok(Answer::Done));
     assert_eq!(model.call(&thread(200, 2000)), Ok(Answer::Done));
     refused(&mut model, process(300, 0, 300, 0), EAGAIN);
 }

@@ -2,6 +2,7 @@
 
 use crate::common::*;
 use rrezhbuta_model::{judge, Action, Process, Record, Rows, Set, Thread, Unsound};
+use rrezhbuta_model::{BUFFER_RECORDS, PROCESS_PLACES, THREAD_PLACES};
 
 const KILL: u64 = 1 << 8;
 const STOP: u64 = 1 << 18;
@@ -45,25 +46,23 @@ fn sound(change: impl FnOnce(&mut Rows)) {
 #[test]
 fn lengths() {
     broken(Unsound::Length, |r| r.processes.push(Process::FREE));
-    broken(Unsound::Length, |r| r.threads.truncate(63));
-    let last = |records: &[Record]| *records.last().unwrap();
-    broken(Unsound::Length, |r| {
-        r.thread_records.resize(513, last(&r.thread_records))
-    });
-    broken(Unsound::Length, |r| {
-        r.process_records.resize(513, last(&r.process_records))
-    });
+    broken(Unsound::Length, |r| r.threads.truncate(THREAD_PLACES - 1));
+    let more = |records: &mut Vec<Record>| records.resize(BUFFER_RECORDS + 1, records[0]);
+    broken(Unsound::Length, |r| more(&mut r.thread_records));
+    broken(Unsound::Length, |r| more(&mut r.process_records));
 }
 
 #[test]
 fn free_places_are_zero() {
     broken(Unsound::FreePlace, |r| r.processes[2].saved = 1);
-    broken(Unsound::FreePlace, |r| r.processes[15].stopped = 1);
+    let last = PROCESS_PLACES - 1;
+    broken(Unsound::FreePlace, |r| r.processes[last].stopped = 1);
     broken(Unsound::FreePlace, |r| {
-        r.processes[15].actions[63].mask = Set(1)
+        r.processes[last].actions[63].mask = Set(1)
     });
     broken(Unsound::FreePlace, |r| r.threads[3].process = 100);
-    broken(Unsound::FreePlace, |r| r.threads[63].marks = Set(1));
+    let last = THREAD_PLACES - 1;
+    broken(Unsound::FreePlace, |r| r.threads[last].marks = Set(1));
 }
 
 /// A third process with a thread of its own.

@@ -91,14 +91,14 @@ fn eagain_for_places() {
         tables.add_process(user(id, 0, id)).unwrap();
     }
     refused(&mut tables, Errno::EAGAIN, |t| {
-        t.add_process(user(99, 0, 99))
+        t.add_process(user(LARGEST_ID, 0, LARGEST_ID))
     });
     for id in PROCESS_PLACES + 1..=THREAD_PLACES {
         let id = ThreadId(id as u32);
         tables.add_thread(ThreadId(1), id).unwrap();
     }
     refused(&mut tables, Errno::EAGAIN, |t| {
-        t.add_thread(ThreadId(1), ThreadId(99))
+        t.add_thread(ThreadId(1), ThreadId(LARGEST_ID))
     });
 }
 

@@ -1,6 +1,7 @@
 //! The tables for a reader.
 
 use crate::common::*;
+use rrezhbuta::limits::PROCESS_PLACES;
 use rrezhbuta::{Action, SigSet, Signal, Tables, Target, ThreadId, Way};
 
 #[test]
@@ -55,7 +56,7 @@ fn tables_of_any_length_can_be_shown() {
     tables.processes_mut().fill(u64::MAX);
     tables.thread_buffer_mut().fill(0xFF);
     tables.process_buffer_mut().fill(0xFF);
-    assert_eq!(tables.to_string().matches("Pid:").count(), 16);
+    assert_eq!(tables.to_string().matches("Pid:").count(), PROCESS_PLACES);
     let odd = Tables::from_parts(vec![1; 7], vec![], vec![1; 33], vec![]);
     assert_eq!(odd.to_string(), "");
 }
