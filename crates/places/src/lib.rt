@@ -209,10 +209,10 @@ fn free_thread_ok(ts: &[u64], place: usize) -> bool
     requires { ⌜ (length (now ts) ≡ threadTable) × (place < threadPlaces) ⌝ }
     ensures { λ r. ⌜ r ≡ zeroThread (threadAt (now (ts .entry)) place) ⌝ }
 {
-    let process = tables::thread_field_at(ts, place, THREAD_PROCESS);
+    let owner = tables::thread_field_at(ts, place, THREAD_PROCESS);
     let mask = tables::thread_field_at(ts, place, THREAD_MASK);
     let marks = tables::thread_field_at(ts, place, THREAD_MARKS);
-    (process == 0) & ((mask == 0) & (marks == 0))
+    (owner == 0) & ((mask == 0) & (marks == 0))
 }
 
 // A live thread, whose process ignores these signals.
