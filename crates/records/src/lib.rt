@@ -34,9 +34,11 @@ fn is_delivered(ignores: SigSet, r: Siginfo) -> bool
     ensures { λ h. ⌜ h ≡ isDelivered ignores r ⌝ }
 {
     let s = r.signal;
-    let named = decide::is_nameable(s);
+    if !decide::is_nameable(s) {
+        return false;
+    }
     let hit = SigSet::has(ignores, s);
-    named & ((r.code == SI_QUEUE) & !hit)
+    (r.code == SI_QUEUE) & !hit
 }
 
 // The record is counted and noted, unless its signal may be pending only once and is so already.
