@@ -37,7 +37,7 @@ use Rattle.threads.proofs.Thread as T
 use Rattle.threads.proofs.load as ld
 use Rattle.threads.proofs.load.Symbol.{name as #threads·load}
 use Rattle.rrezhbuta.proofs.Lends.{rows, word, Lease, val, token, lent}
-use Rattle.rrezhbuta.proofs.Walk.{Its, calls-by}
+use Rattle.threads.proofs.Walk.{Its, calls-by}
 
 module _ {M : Type 1} (𝓤 : URA M) (H : Heap 𝓤) (A : Atoms 𝓤) (mem : Memory → SProp 𝓤) (run : Routine → Fun 𝓤) where
   abbrev pub Load : Contract 𝓤

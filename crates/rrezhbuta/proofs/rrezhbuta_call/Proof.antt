@@ -34,9 +34,9 @@ use Rattle.boundary.specs.Boundary.{arguments}
 use Rattle.rrezhbuta.proofs.Lends.{elem, slice, val, Lends, lendsOf, lives5, shares5, refs5, vals5, owns5, left5}
 use Rattle.rrezhbuta.proofs.Lends.{alive, held, Facts, with5, still5}
 use Rattle.rrezhbuta.proofs.Routes.{mask-route, return-route}
-use Rattle.rrezhbuta.proofs.Walk.{Cell, spare, holds, slots, cells, frees-all, copied, reborrows, figures, words}
-use Rattle.rrezhbuta.proofs.Walk.{Numbers, Small, numbers, spelled, told, are-small, Truths, truths, Its}
-use Rattle.rrezhbuta.proofs.Walk.{ends-by, meets-by, calls-by}
+use Rattle.threads.proofs.Walk.{Cell, spare, holds, slots, cells, frees-all, copied, reborrows, figures, words}
+use Rattle.threads.proofs.Walk.{Numbers, Small, numbers, spelled, told, are-small, Truths, truths, Its}
+use Rattle.threads.proofs.Walk.{ends-by, meets-by, calls-by}
 use Rattle.threads.proofs.Thread as T
 use Rattle.rrezhbuta.proofs.serve as sv
 use Rattle.rrezhbuta.proofs.serve.Symbol as sv-def

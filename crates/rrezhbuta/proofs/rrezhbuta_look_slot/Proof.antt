@@ -48,8 +48,8 @@ use Rattle.threads.proofs.load.Met as ld-thm
 use Rattle.rrezhbuta.proofs.Lends.{elem, slice, table, rows, word}
 use Rattle.rrezhbuta.proofs.Lengths.{no-slot}
 use Rattle.rrezhbuta.proofs.Load.{Load, to-load, asks-load}
-use Rattle.rrezhbuta.proofs.Walk.{is-yes, Cell, spare, holds, slots, cells, frees-all, copied, Numbers, numbers}
-use Rattle.rrezhbuta.proofs.Walk.{Truths, truths, Its, ends-by, meets-by, calls-by}
+use Rattle.threads.proofs.Walk.{is-yes, Cell, spare, holds, slots, cells, frees-all, copied, Numbers, numbers}
+use Rattle.threads.proofs.Walk.{Truths, truths, Its, ends-by, meets-by, calls-by}
 use Rattle.rrezhbuta.proofs.slot_of as sl
 use Rattle.rrezhbuta.proofs.slot_of.Symbol as sl-def
 use Rattle.rrezhbuta.proofs.slot_of.Symbol.{name as #rrezhbuta·slot-of}

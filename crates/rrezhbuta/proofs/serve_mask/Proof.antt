@@ -58,9 +58,9 @@ use Rattle.rrezhbuta.proofs.Lends.{lives4, lives5, shares4, shares5, re
 use Rattle.rrezhbuta.proofs.Lends.{left4, four, alive, held, Facts, apart, whole, with4, still4, unused4}
 use Rattle.rrezhbuta.proofs.Lengths.{wrong-length}
 use Rattle.rrezhbuta.proofs.Load.{Load, loads-row}
-use Rattle.rrezhbuta.proofs.Walk.{is-yes, Cell, spare, holds, slots, cells, frees-all, copied, reborrows}
-use Rattle.rrezhbuta.proofs.Walk.{figures, words, Numbers, Small, numbers, spelled, told, are-small, Truths}
-use Rattle.rrezhbuta.proofs.Walk.{truths, Its, ends-by, meets-by, calls-by}
+use Rattle.threads.proofs.Walk.{is-yes, Cell, spare, holds, slots, cells, frees-all, copied, reborrows}
+use Rattle.threads.proofs.Walk.{figures, words, Numbers, Small, numbers, spelled, told, are-small, Truths}
+use Rattle.threads.proofs.Walk.{truths, Its, ends-by, meets-by, calls-by}
 use Rattle.threads.proofs.Thread as T
 use Rattle.threads.proofs.Thread.Laws as T′
 use Rattle.rrezhbuta.proofs.MaskChange as O
