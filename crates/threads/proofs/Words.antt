@@ -7,7 +7,7 @@ use native.Mathlib.Numerals.{add-one}
 use native.Mathlib.Omega.{arith}
 use lib.Dec.{eqb}
 use lib.ListN.{length, getD, take}
-use lib.Seq.{sets, take-suc, take-all, length-take-le}
+use lib.Seq.{sets, length-sets, take-suc, take-all, length-take-le}
 use borrow.Author.Tests.{eqb-true}
 use Rattle.limits.specs.Limits.{threadPlaces, threadWords, threadTable}
 use Rattle.lists.specs.Rows.{flat}
@@ -37,6 +37,9 @@ unfolding wordsOf
 words-length ts =
     length-flat recordTo threadWords ts (All-every (λ t. length (recordTo t) ≡ threadWords) record-words ts)
 
+pub table-long : (ts : List Thread) → length ts ≡ threadPlaces → length (wordsOf ts) ≡ threadTable
+table-long ts e = words-length ts ∙ ap (λ n. n * threadWords) e
+
 pub records-back : (ts : List Thread) → recordsOf (length ts) (wordsOf ts) ≡ ts
 unfolding recordsOf wordsOf
 records-back ts =
@@ -58,6 +61,9 @@ pub written-none : (d : List ℕ) (ts : List Thread) → d ≡ written d ts 0
 unfolding wordsOf flat
 written-none d ts = refl
 
+pub written-long : (d : List ℕ) (ts : List Thread) (i : ℕ) → length (written d ts i) ≡ length d
+written-long d ts i = length-sets d 0 (wordsOf (take i ts))
+
 pub written-suc : (d : List ℕ) (ts : List Thread) (i : ℕ) → length ts ≡ threadPlaces → i < threadPlaces
     → withRecord i (getD ts i noThread) (written d ts i) ≡ written d ts (i + 1)
 unfolding wordsOf flat withRecord
@@ -75,7 +81,7 @@ pub written-all : (d : List ℕ) (ts : List Thread) → length d ≡ threadTable
     → written d ts threadPlaces ≡ wordsOf ts
 written-all d ts c e =
     ap (λ x. sets d 0 (wordsOf x)) (take-all threadPlaces ts (omega arith))
-    ∙ sets-whole (wordsOf ts) d (c ∙ ap (λ n. n * threadWords) (sym e) ∙ sym (words-length ts))
+    ∙ sets-whole (wordsOf ts) d (c ∙ sym (table-long ts e))
 
 -- ---- `store_words`: the first i records stand over d
 

@@ -62,8 +62,7 @@ pub fn put_mask(ts: &mut [Thread], id: u64, m: SigSet)
 
 // The words of record i become those of t.
 fn put_record(ws: &mut [u64], i: usize, t: Thread)
-    requires { ⌜ length (now ws) ≡ threadTable ⌝ }
-    requires { ⌜ i < threadPlaces ⌝ }
+    requires { ⌜ (length (now ws) ≡ threadTable) × (i < threadPlaces) ⌝ }
     ensures { λ _. ⌜ now (ws .exit) ≡ withRecord i t (now (ws .entry)) ⌝ }
 {
     let mask = t.mask;
@@ -76,8 +75,7 @@ fn put_record(ws: &mut [u64], i: usize, t: Thread)
 
 // The record at place i of the words.
 fn record_at(ws: &[u64], i: usize) -> Thread
-    requires { ⌜ length (now ws) ≡ threadTable ⌝ }
-    requires { ⌜ i < threadPlaces ⌝ }
+    requires { ⌜ (length (now ws) ≡ threadTable) × (i < threadPlaces) ⌝ }
     ensures { λ r. ⌜ r ≡ getD (recordsOf threadPlaces (now (ws .entry))) i noThread ⌝ }
 {
     Thread {
@@ -97,8 +95,7 @@ fn same(t: Thread, u: Thread) -> bool
 
 // The words become those of the records.
 pub fn load_words(ts: &[Thread], ws: &mut [u64])
-    requires { ⌜ length (now ts) ≡ threadPlaces ⌝ }
-    requires { ⌜ length (now ws) ≡ threadTable ⌝ }
+    requires { ⌜ (length (now ts) ≡ threadPlaces) × (length (now ws) ≡ threadTable) ⌝ }
     ensures { λ _. ⌜ now (ws .exit) ≡ wordsOf (now (ts .entry)) ⌝ }
 {
     let mut i = 0;
@@ -110,8 +107,7 @@ pub fn load_words(ts: &[Thread], ws: &mut [u64])
 
 // The records become those of the words; a record that is the same already is not written to.
 pub fn store_words(ts: &mut [Thread], ws: &[u64])
-    requires { ⌜ length (now ts) ≡ threadPlaces ⌝ }
-    requires { ⌜ length (now ws) ≡ threadTable ⌝ }
+    requires { ⌜ (length (now ts) ≡ threadPlaces) × (length (now ws) ≡ threadTable) ⌝ }
     ensures { λ _. ⌜ now (ts .exit) ≡ recordsOf threadPlaces (now (ws .entry)) ⌝ }
 {
     let mut i = 0;
