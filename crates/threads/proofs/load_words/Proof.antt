@@ -51,6 +51,7 @@ use Rattle.limits.specs.Limits.{threadPlaces, threadTable}
 use Rattle.threads.specs.Records.{noThread, wordsOf, withRecord}
 use Rattle.threads.specs.declared.Thread.{Thread}
 use Rattle.threads.proofs.Size.{recordSize, near-full}
+use Rattle.threads.proofs.Turns.{Upto, Nearer, Nearer-wf, fits, next, nearer, tested}
 use Rattle.threads.proofs.Lent.{at-list, lends-row, row-back, resolves}
 use Rattle.threads.proofs.Walk.{Cell, spare, holds, slots, cells, frees-all, copied, reborrows, Its, ends-by}
 use Rattle.threads.proofs.Walk.{meets-by, calls-by}
@@ -116,18 +117,6 @@ module _ {M : Type 1} (𝓤 : URA M) (H : Heap 𝓤) (A : Atoms 𝓤) (W : Given
       move ! (0 ∷ 1 ∷ []) $ join ! $ frame ! $
       nothing ! $ feqI ! ℕ (length (wordsOf ys)) (length ds) as-long $ move ! (2 ∷ 0 ∷ []) $ fjoin ! $ fjoin ! $
       nothing ! $ fjoin ! $ done !
-
-  abbrev Upto : Type 0
-  Upto = (i : ℕ) × (i ≤ threadPlaces)
-
-  abbrev Nearer : Upto → Upto → Type 0
-  Nearer j i = threadPlaces - j .0 < threadPlaces - i .0
-
-  Nearer-wf : WellFounded Nearer
-  Nearer-wf = InvImage·wf (λ (i : Upto). threadPlaces - i .0) (Nat·lt-wfRel .wf)
-
-  fits : (i : Upto) → i .0 < 2 ^ 64
-  fits i = lt-of-le-of-lt (i .1) (lit< tt)
 
   -- what `put_record` is handed, the words under the name δ, and what it asks
   abbrev to-put : ℕ → GName → ℕ → Put 𝓤 H A mem run .Ghost
@@ -226,14 +215,11 @@ module _ {M : Type 1} (𝓤 : URA M) (H : Heap 𝓤) (A : Atoms 𝓤) (W : Given
           row-back ! tt u64 b₂ o₂ (length ds) (zs .0) $
           rewrite ! 0 (λ (ws : List ℕ). ‵ (row u64 fullShare ws b₂ o₂)) (eq ∙ written-suc ds ys (i .0) all l) refl $
           move ! (1 ∷ 2 ∷ 3 ∷ []) $ drop ! $ drop ! $ drop ! $ move ! (1 ∷ 2 ∷ 0 ∷ []) $
-          assigns-last ! (bin ! (copied ! 20 refl) (lit ! tt) (record { fits = fits next }))
-          (from ! (stop !)) (store ! 20 refl (tt, record { fits = fits next })) $
+          assigns-last ! (bin ! (copied ! 20 refl) (lit ! tt) (record { fits = fits (next i l) }))
+          (from ! (stop !)) (store ! 20 refl (tt, record { fits = fits (next i l) })) $
           forget ! 6 refl $ forget ! 8 refl $ forget ! 10 refl $ forget ! 12 refl $ forget ! 14 refl $
-          forget ! 16 refl $ forget ! 18 refl $ again ! Nearer At i next (add-one-dec threadPlaces (i .0) l)))))
+          forget ! 16 refl $ forget ! 18 refl $ again ! Nearer At i (next i l) (nearer i l)))))
         where
-          next : Upto
-          next = (i .0 + 1, add-one-le l)
-
           inside : i .0 < length ys
           inside = subst (λ (k : ℕ). i .0 < k) (sym all) l
 
@@ -256,12 +242,7 @@ module _ {M : Type 1} (𝓤 : URA M) (H : Heap 𝓤) (A : Atoms 𝓤) (W : Given
           frees-all ! 3 (at-turn (i .0)) refl $ by ! exits
 
       turns : (i : Upto) → Sq W (At i) (runs C Λ En mir.turn-1 (anyQ (Turned i)))
-      turns i = go (ltb (i .0) threadPlaces) refl
-        where
-          go : (t : Bool) → ltb (i .0) threadPlaces ≡ t → Sq W (At i) (runs C Λ En mir.turn-1 (anyQ (Turned i)))
-          go true e = writes i e (ltb→lt (i .0) threadPlaces (subst T (sym e) tt))
-          go false e =
-              ends i e (le-antisymm (i .1) (nltb→le (i .0) threadPlaces (subst (λ (t : Bool). T (not t)) (sym e) tt)))
+      turns i = tested i (writes i) (ends i)
 
     -- what the parameters own
     abbrev Owns : Fml

@@ -53,6 +53,7 @@ use Rattle.limits.specs.Limits.{threadPlaces, threadTable}
 use Rattle.threads.specs.Records.{noThread, recordsOf, sameRecord}
 use Rattle.threads.specs.declared.Thread.{Thread}
 use Rattle.threads.proofs.Size.{recordSize, near-full}
+use Rattle.threads.proofs.Turns.{Upto, Nearer, Nearer-wf, fits, next, nearer, tested}
 use Rattle.threads.proofs.Lent.{at-list, resolves}
 use Rattle.threads.proofs.Walk.{Cell, spare, holds, slots, cells, frees-all, copied, is-yes, Its, ends-by}
 use Rattle.threads.proofs.Walk.{meets-by, calls-by}
@@ -131,18 +132,6 @@ module _ {M : Type 1} (𝓤 : URA M) (H : Heap 𝓤) (A : Atoms 𝓤) (W : Given
       nothing ! $ nothing ! $ fjoin ! $ feqI ! ℕ (length zs) (length ys) as-long $ move ! (2 ∷ 0 ∷ []) $ fjoin ! $
       fjoin ! $ done !
 
-  abbrev Upto : Type 0
-  Upto = (i : ℕ) × (i ≤ threadPlaces)
-
-  abbrev Nearer : Upto → Upto → Type 0
-  Nearer j i = threadPlaces - j .0 < threadPlaces - i .0
-
-  Nearer-wf : WellFounded Nearer
-  Nearer-wf = InvImage·wf (λ (i : Upto). threadPlaces - i .0) (Nat·lt-wfRel .wf)
-
-  fits : (i : Upto) → i .0 < 2 ^ 64
-  fits i = lt-of-le-of-lt (i .1) (lit< tt)
-
   -- record i of the row, of which the first i were stored, and that of the words
   abbrev old : ℕ → Thread
   old i = getD (filled ys zs i) i noThread
@@ -220,13 +209,9 @@ module _ {M : Type 1} (𝓤 : URA M) (H : Heap 𝓤) (A : Atoms 𝓤) (W : Given
       goes-on : (i : Upto) → i .0 < threadPlaces → Sq W (Stored (i .0 + 1) (i .0)) (runs C Λ En bump (anyQ (Turned i)))
       unfolding afterTurn
       goes-on i l =
-          assigns-last ! (bin ! (copied ! 22 refl) (lit ! tt) (record { fits = fits next }))
-          (from ! (stop !)) (store ! 22 refl (tt, record { fits = fits next })) $
-          again ! Nearer At i next (add-one-dec threadPlaces (i .0) l)
-        where
-          next : Upto
-          next = (i .0 + 1, add-one-le l)
-
+          assigns-last ! (bin ! (copied ! 22 refl) (lit ! tt) (record { fits = fits (next i l) }))
+          (from ! (stop !)) (store ! 22 refl (tt, record { fits = fits (next i l) })) $
+          again ! Nearer At i (next i l) (nearer i l)
       -- a turn at record i
       stores : (i : Upto) → ltb (i .0) threadPlaces ≡ true → i .0 < threadPlaces
           → Sq W (At i) (runs C Λ En mir.turn-1 (anyQ (Turned i)))
@@ -327,12 +312,7 @@ module _ {M : Type 1} (𝓤 : URA M) (H : Heap 𝓤) (A : Atoms 𝓤) (W : Given
           frees-all ! 3 (at-turn (i .0)) refl $ by ! exits
 
       turns : (i : Upto) → Sq W (At i) (runs C Λ En mir.turn-1 (anyQ (Turned i)))
-      turns i = go (ltb (i .0) threadPlaces) refl
-        where
-          go : (t : Bool) → ltb (i .0) threadPlaces ≡ t → Sq W (At i) (runs C Λ En mir.turn-1 (anyQ (Turned i)))
-          go true e = stores i e (ltb→lt (i .0) threadPlaces (subst T (sym e) tt))
-          go false e =
-              ends i e (le-antisymm (i .1) (nltb→le (i .0) threadPlaces (subst (λ (t : Bool). T (not t)) (sym e) tt)))
+      turns i = tested i (stores i) (ends i)
 
     -- what the parameters own
     abbrev Owns : Fml
