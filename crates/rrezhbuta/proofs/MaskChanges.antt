@@ -35,7 +35,7 @@ use Rattle.answers.proofs.Endings.{accepted-step, accepted-tables-sound, accept
 use Rattle.effects.proofs.Places.{thread-changed}
 use Rattle.threads.specs.declared.Thread.{Thread}
 use Rattle.threads.specs.Records.{noThread, withMask, hasId, withMaskAt, recordTo, wordsOf, recordsOf}
-use Rattle.threads.proofs.Words.{words-length, records-back}
+use Rattle.threads.proofs.Words.{table-long, records-back}
 use Rattle.rrezhbuta.specs.Entry.{maskIn}
 
 -- ---- a row of records, as the places that its words say
@@ -122,9 +122,6 @@ module _ (ps tb pb : List ℕ) (ts : List Thread) (e : length ts ≡ threadPlace
   abbrev before : Lent
   before = lent ps (wordsOf ts) tb pb
 
-  long : length (wordsOf ts) ≡ threadTable
-  long = words-length ts ∙ ap (λ k. k * threadWords) e
-
   abbrev after : Option SigSet → List ℕ
   after set = stepOn (sigmask t way set) before .0 .threads
 
@@ -136,7 +133,7 @@ module _ (ps tb pb : List ℕ) (ts : List Thread) (e : length ts ≡ threadPlace
   none-after : refusalOn (sigmask t way none) before ≡ 0 → after none ≡ wordsOf ts
   unfolding encoded decoded changes maskChanges applyAll
   none-after a =
-      ap (λ x. x .0 .threads) (accepted-step (sigmask t way none) before a) ∙ thread-words-back (wordsOf ts) long
+      ap (λ x. x .0 .threads) (accepted-step (sigmask t way none) before a) ∙ thread-words-back (wordsOf ts) (table-long ts e)
 
   -- with one: the rules' change of the live thread
   module _ (m : SigSet) (s : soundTables (lent ps (wordsOf ts) tb pb) ≡ true)
