@@ -21,7 +21,7 @@ use ghost.Atoms.{Atoms}
 use contract.Monad.{Fun}
 use sound.WpLaws.{FmC}
 use types.Kit.{Given, Item, ‵, raw, _⊛_, ⋆, Post, runs, lands, Seq, _$_, _∵_, !, qed, move, drop, group, use1, split}
-use types.Kit.{join, rewrite, fsplit, fjoin, frame, done}
+use types.Kit.{rewrite, fsplit, fjoin, frame, done}
 use types.Run.{Opds}
 use types.Tokens.{lft-new, lft-end}
 use denote.Laws.{Is}
@@ -36,7 +36,7 @@ use denote.Triple.Walked.{says}
 use Rattle.limits.specs.Limits.{threadPlaces, threadTable}
 use Rattle.threads.specs.declared.Thread.{Thread}
 use Rattle.threads.specs.Records.{wordsOf}
-use Rattle.threads.proofs.Lent.{at-list, LentOut, lends-row, row-back, shares-slice, shared-back}
+use Rattle.threads.proofs.Lent.{at-list, lends-row, row-back, shares-slice, shared-back}
 use Rattle.threads.proofs.Thread as T
 use Rattle.threads.proofs.Walk.{Its, calls-by}
 use Rattle.threads.proofs.load_words as ld

@@ -1,6 +1,6 @@
 -- A mask call leaves a row of records with at most one mask changed,
 -- and the mask that code reads of the words is that one. Assumes nothing.
-use Prim.Native.Nat.{ℕ, _*_, _<_}
+use Prim.Native.Nat.{ℕ, _<_}
 use mathlib.Core.Path.{_≡_, refl, sym, ap, _∙_}
 use mathlib.Core.Bool.{true, not}
 use mathlib.Core.List.{List, [], _∷_, _++_, map}
@@ -10,7 +10,7 @@ use lib.Dec.{eqb, ltb}
 use lib.ListN.{length, getD, set, length-set, length-map, List·getD-map, List·getD-eq-default}
 use lib.Seq.{getD-set-same, set-getD, set-out}
 use borrow.Author.Tests.{eqb-true, eqb-false, ltb-true, ltb-false, not-false}
-use Rattle.limits.specs.Limits.{threadPlaces, threadWords, threadTable, threadMask}
+use Rattle.limits.specs.Limits.{threadPlaces, threadMask}
 use Rattle.lists.specs.Lists.{find}
 use Rattle.lists.specs.Rows.{flat}
 use Rattle.lists.proofs.Bools.{split}
@@ -133,7 +133,8 @@ module _ (ps tb pb : List ℕ) (ts : List Thread) (e : length ts ≡ threadPlace
   none-after : refusalOn (sigmask t way none) before ≡ 0 → after none ≡ wordsOf ts
   unfolding encoded decoded changes maskChanges applyAll
   none-after a =
-      ap (λ x. x .0 .threads) (accepted-step (sigmask t way none) before a) ∙ thread-words-back (wordsOf ts) (table-long ts e)
+      ap (λ x. x .0 .threads) (accepted-step (sigmask t way none) before a)
+      ∙ thread-words-back (wordsOf ts) (table-long ts e)
 
   -- with one: the rules' change of the live thread
   module _ (m : SigSet) (s : soundTables (lent ps (wordsOf ts) tb pb) ≡ true)

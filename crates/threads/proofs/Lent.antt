@@ -23,8 +23,8 @@ use mir.Syntax.{Lifetime}
 use base.Fml.{Lft, GName, Share, Fml, fsep, flft, fdead, fobs, fauth, fres, flent, fobor}
 use prog.Wp.{Heap}
 use ghost.Atoms.{Atoms}
-use types.Kit.{Goal, Soaks, Given, Item, ‵, _⊛_, some, later, Seq, Step, step, _$_, move, use1, drop, split, pick}
-use types.Kit.{use3, rewrite, fsplit, fjoin, feqI, await}
+use types.Kit.{Goal, Soaks, Given, Item, ‵, _⊛_, some, later, Seq, Step, step, _$_, move, use1, drop, split, pick, use3}
+use types.Kit.{rewrite, fsplit, fjoin, feqI, await}
 use types.SemTy.{cells, Arr}
 use types.Tokens.{lent-back}
 use types.Share.{arr-parts}

@@ -16,8 +16,7 @@ use Rattle.lists.proofs.Lists.{All-every}
 use Rattle.lists.proofs.Rows.{length-rows, getD-rows, length-flat, rows-flat, flat-append, sets-append, sets-at}
 use Rattle.lists.proofs.Rows.{sets-whole, setsFrom, spellFrom, take-spellFrom}
 use Rattle.sigset.specs.Set.{bits}
-use Rattle.threads.specs.Records.{noThread, recordTo, recordFrom, wordsOf, recordsOf}
-use Rattle.threads.specs.Records.{withRecord, sameRecord}
+use Rattle.threads.specs.Records.{noThread, recordTo, recordFrom, wordsOf, recordsOf, withRecord, sameRecord}
 use Rattle.threads.specs.declared.Thread.{Thread}
 
 -- ---- one record

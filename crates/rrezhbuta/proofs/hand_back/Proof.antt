@@ -262,7 +262,8 @@ module _ {M : Type 1} (𝓤 : URA M) (H : Heap 𝓤) (A : Atoms 𝓤) (W : Given
         pass1 ! (init ! 26 refl (tt, (tt, (record { fits = gx .0 }, tt)))) $
         pass1 ! (init ! 24 refl (tt, record { fits = small .0 })) $
         pass1 ! (init ! 22 refl (tt, record { fits = small .1 .0 })) $ pass0 ! $
-        move ! (32 ∷ []) $ split ! $ move ! (1 ∷ []) $ split ! $ move ! (35 ∷ []) $ fsplit ! $ move ! (1 ∷ []) $ fsplit ! $
+        move ! (32 ∷ []) $ split ! $ move ! (1 ∷ []) $ split ! $ move ! (35 ∷ []) $ fsplit ! $
+        move ! (1 ∷ []) $ fsplit ! $
         -- [ws; the numbers; ts; ws's token; true; ts's token; the locals]
         move ! (1 ∷ 4 ∷ []) $ drop ! $ drop ! $ move ! (3 ∷ 2 ∷ 1 ∷ 0 ∷ []) $
         begins l₀ l₁ l₂ l₃ l₄ l₅ l₆ l₇ l₈ l₉ l₁₀ l₁₁ l₁₂ l₁₃ l₁₄ l₁₅))))))))))))))))

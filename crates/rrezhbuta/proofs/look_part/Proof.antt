@@ -1,7 +1,7 @@
 -- `rrezhbuta::look_part` meets its contract: a walk of its MIR, by hand, with a branch and three calls.
 -- Its local array is a row of words, which is lent to the callees and comes back.
 -- Assumes nothing.
-use mathlib.Core.Path.{_≡_, refl, sym, ap, subst}
+use mathlib.Core.Path.{_≡_, refl, sym, subst}
 use Prim.Native.Nat.{ℕ, _<_, _^_}
 use mathlib.Core.List.{List, [], _∷_, _++_}
 use lib.ListN.{length}
@@ -52,8 +52,7 @@ use Rattle.rrezhbuta.proofs.Lends.{elem, slice, table, word}
 use Rattle.rrezhbuta.proofs.Lengths.{no-look}
 use Rattle.rrezhbuta.proofs.Load.{table-room, Load, loads-shared}
 use Rattle.threads.proofs.Walk.{is-yes, Cell, spare, holds, slots, cells, frees-all, copied, Numbers, numbers}
-use Rattle.threads.proofs.Walk.{slices-array, past}
-use Rattle.threads.proofs.Walk.{Truths, truths, Its, ends-by, meets-by, calls-by}
+use Rattle.threads.proofs.Walk.{slices-array, past, Truths, truths, Its, ends-by, meets-by, calls-by}
 use Rattle.rrezhbuta.proofs.no_part as np
 use Rattle.rrezhbuta.proofs.no_part.Symbol as np-def
 use Rattle.rrezhbuta.proofs.no_part.Symbol.{name as #rrezhbuta·no-part}

@@ -1,7 +1,7 @@
 -- `rrezhbuta::rrezhbuta_look_slot` meets its contract: a walk of its MIR, by hand, with a branch and two calls.
 -- Its local array is a row of words, which is lent to the callees and comes back.
 -- Assumes nothing.
-use mathlib.Core.Path.{_≡_, refl, sym, ap, subst}
+use mathlib.Core.Path.{_≡_, refl, sym, subst}
 use Prim.Native.Nat.{ℕ, _<_, _^_}
 use mathlib.Core.List.{List, [], _∷_, _++_}
 use lib.ListN.{length}
@@ -19,7 +19,7 @@ use ghost.Atoms.{Atoms}
 use contract.Monad.{Fun}
 use contract.Running.{givenOf, tables, tablesOf}
 use types.Kit.{Given, Item, Sq, runs, atRet, ‵, raw, _⊛_, ⋆, _$_, _∵_, !, qed, by, move, keep, drop, group, use0, use1}
-use types.Kit.{use2, split, join, rewrite, fsplit, suffices, frame, done}
+use types.Kit.{split, join, rewrite, fsplit, suffices, frame, done}
 use types.Part.{whole as part, sub, look-in}
 use types.Run.{look, init, forget, stop, fld, from, load, lit, and-then, no-more, of-opd, bin, assigns, first, branches}
 use types.Run.{skips, exec, land, returns, returns-within, enter, alloc1, alloc0, params1, pass1, pass0}
@@ -53,8 +53,7 @@ use Rattle.rrezhbuta.proofs.Lends.{elem, slice, table, word}
 use Rattle.rrezhbuta.proofs.Lengths.{no-slot}
 use Rattle.rrezhbuta.proofs.Load.{table-room, Load, loads-shared}
 use Rattle.threads.proofs.Walk.{is-yes, Cell, spare, holds, slots, cells, frees-all, copied, Numbers, numbers}
-use Rattle.threads.proofs.Walk.{slices-array, past}
-use Rattle.threads.proofs.Walk.{Truths, truths, Its, ends-by, meets-by, calls-by}
+use Rattle.threads.proofs.Walk.{slices-array, past, Truths, truths, Its, ends-by, meets-by, calls-by}
 use Rattle.looking.specs.Looks.{lookSlot}
 use Rattle.looking.proofs.look_slot as sl
 use Rattle.looking.proofs.look_slot.Symbol as sl-def

@@ -16,12 +16,11 @@ use prog.Wp.{Heap, Env, Calls, Loops, WpFn, Tables}
 use ghost.Atoms.{Atoms}
 use contract.Monad.{Fun}
 use contract.Running.{givenOf, tables, tablesOf}
-use types.Kit.{Given, Item, Sq, runs, atRet, ‵, _⊛_, ⋆, _$_, _∵_, !, qed, by, move, keep, drop, use1, split, join, rewrite, fsplit, fjoin}
-use types.Kit.{feqI, suffices, frame, done}
+use types.Kit.{Given, Item, Sq, runs, atRet, ‵, _⊛_, ⋆, _$_, _∵_, !, qed, by, move, drop, use1, split, join, rewrite}
+use types.Kit.{fsplit, fjoin, feqI, suffices, frame, done}
 use types.Part.{whole, sub, look-in, store-in}
 use types.Run.{look, init, forget, stop, hop, fld, from, load, lit, unit-lit, of-opd, bin, assigns, assigns-last, first}
-use types.Run.{branches, skips, exec, returns, enter}
-use types.Run.{alloc1, alloc0, params1, pass1, pass0, free1, free0}
+use types.Run.{branches, skips, exec, returns, enter, alloc1, alloc0, params1, pass1, pass0}
 use sound.WpLaws.{WpFn-mono}
 use denote.RattleType.{owns}
 use denote.Shadow.{pureI}
