@@ -125,7 +125,8 @@ module _ {M : Type 1} (𝓤 : URA M) (H : Heap 𝓤) (A : Atoms 𝓤) (W : Given
     -- the locals, with i for the counter
     abbrev Frame : Cell → List Cell
     Frame i =
-        spare (tyInt w64) l₀ ∷ holds (sliceTy (tyRef (named 0) imm (pointee (T.the-row .written)))) l₁ (sliceVal (b, o) n)
+        spare (tyInt w64) l₀
+        ∷ holds (sliceTy (tyRef (named 0) imm (pointee (T.the-row .written)))) l₁ (sliceVal (b, o) n)
         ∷ holds (tyInt w64) l₂ (vint w64 id) ∷ i ∷ spare (tyInt w64) l₄ ∷ spare tyBool l₅ ∷ spare tyPtr l₆
         ∷ spare (tyInt w64) l₇ ∷ []
 
@@ -200,7 +201,8 @@ module _ {M : Type 1} (𝓤 : URA M) (H : Heap 𝓤) (A : Atoms 𝓤) (W : Given
         assigns ! (of-opd ! (load ! (from ! (stop !)) (look ! 10 refl))) (from ! (stop !))
         (init ! 16 refl (tt, record { fits = fits i })) $
         shuts-slice ! tt T.the-row q′ ys b o $ returns ! (look ! 15 refl) $ forget ! 5 refl $ forget ! 7 refl $
-        forget ! 15 refl $ frees-all ! 1 (at-turn (i .0)) refl $ by ! (exits (i .0) (at-end ys id (i .0) last (i .1 .1)) (fits i))
+        forget ! 15 refl $ frees-all ! 1 (at-turn (i .0)) refl $
+        by ! (exits (i .0) (at-end ys id (i .0) last (i .1 .1)) (fits i))
 
     turns : (i : Upto) → Sq W (At i) (runs C Λ En mir.turn-1 (anyQ (Turned i)))
     turns i = go (ltb (i .0) n) refl

@@ -108,8 +108,8 @@ module _ {M : Type 1} (𝓤 : URA M) (H : Heap 𝓤) (A : Atoms 𝓤) (W : Given
       abbrev Frame : Cell → List Cell
       Frame p =
           spare tyUnit l₀ ∷ holds slice l₁ (sliceVal (b, o) (length ys)) ∷ holds (tyInt w64) l₂ (vint w64 i)
-          ∷ holds S′.mir l₃ (S′.lowered v) ∷ spare (tyInt w64) l₄ ∷ p ∷ spare (tyInt w64) l₆ ∷ spare tyBool l₇ ∷ spare (tyInt w64) l₈
-          ∷ spare tyPtr l₉ ∷ []
+          ∷ holds S′.mir l₃ (S′.lowered v) ∷ spare (tyInt w64) l₄ ∷ p ∷ spare (tyInt w64) l₆ ∷ spare tyBool l₇
+          ∷ spare (tyInt w64) l₈ ∷ spare tyPtr l₉ ∷ []
 
       abbrev Empty : List Cell
       Empty = Frame (spare tyPtr l₅)
