@@ -48,11 +48,11 @@ each-is : (R : RattleType) (x : R .Denot) (u : Val) → Is R x (u ∷ []) → (n
 each-is R x u p zero = tt
 each-is R x u p (suc n) = (p, each-is R x u p n)
 
-pub repeat-is : (R : RattleType) (x : R .Denot) (u : Val) → Is R x (u ∷ []) → (n : ℕ)
+repeat-is : (R : RattleType) (x : R .Denot) (u : Val) → Is R x (u ∷ []) → (n : ℕ)
     → Is (Array R n) (replicate n x) (arrayVal (replicate n u) ∷ [])
 repeat-is R x u p n = (replicate n u, ((refl, length-replicate n x), each-is R x u p n))
 
-pub repeat-typed : {M : Type 1} (𝓤 : URA M) (H : Heap 𝓤) (A : Atoms 𝓤) → Given 𝓤 H A → (R : RattleType) → Lawful 𝓤 H A R
+repeat-typed : {M : Type 1} (𝓤 : URA M) (H : Heap 𝓤) (A : Atoms 𝓤) → Given 𝓤 H A → (R : RattleType) → Lawful 𝓤 H A R
     → (x : R .Denot) (u : Val) → Is R x (u ∷ []) → (n : ℕ)
     → T (hasTy (tyArray (lone (R .mir)) n) (arrayVal (replicate n u))) × WT (arrayVal (replicate n u))
 repeat-typed 𝓤 H A W R L x u p n =
@@ -60,7 +60,7 @@ repeat-typed 𝓤 H A W R L x u p n =
 
 module _ {M : Type 1} {𝓤 : URA M} {H : Heap 𝓤} {A : Atoms 𝓤} {K : Type 0} {W : Given 𝓤 H A} {Γ : List (Item 𝓤)}
     {G : Goal 𝓤 H} where
-  pub opens-array : K → (R : RattleType) → Single (R .mir) → (n : ℕ) (xs : List (R .Denot)) (v : Val) (l : ℕ)
+  opens-array : K → (R : RattleType) → Single (R .mir) → (n : ℕ) (xs : List (R .Denot)) (v : Val) (l : ℕ)
       → Step K W (‵ (row R fullShare xs l 0) ∷ Γ) G
       (‵ (fat fullShare (tyArray (lone (R .mir)) n) l 0 v) ∷ ‵ (Array R n .own xs (v ∷ [])) ∷ Γ) G
   unfolding partOf
@@ -71,7 +71,7 @@ module _ {M : Type 1} {𝓤 : URA M} {H : Heap 𝓤} {A : Atoms 𝓤} {K : Type 
       use1 W (‵ (arr-parts (shares R) n .part fullShare xs l 0)) (array-apart 𝓤 H A W R fullShare s n xs l 0) $
       fsplit t $ drop t $ k)
 
-  pub fills-array : K → (R : RattleType) → Single (R .mir) → Makes 𝓤 H A R (Is R) → (x : R .Denot) (u : Val)
+  fills-array : K → (R : RattleType) → Single (R .mir) → Makes 𝓤 H A R (Is R) → (x : R .Denot) (u : Val)
       → Is R x (u ∷ []) → (n l : ℕ)
       → ((xs : List (R .Denot)) → length xs ≡ n → Seq K W (‵ (row R fullShare xs l 0) ∷ Γ) G)
       → Seq K W (‵ (fat fullShare (tyArray (lone (R .mir)) n) l 0 (arrayVal (replicate n u))) ∷ Γ) G

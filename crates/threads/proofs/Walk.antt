@@ -1,4 +1,4 @@
--- What the walks of this crate share, for any function: steps of `Types/Kit.antt`'s calculus.
+-- What walks share, for any function: steps of `Types/Kit.antt`'s calculus.
 -- It says nothing of the crate.
 --     Cell, slots, cells       a function's locals, each with nothing in it or with a value; where they lie;
 --                              and as entries of a context, the last local first
