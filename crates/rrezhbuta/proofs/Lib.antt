@@ -1,7 +1,5 @@
 pub mod MaskChanges
 pub mod Worked
 pub mod Lengths
-pub mod Routes
-pub mod Walk
 pub mod Lends
 pub mod Load

@@ -1,6 +1,6 @@
 -- A mask call leaves a row of records with at most one mask changed,
 -- and the mask that code reads of the words is that one. Assumes nothing.
-use Prim.Native.Nat.{ℕ, _*_, _<_}
+use Prim.Native.Nat.{ℕ, _<_}
 use mathlib.Core.Path.{_≡_, refl, sym, ap, _∙_}
 use mathlib.Core.Bool.{true, not}
 use mathlib.Core.List.{List, [], _∷_, _++_, map}
@@ -10,7 +10,7 @@ use lib.Dec.{eqb, ltb}
 use lib.ListN.{length, getD, set, length-set, length-map, List·getD-map, List·getD-eq-default}
 use lib.Seq.{getD-set-same, set-getD, set-out}
 use borrow.Author.Tests.{eqb-true, eqb-false, ltb-true, ltb-false, not-false}
-use Rattle.limits.specs.Limits.{threadPlaces, threadWords, threadTable, threadMask}
+use Rattle.limits.specs.Limits.{threadPlaces, threadMask}
 use Rattle.lists.specs.Lists.{find}
 use Rattle.lists.specs.Rows.{flat}
 use Rattle.lists.proofs.Bools.{split}
@@ -35,7 +35,7 @@ use Rattle.answers.proofs.Endings.{accepted-step, accepted-tables-sound, accept
 use Rattle.effects.proofs.Places.{thread-changed}
 use Rattle.threads.specs.declared.Thread.{Thread}
 use Rattle.threads.specs.Records.{noThread, withMask, hasId, withMaskAt, recordTo, wordsOf, recordsOf}
-use Rattle.threads.proofs.Words.{words-length, records-back}
+use Rattle.threads.proofs.Words.{table-long, records-back}
 use Rattle.rrezhbuta.specs.Entry.{maskIn}
 
 -- ---- a row of records, as the places that its words say
@@ -122,9 +122,6 @@ module _ (ps tb pb : List ℕ) (ts : List Thread) (e : length ts ≡ threadPlace
   abbrev before : Lent
   before = lent ps (wordsOf ts) tb pb
 
-  long : length (wordsOf ts) ≡ threadTable
-  long = words-length ts ∙ ap (λ k. k * threadWords) e
-
   abbrev after : Option SigSet → List ℕ
   after set = stepOn (sigmask t way set) before .0 .threads
 
@@ -136,7 +133,8 @@ module _ (ps tb pb : List ℕ) (ts : List Thread) (e : length ts ≡ threadPlace
   none-after : refusalOn (sigmask t way none) before ≡ 0 → after none ≡ wordsOf ts
   unfolding encoded decoded changes maskChanges applyAll
   none-after a =
-      ap (λ x. x .0 .threads) (accepted-step (sigmask t way none) before a) ∙ thread-words-back (wordsOf ts) long
+      ap (λ x. x .0 .threads) (accepted-step (sigmask t way none) before a)
+      ∙ thread-words-back (wordsOf ts) (table-long ts e)
 
   -- with one: the rules' change of the live thread
   module _ (m : SigSet) (s : soundTables (lent ps (wordsOf ts) tb pb) ≡ true)

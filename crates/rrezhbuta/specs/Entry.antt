@@ -1,10 +1,13 @@
 -- One call as a host makes it: its tables, of which the thread table is a row of records, and the words that it lends
 -- for the answer.
 use Prim.Native.Nat.{ℕ}
+use mathlib.Core.Bool.{_||_, cond}
 use mathlib.Core.List.{List}
+use lib.Dec.{eqb}
 use lib.ListN.{length}
 use denote.Ref.{RefT}
 use denote.Triple.Both.{Both}
+use Rattle.limits.specs.Limits.{threadPlaces, callSigmask, callSigreturn}
 use Rattle.lists.specs.Lists.{find}
 use Rattle.sigset.specs.declared.SigSet.{SigSet}
 use Rattle.tables.specs.Tables.{threadAt, heldThreads, hasThreadId}
@@ -12,7 +15,7 @@ use Rattle.sound.specs.Lent.{Lent, lent, Slices}
 use Rattle.looking.specs.Looks.{lookBytes, lookSlot}
 use Rattle.boundary.specs.Boundary.{Arguments, Served, served}
 use Rattle.threads.specs.declared.Thread.{Thread}
-use Rattle.threads.specs.Records.{wordsOf, recordsOf}
+use Rattle.threads.specs.Records.{withMaskAt, wordsOf, recordsOf}
 
 -- what a host holds
 pub record Host : Type 0 where
@@ -44,26 +47,25 @@ handedBack n s = (
 unfoldable pub callOn : (number : ℕ) → Arguments → Host → Host × ℕ
 callOn n g h = handedBack (length (h .threads)) (served n g (h .answer) (lentBy h))
 
--- what a contract names: before the call and after it, with these records
-abbrev pub beforeWith : (ps tb pb out : Slices) → List Thread → Host
-beforeWith ps tb pb out ts = host (ps .entry .now) (tb .entry .now) (pb .entry .now) (out .entry .now) ts
-
-abbrev pub afterWith : (ps tb pb out : Slices) → List Thread → Host
-afterWith ps tb pb out ts = host (ps .exit .now) (tb .exit .now) (pb .exit .now) (out .exit .now) ts
-
--- and with those of the lent row
+-- what a contract names: before the call and after it
 abbrev pub Rows : Type 0
 Rows = Both (RefT (List Thread)) (RefT (List Thread))
 
 abbrev pub hostBefore : (ps tb pb out : Slices) → Rows → Host
-hostBefore ps tb pb out ts = beforeWith ps tb pb out (ts .entry .now)
+hostBefore ps tb pb out ts = host (ps .entry .now) (tb .entry .now) (pb .entry .now) (out .entry .now) (ts .entry .now)
 
 abbrev pub hostAfter : (ps tb pb out : Slices) → Rows → Host
-hostAfter ps tb pb out ts = afterWith ps tb pb out (ts .exit .now)
+hostAfter ps tb pb out ts = host (ps .exit .now) (tb .exit .now) (pb .exit .now) (out .exit .now) (ts .exit .now)
 
 -- the mask of the first thread with that id, in words; empty where none has it
 unfoldable pub maskIn : List ℕ → ℕ → SigSet
 maskIn ws n = threadAt ws (find (hasThreadId n) (heldThreads ws)) .holds .mask
+
+-- the row after a call that left these words: of a mask call and of a return from a handler,
+-- the row before it with that mask
+unfoldable pub rowAfter : (number thread : ℕ) → List ℕ → List Thread → List Thread
+rowAfter n t ws ts =
+    cond (eqb n callSigmask || eqb n callSigreturn) (withMaskAt t (maskIn ws t) ts) (recordsOf threadPlaces ws)
 
 -- the bytes that a look hands back
 unfoldable pub lookAt : (ps tb pb : List ℕ) (ts : List Thread) (thread : ℕ) → List ℕ

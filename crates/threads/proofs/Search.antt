@@ -4,15 +4,17 @@ use mathlib.Core.Bool.{not}
 use mathlib.Core.List.{List}
 use Prim.Native.Nat.{ℕ, _+_, _<_, _≤_}
 use native.Mathlib.Nat.{le-of-eq}
-use lib.Dec.{T, eqb}
+use lib.Dec.{T, eqb, eqb→eq}
 use lib.Ieee.Bits.{is-true, is-false}
 use lib.ListN.{length, getD, set, drop}
-use lib.Seq.{set-out}
+use lib.Seq.{set-out, set-getD}
 use Rattle.lists.specs.Lists.{find}
 use Rattle.lists.proofs.Loops.{find-none, find-more, find-here, find-done}
 use Rattle.sigset.specs.declared.SigSet.{SigSet}
+use Rattle.sigset.specs.Set.{bits}
 use Rattle.threads.specs.Records.{noThread, withMask, hasId, withMaskAt}
 use Rattle.threads.specs.declared.Thread.{Thread}
+use Rattle.threads.proofs.Walk.{is-yes}
 
 -- the place of id in the whole row is i and its place from i on
 abbrev pub Passed : List Thread → ℕ → ℕ → Type 0
@@ -43,3 +45,11 @@ mask-changed-at ys zs id i m e z = z ∙ ap (λ (k : ℕ). set ys k (withMask m 
 pub mask-changed-out : (ys : List Thread) (id i : ℕ) (m : SigSet) → i ≡ find (hasId id) ys → length ys ≤ i
     → ys ≡ withMaskAt id m ys
 mask-changed-out ys id i m e l = mask-changed-at ys ys id i m e (sym (set-out ys i _ l))
+
+-- a record whose mask is m already is what it would become
+pub mask-kept : (ys : List Thread) (i : ℕ) (m : SigSet) → T (not (not (eqb (getD ys i noThread .mask .0) (m .0))))
+    → ys ≡ set ys i (withMask m (getD ys i noThread))
+mask-kept ys i m y =
+    let t = getD ys i noThread in
+    let e : t .mask .0 ≡ m .0 = eqb→eq (t .mask .0) (m .0) (is-yes (eqb (t .mask .0) (m .0)) y) in
+    sym (set-getD ys i noThread) ∙ ap (λ (k : ℕ). set ys i (withMask (bits k) t)) e

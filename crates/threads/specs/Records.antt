@@ -1,9 +1,10 @@
 -- A row of thread records: searched by id, one mask changed, and its words.
-use Prim.Native.Nat.{ℕ}
-use mathlib.Core.Bool.{Bool}
+use Prim.Native.Nat.{ℕ, _*_}
+use mathlib.Core.Bool.{Bool, _&&_}
 use mathlib.Core.List.{List, [], _∷_}
 use lib.Dec.{eqb}
 use lib.ListN.{getD, set}
+use lib.Seq.{sets}
 use Rattle.limits.specs.Limits.{threadId, threadProcess, threadMask, threadMarks, threadWords}
 use Rattle.lists.specs.Lists.{find}
 use Rattle.lists.specs.Rows.{rows, flat}
@@ -37,6 +38,16 @@ recordFrom l =
       mask = bits (getD l threadMask 0);
       marks = bits (getD l threadMarks 0);
     }
+
+-- the words of a table with those of one record changed
+unfoldable pub withRecord : (i : ℕ) → Thread → List ℕ → List ℕ
+withRecord i t ws = sets ws (i * threadWords) (recordTo t)
+
+-- two records are the same in every field
+unfoldable pub sameRecord : Thread → Thread → Bool
+sameRecord t u =
+    eqb (t .id) (u .id) && eqb (t .process) (u .process) && eqb (t .mask .0) (u .mask .0)
+    && eqb (t .marks .0) (u .marks .0)
 
 -- a row of records as words, and n rows of words as records
 unfoldable pub wordsOf : List Thread → List ℕ

@@ -2,15 +2,15 @@
 ghost use mathlib.Core.Path.{_≡_};
 ghost use Prim.Native.Nat.{_<_};
 ghost use lib.ListN.{length, getD, set};
-ghost use Rattle.limits.specs.Limits.{threadPlaces};
+ghost use Rattle.limits.specs.Limits.{threadPlaces, threadTable};
 ghost use Rattle.lists.specs.Lists.{find};
 ghost use Rattle.threads.specs.Records.{noThread, withMask, hasId, withMaskAt, wordsOf, recordsOf};
+ghost use Rattle.threads.specs.Records.{withRecord, sameRecord};
 use limits::THREAD_ID;
 use limits::THREAD_MARKS;
 use limits::THREAD_MASK;
 use limits::THREAD_PLACES;
 use limits::THREAD_PROCESS;
-use limits::THREAD_TABLE;
 use limits::THREAD_WORDS;
 use sigset::SigSet;
 
@@ -22,16 +22,6 @@ pub struct Thread {
     pub process: u64,
     pub mask: SigSet,
     pub marks: SigSet,
-}
-
-impl Thread {
-    // What a free place holds.
-    pub const FREE: Thread = Thread {
-        id: 0,
-        process: 0,
-        mask: SigSet::EMPTY,
-        marks: SigSet::EMPTY,
-    };
 }
 
 // The first place whose record has that id, or the length.
@@ -48,12 +38,14 @@ pub fn find_thread(ts: &[Thread], id: u64) -> usize
     i
 }
 
-// The mask of the record at place i becomes m, in place.
+// The mask of the record at place i becomes m, in place; where it is m already, nothing is written.
 pub fn set_mask(ts: &mut [Thread], i: usize, m: SigSet)
     requires { ⌜ i < length (now ts) ⌝ }
     ensures { λ _. ⌜ now (ts .exit) ≡ set (now (ts .entry)) i (withMask m (getD (now (ts .entry)) i noThread)) ⌝ }
 {
-    ts[i].mask = m;
+    if ts[i].mask.0 != m.0 {
+        ts[i].mask = m;
+    }
 }
 
 // The mask of the first record with that id becomes m, in place.
@@ -66,67 +58,64 @@ pub fn put_mask(ts: &mut [Thread], id: u64, m: SigSet)
     }
 }
 
-// The records, by value.
-pub fn load(ts: &[Thread]) -> [Thread; THREAD_PLACES]
-    requires { ⌜ length (now ts) ≡ threadPlaces ⌝ }
-    ensures { λ r. ⌜ r ≡ now (ts .entry) ⌝ }
+// ---- the row as words and back
+
+// The words of record i become those of t.
+fn put_record(ws: &mut [u64], i: usize, t: Thread)
+    requires { ⌜ (length (now ws) ≡ threadTable) × (i < threadPlaces) ⌝ }
+    ensures { λ _. ⌜ now (ws .exit) ≡ withRecord i t (now (ws .entry)) ⌝ }
 {
-    let mut a = [Thread::FREE; THREAD_PLACES];
-    let mut i = 0;
-    while i < THREAD_PLACES {
-        a[i] = ts[i];
-        i += 1;
-    }
-    a
+    let mask = t.mask;
+    let marks = t.marks;
+    ws[i * THREAD_WORDS + THREAD_ID] = t.id;
+    ws[i * THREAD_WORDS + THREAD_PROCESS] = t.process;
+    ws[i * THREAD_WORDS + THREAD_MASK] = mask.0;
+    ws[i * THREAD_WORDS + THREAD_MARKS] = marks.0;
 }
 
-// The records become those of a.
-pub fn store(ts: &mut [Thread], a: [Thread; THREAD_PLACES])
-    requires { ⌜ length (now ts) ≡ threadPlaces ⌝ }
-    ensures { λ _. ⌜ now (ts .exit) ≡ a ⌝ }
+// The record at place i of the words.
+fn record_at(ws: &[u64], i: usize) -> Thread
+    requires { ⌜ (length (now ws) ≡ threadTable) × (i < threadPlaces) ⌝ }
+    ensures { λ r. ⌜ r ≡ getD (recordsOf threadPlaces (now (ws .entry))) i noThread ⌝ }
+{
+    Thread {
+        id: ws[i * THREAD_WORDS + THREAD_ID],
+        process: ws[i * THREAD_WORDS + THREAD_PROCESS],
+        mask: SigSet(ws[i * THREAD_WORDS + THREAD_MASK]),
+        marks: SigSet(ws[i * THREAD_WORDS + THREAD_MARKS]),
+    }
+}
+
+// The two records are the same.
+fn same(t: Thread, u: Thread) -> bool
+    ensures { λ r. ⌜ r ≡ sameRecord t u ⌝ }
+{
+    (t.id == u.id) & (t.process == u.process) & (t.mask.0 == u.mask.0) & (t.marks.0 == u.marks.0)
+}
+
+// The words become those of the records.
+pub fn load_words(ts: &[Thread], ws: &mut [u64])
+    requires { ⌜ (length (now ts) ≡ threadPlaces) × (length (now ws) ≡ threadTable) ⌝ }
+    ensures { λ _. ⌜ now (ws .exit) ≡ wordsOf (now (ts .entry)) ⌝ }
 {
     let mut i = 0;
     while i < THREAD_PLACES {
-        ts[i] = a[i];
+        put_record(ws, i, ts[i]);
         i += 1;
     }
 }
 
-// ---- the records by value, as words and back
-
-// The words of the records.
-pub fn words_of(ts: [Thread; THREAD_PLACES]) -> [u64; THREAD_TABLE]
-    ensures { λ r. ⌜ r ≡ wordsOf ts ⌝ }
+// The records become those of the words; a record that is the same already is not written to.
+pub fn store_words(ts: &mut [Thread], ws: &[u64])
+    requires { ⌜ (length (now ts) ≡ threadPlaces) × (length (now ws) ≡ threadTable) ⌝ }
+    ensures { λ _. ⌜ now (ts .exit) ≡ recordsOf threadPlaces (now (ws .entry)) ⌝ }
 {
-    let mut ws = [0u64; THREAD_TABLE];
     let mut i = 0;
     while i < THREAD_PLACES {
-        let t = ts[i];
-        let mask = t.mask;
-        let marks = t.marks;
-        ws[i * THREAD_WORDS + THREAD_ID] = t.id;
-        ws[i * THREAD_WORDS + THREAD_PROCESS] = t.process;
-        ws[i * THREAD_WORDS + THREAD_MASK] = mask.0;
-        ws[i * THREAD_WORDS + THREAD_MARKS] = marks.0;
+        let u = record_at(ws, i);
+        if !same(ts[i], u) {
+            ts[i] = u;
+        }
         i += 1;
     }
-    ws
-}
-
-// The records of the words.
-pub fn records_of(ws: [u64; THREAD_TABLE]) -> [Thread; THREAD_PLACES]
-    ensures { λ r. ⌜ r ≡ recordsOf threadPlaces ws ⌝ }
-{
-    let mut ts = [Thread::FREE; THREAD_PLACES];
-    let mut i = 0;
-    while i < THREAD_PLACES {
-        ts[i] = Thread {
-            id: ws[i * THREAD_WORDS + THREAD_ID],
-            process: ws[i * THREAD_WORDS + THREAD_PROCESS],
-            mask: SigSet(ws[i * THREAD_WORDS + THREAD_MASK]),
-            marks: SigSet(ws[i * THREAD_WORDS + THREAD_MARKS]),
-        };
-        i += 1;
-    }
-    ts
 }

@@ -17,44 +17,41 @@ use package.mir.Syntax.{Body, named, imm, unsigned, w64, tyInt, tyBool, tyPtr, t
 use package.mir.Syntax.{add}
 use package.mir.Val.{Val, vint, vbool, vptr}
 use base.Logic.{SProp, ent, emp, via, fst∗}
-use base.Fml.{Lft, GName, Share, Fml, ftrue, fat, froom, fdies, flft, fres, fobor, fshr-bor}
+use base.Fml.{Lft, GName, Share, Fml, ftrue, fat, flft, fobor}
 use prog.Memory.{Memory}
 use prog.Routine.{Routine}
 use prog.Wp.{Heap, Out, Env, Calls, Loops, Wp, WpFn, Tables, afterSeq, afterBlock, afterTurn, atReturn}
 use ghost.Atoms.{Atoms}
 use contract.Monad.{Fun}
 use contract.Running.{givenOf, tables, tablesOf}
-use types.Kit.{Given, Item, Sq, frees, prop, runs, anyQ, atRet, ‵, _⊛_, ⋆, _$_, _∵_, !, qed, by, move, keep, drop}
-use types.Kit.{split, join, rewrite, fsplit, fjoin, suffices, frame, done}
+use types.Kit.{Given, Item, Sq, runs, anyQ, atRet, ‵, _⊛_, ⋆, _$_, _∵_, !, qed, by, move, drop, use0, split, join}
+use types.Kit.{rewrite, fsplit, suffices, frame, done}
 use types.Part.{whole, sub, look-in}
 use types.Run.{look, init, store, forget, stop, hop, fld, from, load, lit, of-opd, bin, assigns, assigns-last, first}
 use types.Run.{branches, skips, blocks, stays, leaves-loop, exec, loops, again, Below, returns, returns-within, enter}
-use types.Run.{alloc1, alloc0, params1, pass1, pass0, free1, free0}
+use types.Run.{alloc1, alloc0, params1, pass1, pass0}
 use types.Share.{arr-parts}
-use sound.WpLaws.{WpFn-mono}
 use denote.RattleType.{owns}
-use denote.Shadow.{pureI}
 use denote.Laws.{Is, shows}
 use denote.Memory.{pointee, shares}
 use denote.Plain.{uint-vals, uint-tells, uint-makes}
 use denote.Builtin.{u64, usize}
-use denote.Ref.{RefT}
-use denote.Slice.{sliceTy, sliceVal, ShrSlice, Room, heres, codedHoleys, at-slice, slice-vals, shr-slice-tells}
+use denote.Slice.{sliceTy, sliceVal, ShrSlice, Room, slice-vals, shr-slice-tells}
 use denote.Index.{row, place-is, elem-out, elem-back, looks-slice, shuts-slice}
-use denote.Signature.{plain}
 use denote.Steps.{nothing, owned}
 use denote.Struct.Laws as LL
-use denote.Triple.Entry.{Vals, onEntry}
+use denote.Triple.Entry.{Args, Vals, onEntry}
 use denote.Triple.Spec.{Meets, tripleOf}
+use denote.Triple.Statement.{Contract}
 use denote.Triple.Table.{entered}
-use denote.Triple.Walked.{says, Stays, stay-none-slice, stay-none, walkOf, goes-none-slice, goes-none, Walks, ends-at}
-use denote.Triple.Walked.{walked, walk-meets}
-use denote.Exit.{yes}
+use denote.Triple.Walked.{says}
 use Rattle.lists.specs.Lists.{find}
 use Rattle.threads.specs.Records.{noThread, hasId}
 use Rattle.threads.specs.declared.Thread.{Thread}
 use Rattle.threads.proofs.Size.{recordSize, near}
 use Rattle.threads.proofs.Search.{Passed, starts, found, passed, at-end}
+use Rattle.threads.proofs.Walk.{Cell, spare, holds, slots, cells, frees-all, Truths, truths, Its, ends-by}
+use Rattle.threads.proofs.Walk.{meets-by}
 use Rattle.threads.proofs.Thread as T
 use Rattle.threads.proofs.Thread.Laws as T′
 use Rattle.threads.proofs.find_thread.Key.{name as #threads·find-thread}
@@ -63,14 +60,13 @@ use Rattle.threads.proofs.find_thread.Statement as stated
 use Rattle.threads.proofs.find_thread.Code as code
 use Rattle.threads.proofs.find_thread.Code.Mir as mir
 
-abbrev stayed : Stays (f.ended .signature .params) (f.ended .kept)
-stayed = (stay-none-slice (0 ∷ []) tt (plain (λ _. T.the-row)) yes, (stay-none (λ _. u64) yes, tt))
-
 abbrev vals : Thread → List Val
 vals = LL.vals T.the-type T′.the-laws
 
-abbrev Arg : Type 0
-Arg = RefT (List Thread) × (ℕ × Unit {0})
+-- the contract
+abbrev Me : {M : Type 1} (𝓤 : URA M) (H : Heap 𝓤) (A : Atoms 𝓤) (mem : Memory → SProp 𝓤) (run : Routine → Fun 𝓤)
+    → Contract 𝓤
+Me 𝓤 H A mem run = Its 𝓤 H A f.ended (f.clauses 𝓤 H A mem run)
 
 -- the loop's last statement, which has no name in the generated MIR
 abbrev bump : Body
@@ -82,34 +78,29 @@ module _ {M : Type 1} (𝓤 : URA M) (H : Heap 𝓤) (A : Atoms 𝓤) (W : Given
   abbrev n : ℕ
   n = length ys
 
-  abbrev x : Arg
+  abbrev x : Args f.signature (κ, tt)
   x = (record { ptr = (b, o); name = γ; now = ys }, (id, tt))
 
   abbrev at : Vals f.signature (κ, tt)
   at = (sliceVal (b, o) n ∷ [], (vint w64 id ∷ [], tt))
 
+  abbrev bound : Me 𝓤 H A mem run .Ghost
+  bound = (((κ, tt), (q, tt), tt, x, at), tt)
+
   abbrev Post : Val → SProp 𝓤
-  Post = walkOf 𝓤 H A f.ended stayed (f.clauses 𝓤 H A mem run) .post (((κ, tt), (q, tt), tt, x, at), tt)
+  Post = Me 𝓤 H A mem run .post bound
 
   -- what a share s of the row is
   abbrev Part : Share → Fml
   Part s = arr-parts (shares T.the-row) n .part s ys b o
 
-  abbrev Known : Fml
-  Known = fres γ (codedHoleys T.the-row .code (heres T.the-row ys))
-
-  exits : (r : ℕ) → r ≡ find (hasId id) ys → r < 2 ^ 64
-      → ent 𝓤 (⋆ 𝓤 H A (‵ (flft κ q) ∷ ‵ (fshr-bor κ Part) ∷ ‵ Known ∷ [])) (Post (vint w64 r))
+  exits : (r : ℕ) → r ≡ find (hasId id) ys → r < 2 ^ 64 → ent 𝓤 (⋆ 𝓤 H A (‵ (flft κ q) ∷ [])) (Post (vint w64 r))
   exits r e gr =
-      qed W (‵ (flft κ q) ∷ ‵ (fshr-bor κ Part) ∷ ‵ Known ∷ []) ∵
-      suffices ! _ (ends-at 𝓤 H A f.ended stayed (f.clauses 𝓤 H A mem run) W
-      (((κ, tt), (q, tt), tt, x, at), tt) (vint w64 r) r (tt, (tt, tt)) (tt, (tt, tt))) $
+      qed W (‵ (flft κ q) ∷ []) ∵
+      suffices ! _ (ends-by 𝓤 H A f.ended (f.clauses 𝓤 H A mem run) bound W (vint w64 r) r (tt, (tt, tt))) $
       says ! e $
-      nothing ! $ move ! (1 ∷ 0 ∷ []) $ join ! $ frame ! $
-      -- [the borrow; what is known of the name]: with the fact on the machine value it is what the slice owns
-      nothing ! $ owned ! u64 (Is u64) (uint-makes 𝓤 H A W w64) id _ (refl, gid) $ fjoin ! $ move ! (2 ∷ 1 ∷ []) $
-      fjoin ! $ pureI ! (at-slice T.the-row (x .0) (at .0)) (tt, (tt, tt)) (refl, gn) $ fjoin ! $ fjoin ! $ frame ! $
-      owned ! usize (Is usize) (uint-makes 𝓤 H A W w64) r _ (refl, gr) $ done !
+      owned ! usize (Is usize) (uint-makes 𝓤 H A W w64) r _ (refl, gr) $ nothing ! $ move ! (2 ∷ 0 ∷ []) $ join ! $
+      join ! $ frame ! $ use0 W (‵ (Truths 2)) (truths 𝓤 H A 2) $ done !
 
   -- a place up to n, with what is known on the way there
   abbrev Upto : Type 0
@@ -131,40 +122,23 @@ module _ {M : Type 1} (𝓤 : URA M) (H : Heap 𝓤) (A : Atoms 𝓤) (W : Given
     abbrev Λ : Loops 𝓤 H
     Λ = 𝓣 .Λ
 
+    -- the locals, with i for the counter
+    abbrev Frame : Cell → List Cell
+    Frame i =
+        spare (tyInt w64) l₀
+        ∷ holds (sliceTy (tyRef (named 0) imm (pointee (T.the-row .written)))) l₁ (sliceVal (b, o) n)
+        ∷ holds (tyInt w64) l₂ (vint w64 id) ∷ i ∷ spare (tyInt w64) l₄ ∷ spare tyBool l₅ ∷ spare tyPtr l₆
+        ∷ spare (tyInt w64) l₇ ∷ []
+
+    abbrev at-turn : ℕ → List Cell
+    at-turn i = Frame (holds (tyInt w64) l₃ (vint w64 i))
+
     abbrev En : Env 𝓤 H
-    En =
-        (tyInt w64, l₀) ∷ (sliceTy (tyRef (named 0) imm (pointee (T.the-row .written))), l₁) ∷ (tyInt w64, l₂)
-        ∷ (tyInt w64, l₃) ∷ (tyInt w64, l₄) ∷ (tyBool, l₅) ∷ (tyPtr, l₆) ∷ (tyInt w64, l₇) ∷ []
+    En = slots (Frame (spare (tyInt w64) l₃))
 
-    -- the locals from i's on, i's standing as given
-    abbrev Locals : Item 𝓤 → Item 𝓤 → Item 𝓤 → Item 𝓤 → List (Item 𝓤)
-    Locals i₃ i₂ i₁ i₀ =
-        ‵ (froom (tyInt w64) l₇ 0) ∷ ‵ (fdies (tyInt w64) l₇) ∷ ‵ (froom tyPtr l₆ 0)
-        ∷ ‵ (fdies tyPtr l₆) ∷ ‵ (froom tyBool l₅ 0) ∷ ‵ (fdies tyBool l₅) ∷ ‵ (froom (tyInt w64) l₄ 0)
-        ∷ ‵ (fdies (tyInt w64) l₄) ∷ i₃ ∷ ‵ (fdies (tyInt w64) l₃) ∷ i₂ ∷ ‵ (fdies (tyInt w64) l₂)
-        ∷ i₁ ∷ ‵ (fdies (sliceTy (tyRef (named 0) imm (pointee (T.the-row .written)))) l₁) ∷ i₀
-        ∷ ‵ (fdies (tyInt w64) l₀) ∷ []
-
-    abbrev Sl : Fml
-    Sl = fat fullShare (sliceTy (tyRef (named 0) imm (pointee (T.the-row .written)))) l₁ 0 (sliceVal (b, o) n)
-
-    -- [the row; what shuts; the fractured borrow; what is known of the name; the locals]
+    -- [the row; what shuts; the locals]
     abbrev At : Upto → List (Item 𝓤)
-    At i = ‵ (row T.the-row q′ ys b o) ∷ ‵ (fobor κ q (Part q′)) ∷ ‵ (fshr-bor κ Part) ∷ ‵ Known
-        ∷ Locals (‵ (fat fullShare (tyInt w64) l₃ 0 (vint w64 (i .0))))
-        (‵ (fat fullShare (tyInt w64) l₂ 0 (vint w64 id))) (‵ Sl) (‵ (froom (tyInt w64) l₀ 0))
-
-    abbrev Over : List (Item 𝓤)
-    Over =
-        ‵ (flft κ q) ∷ ‵ (fshr-bor κ Part) ∷ ‵ Known ∷ Locals (‵ (froom (tyInt w64) l₃ 0)) (‵ (froom (tyInt w64) l₂ 0))
-        (‵ (froom (sliceTy (tyRef (named 0) imm (pointee (T.the-row .written)))) l₁ 0)) (‵ (froom (tyInt w64) l₀ 0))
-
-    -- the locals are freed, and r is the place searched for
-    leaves : (r : ℕ) → r ≡ find (hasId id) ys → r < 2 ^ 64 → Sq W Over (frees En (prop (Post (vint w64 r))))
-    leaves r e gr =
-        move ! (17 ∷ 18 ∷ []) $ free1 ! $ move ! (15 ∷ 16 ∷ []) $ free1 ! $ move ! (13 ∷ 14 ∷ []) $ free1 ! $
-        move ! (11 ∷ 12 ∷ []) $ free1 ! $ move ! (9 ∷ 10 ∷ []) $ free1 ! $ move ! (7 ∷ 8 ∷ []) $ free1 ! $
-        move ! (5 ∷ 6 ∷ []) $ free1 ! $ move ! (3 ∷ 4 ∷ []) $ free1 ! $ free0 ! $ by ! (exits r e gr)
+    At i = ‵ (row T.the-row q′ ys b o) ∷ ‵ (fobor κ q (Part q′)) ∷ cells (at-turn (i .0)) []
 
     abbrev Turned : Upto → Out → SProp 𝓤
     Turned i =
@@ -175,41 +149,40 @@ module _ {M : Type 1} (𝓤 : URA M) (H : Heap 𝓤) (A : Atoms 𝓤) (W : Given
     looks-at : (i : Upto) → ltb (i .0) n ≡ true → i .0 < n → Sq W (At i) (runs C Λ En mir.turn-1 (anyQ (Turned i)))
     unfolding afterTurn
     looks-at i e l =
-        assigns ! (of-opd ! (load ! (from ! (fld ! refl (stop !))) (look-in ! 16 (sub ! 1 refl (whole !)))))
-        (from ! (stop !)) (init ! 10 refl (tt, record { fits = gn .0 })) $
-        assigns ! (bin ! (load ! (from ! (stop !)) (look ! 12 refl)) (load ! (from ! (stop !)) (look ! 10 refl)) tt)
-        (from ! (stop !)) (init ! 8 refl (tt, tt)) $
-        rewrite ! 8 (λ (t : Bool). ‵ (fat fullShare tyBool l₅ 0 (vbool t))) e refl $
-        stays ! (load ! (from ! (stop !)) (look ! 8 refl)) $
-        assigns !
-        (bin ! (load ! (from ! (stop !)) (look ! 12 refl)) (lit ! tt) (record { fits = near (i .0) n l (gn .1) }))
-        (from ! (stop !)) (store ! 10 refl (tt, record { fits = near (i .0) n l (gn .1) })) $
-        assigns ! (bin ! (load ! (from ! (fld ! refl (stop !))) (look-in ! 16 (sub ! 0 refl (whole !))))
-        (load ! (from ! (stop !)) (look ! 10 refl)) tt)
+        assigns ! (of-opd ! (load ! (from ! (fld ! refl (stop !))) (look-in ! 14 (sub ! 1 refl (whole !)))))
+        (from ! (stop !)) (init ! 8 refl (tt, record { fits = gn .0 })) $
+        assigns ! (bin ! (load ! (from ! (stop !)) (look ! 10 refl)) (load ! (from ! (stop !)) (look ! 8 refl)) tt)
         (from ! (stop !)) (init ! 6 refl (tt, tt)) $
-        rewrite ! 6 (λ (p : ℕ). ‵ (fat fullShare tyPtr l₆ 0 (vptr b p))) (sym (place-is recordSize o (i .0))) refl $
+        rewrite ! 6 (λ (t : Bool). ‵ (fat fullShare tyBool l₅ 0 (vbool t))) e refl $
+        stays ! (load ! (from ! (stop !)) (look ! 6 refl)) $
+        assigns !
+        (bin ! (load ! (from ! (stop !)) (look ! 10 refl)) (lit ! tt) (record { fits = near (i .0) n l (gn .1) }))
+        (from ! (stop !)) (store ! 8 refl (tt, record { fits = near (i .0) n l (gn .1) })) $
+        assigns ! (bin ! (load ! (from ! (fld ! refl (stop !))) (look-in ! 14 (sub ! 0 refl (whole !))))
+        (load ! (from ! (stop !)) (look ! 8 refl)) tt)
+        (from ! (stop !)) (init ! 4 refl (tt, tt)) $
+        rewrite ! 4 (λ (p : ℕ). ‵ (fat fullShare tyPtr l₆ 0 (vptr b p))) (sym (place-is recordSize o (i .0))) refl $
         elem-out ! T.the-row (Is T.the-row) (shows 𝓤 H A T.the-row) vals (LL.tells T.the-type T′.the-laws) q′ ys
         (i .0) noThread b o l (λ g.
-        -- [ts[i]; what it owns; the others; what shuts; the fractured borrow; what is known of the name; _7; …; _6; …]
-        assigns ! (of-opd ! (load ! (from ! (hop ! (look ! 8 refl) (fld ! refl (stop !))))
+        -- [ts[i]; what it owns; the others; what shuts; the locals]
+        assigns ! (of-opd ! (load ! (from ! (hop ! (look ! 6 refl) (fld ! refl (stop !))))
         (look-in ! 0 (sub ! 0 refl (whole !)))))
         (from ! (stop !))
-        (init ! 6 refl (tt, record { fits = LL.owed T.the-type T′.the-laws (getD ys (i .0) noThread) _ g .0 .1 })) $
+        (init ! 4 refl (tt, record { fits = LL.owed T.the-type T′.the-laws (getD ys (i .0) noThread) _ g .0 .1 })) $
         elem-back ! T.the-row q′ ys (i .0) noThread (vals (getD ys (i .0) noThread)) b o l $
-        assigns ! (bin ! (load ! (from ! (stop !)) (look ! 4 refl)) (load ! (from ! (stop !)) (look ! 14 refl)) tt)
-        (from ! (stop !)) (store ! 8 refl (tt, tt)) $
-        first ! $ branches ! (load ! (from ! (stop !)) (look ! 8 refl))
-        (λ same. assigns ! (of-opd ! (load ! (from ! (stop !)) (look ! 12 refl))) (from ! (stop !))
-        (init ! 18 refl (tt, record { fits = fits i })) $
-        shuts-slice ! tt T.the-row q′ ys b o $ returns-within ! Post refl (look ! 17 refl) $
-        forget ! 3 refl $ forget ! 5 refl $ forget ! 7 refl $ forget ! 9 refl $ forget ! 11 refl $ forget ! 13 refl $
-        forget ! 15 refl $ forget ! 17 refl $
-        leaves (i .0) (found ys id (i .0) l (i .1 .1) same) (fits i))
+        assigns ! (bin ! (load ! (from ! (stop !)) (look ! 2 refl)) (load ! (from ! (stop !)) (look ! 12 refl)) tt)
+        (from ! (stop !)) (store ! 6 refl (tt, tt)) $
+        first ! $ branches ! (load ! (from ! (stop !)) (look ! 6 refl))
+        (λ same. assigns ! (of-opd ! (load ! (from ! (stop !)) (look ! 10 refl))) (from ! (stop !))
+        (init ! 16 refl (tt, record { fits = fits i })) $
+        shuts-slice ! tt T.the-row q′ ys b o $ returns-within ! Post refl (look ! 15 refl) $
+        forget ! 1 refl $ forget ! 3 refl $ forget ! 5 refl $ forget ! 7 refl $ forget ! 15 refl $
+        frees-all ! 1 (at-turn (i .0)) refl $ by ! (exits (i .0) (found ys id (i .0) l (i .1 .1) same) (fits i)))
         (λ other. skips ! $ exec ! C Λ En bump (anyQ (Turned i)) $
         assigns-last !
-        (bin ! (load ! (from ! (stop !)) (look ! 12 refl)) (lit ! tt) (record { fits = fits (next other) }))
-        (from ! (stop !)) (store ! 12 refl (tt, record { fits = fits (next other) })) $
-        forget ! 4 refl $ forget ! 6 refl $ forget ! 8 refl $ forget ! 10 refl $
+        (bin ! (load ! (from ! (stop !)) (look ! 10 refl)) (lit ! tt) (record { fits = fits (next other) }))
+        (from ! (stop !)) (store ! 10 refl (tt, record { fits = fits (next other) })) $
+        forget ! 2 refl $ forget ! 4 refl $ forget ! 6 refl $ forget ! 8 refl $
         again ! Nearer At i (next other) (add-one-dec n (i .0) l)))
       where
         next : T (not (eqb (getD ys (i .0) noThread .id) id)) → Upto
@@ -219,17 +192,17 @@ module _ {M : Type 1} (𝓤 : URA M) (H : Heap 𝓤) (A : Atoms 𝓤) (W : Given
     ends : (i : Upto) → ltb (i .0) n ≡ false → i .0 ≡ n → Sq W (At i) (runs C Λ En mir.turn-1 (anyQ (Turned i)))
     unfolding afterTurn
     ends i e last =
-        assigns ! (of-opd ! (load ! (from ! (fld ! refl (stop !))) (look-in ! 16 (sub ! 1 refl (whole !)))))
-        (from ! (stop !)) (init ! 10 refl (tt, record { fits = gn .0 })) $
-        assigns ! (bin ! (load ! (from ! (stop !)) (look ! 12 refl)) (load ! (from ! (stop !)) (look ! 10 refl)) tt)
-        (from ! (stop !)) (init ! 8 refl (tt, tt)) $
-        rewrite ! 8 (λ (t : Bool). ‵ (fat fullShare tyBool l₅ 0 (vbool t))) e refl $
-        leaves-loop ! (load ! (from ! (stop !)) (look ! 8 refl)) $ exec ! C Λ En mir.t-3 (atRet En Post) $
-        assigns ! (of-opd ! (load ! (from ! (stop !)) (look ! 12 refl))) (from ! (stop !))
-        (init ! 18 refl (tt, record { fits = fits i })) $
-        shuts-slice ! tt T.the-row q′ ys b o $ returns ! (look ! 17 refl) $ forget ! 7 refl $ forget ! 9 refl $
-        forget ! 11 refl $ forget ! 13 refl $ forget ! 15 refl $ forget ! 17 refl $
-        leaves (i .0) (at-end ys id (i .0) last (i .1 .1)) (fits i)
+        assigns ! (of-opd ! (load ! (from ! (fld ! refl (stop !))) (look-in ! 14 (sub ! 1 refl (whole !)))))
+        (from ! (stop !)) (init ! 8 refl (tt, record { fits = gn .0 })) $
+        assigns ! (bin ! (load ! (from ! (stop !)) (look ! 10 refl)) (load ! (from ! (stop !)) (look ! 8 refl)) tt)
+        (from ! (stop !)) (init ! 6 refl (tt, tt)) $
+        rewrite ! 6 (λ (t : Bool). ‵ (fat fullShare tyBool l₅ 0 (vbool t))) e refl $
+        leaves-loop ! (load ! (from ! (stop !)) (look ! 6 refl)) $ exec ! C Λ En mir.t-3 (atRet En Post) $
+        assigns ! (of-opd ! (load ! (from ! (stop !)) (look ! 10 refl))) (from ! (stop !))
+        (init ! 16 refl (tt, record { fits = fits i })) $
+        shuts-slice ! tt T.the-row q′ ys b o $ returns ! (look ! 15 refl) $ forget ! 5 refl $ forget ! 7 refl $
+        forget ! 15 refl $ frees-all ! 1 (at-turn (i .0)) refl $
+        by ! (exits (i .0) (at-end ys id (i .0) last (i .1 .1)) (fits i))
 
     turns : (i : Upto) → Sq W (At i) (runs C Λ En mir.turn-1 (anyQ (Turned i)))
     turns i = go (ltb (i .0) n) refl
@@ -249,34 +222,25 @@ module _ {M : Type 1} (𝓤 : URA M) (H : Heap 𝓤) (A : Atoms 𝓤) (W : Given
       pass1 ! (init ! 12 refl (tt, (tt, (record { fits = gn .0 }, tt)))) $
       pass1 ! (init ! 10 refl (tt, record { fits = gid })) $ pass0 ! $
       assigns ! (of-opd ! (lit ! tt)) (from ! (stop !)) (init ! 8 refl (tt, record { fits = lit< tt })) $
-      -- of what ts owns the fractured borrow and what is known of the name are kept
-      move ! (17 ∷ []) $ fsplit ! $ fsplit ! $ drop ! $ fsplit ! $ move ! (1 ∷ 19 ∷ []) $ move ! (1 ∷ []) $ split ! $
-      move ! (2 ∷ 0 ∷ []) $
+      move ! (17 ∷ []) $ fsplit ! $ fsplit ! $ drop ! $ fsplit ! $ drop ! $ move ! (1 ∷ []) $ drop ! $
+      -- [the fractured borrow; the locals; the token]
+      move ! (17 ∷ []) $ split ! $ move ! (1 ∷ []) $ drop ! $ move ! (1 ∷ 0 ∷ []) $
       looks-slice ! tt T.the-row (Is T.the-row) (shows 𝓤 H A T.the-row) vals (LL.tells T.the-type T′.the-laws)
       (LL.copy T.the-type T′.the-copy 𝓤 H A W) ys b o (λ q′.
-      -- [the row; what shuts; the fractured borrow; true; what is known of the name; id's; _7; …]
-      keep ! (0 ∷ 1 ∷ 2 ∷ 4 ∷ 6 ∷ 7 ∷ 8 ∷ 9 ∷ 10 ∷ 11 ∷ 12 ∷ 13 ∷ 14 ∷ 15 ∷ 16 ∷ 17 ∷ 18 ∷ 19 ∷ 20 ∷ 21 ∷ []) $
+      move ! (2 ∷ []) $ drop ! $
       first ! $ blocks ! $ loops ! 𝓣 Nearer Nearer-wf (At 𝓣 q′ l₀ l₁ l₂ l₃ l₄ l₅ l₆ l₇)
       (turns 𝓣 q′ l₀ l₁ l₂ l₃ l₄ l₅ l₆ l₇) (0, (zero-le, starts ys id)))))))))))
 
 module _ {M : Type 1} (𝓤 : URA M) (H : Heap 𝓤) (A : Atoms 𝓤) (W : Given 𝓤 H A) (mem : Memory → SProp 𝓤)
     (run : Routine → Fun 𝓤) (𝓣 : Tables 𝓤 H) where
-  f-walks : Walks 𝓤 H A f.ended stayed (WpFn 𝓤 H (𝓣 .C) (𝓣 .Λ) code.function) (f.clauses 𝓤 H A mem run)
-  f-walks =
-      walked 𝓤 H A f.ended stayed (f.clauses 𝓤 H A mem run)
-      (WpFn 𝓤 H (𝓣 .C) (𝓣 .Λ) code.function) (λ κs. (slice-vals, (uint-vals w64, tt)))
+  f-meets : Meets 𝓤 H A f.signature (WpFn 𝓤 H (𝓣 .C) (𝓣 .Λ) code.function) (f.spec 𝓤 H A mem run)
+  f-meets =
+      meets-by 𝓤 H A f.ended (f.clauses 𝓤 H A mem run) (WpFn 𝓤 H (𝓣 .C) (𝓣 .Λ) code.function)
+      (λ κs. (slice-vals, (uint-vals w64, tt)))
       (λ κs. (shr-slice-tells (named 0) (κs .0) T.the-row, (uint-tells w64, tt)))
       (λ κs qs bounds a g are. via 𝓤 _ (fst∗ 𝓤 _ (emp 𝓤))
       (walk 𝓤 H A W mem run (κs .0) (qs .0) (a .0 .ptr .0) (a .0 .ptr .1) (a .0 .name) (a .0 .now) (a .1 .0)
       (are .0 .0 .1) (are .1 .0 .1) 𝓣))
-
-  f-meets : Meets 𝓤 H A f.signature (WpFn 𝓤 H (𝓣 .C) (𝓣 .Λ) code.function) (f.spec 𝓤 H A mem run)
-  f-meets =
-      walk-meets 𝓤 H A f.ended stayed W (
-        goes-none-slice 𝓤 H A W 1 (0 ∷ []) tt (plain (λ _. T.the-row)) yes,
-        (goes-none 𝓤 H A W 1 (λ _. u64) yes (λ κs x f. refl), tt),
-      ) (f.clauses 𝓤 H A mem run) (WpFn 𝓤 H (𝓣 .C) (𝓣 .Λ) code.function)
-      (WpFn-mono 𝓤 H (W .laws) 𝓣 code.function) f-walks
 
 pub find-thread-spec : {M : Type 1} → stated.statement M
 unfolding code.routine tablesOf
