@@ -14,7 +14,7 @@ use Rattle.lists.proofs.Bools.{split, cond-true, cond-false}
 use Rattle.zeros.specs.Zeros.{isNought}
 use Rattle.rules.specs.Types.{Process, Thread}
 use Rattle.rules.specs.Store.{Place, freeProcess}
-use Rattle.rules.specs.Sound.{processId, killStopDefault, goodId, unmasked}
+use Rattle.rules.specs.Sound.{processId, zeroThread, killStopDefault, goodId, unmasked}
 use Rattle.tables.specs.Tables.{processesOf, processAt, headTo}
 use Rattle.tables.proofs.Words.{process-row}
 use Rattle.sigset.specs.declared.SigSet.{SigSet}
@@ -37,6 +37,13 @@ pub live-thread : (place : ℕ → ℕ) (ignores : SigSet) (i : ℕ) (x : Place 
     → (g && (m && (u && (f && d)))) ≡ liveThreadOk place ignores i x
 unfolding liveThreadOk
 live-thread place ignores i x eg em eu ef ed = rw (eg, em, eu, ef, ed)
+
+-- ---- a thread place that is free
+
+pub free-thread-end : (x : Place Thread) {p m k : ℕ} → p ≡ x .holds .process → m ≡ x .holds .mask .0 → k ≡ x .marks .0
+    → (eqb p 0 && (eqb m 0 && eqb k 0)) ≡ zeroThread x
+unfolding zeroThread
+free-thread-end x ep em ek = rw (ep, em, ek)
 
 -- ---- a process place by whether it is free
 
