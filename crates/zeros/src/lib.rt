@@ -4,7 +4,10 @@ ghost use mathlib.Core.Path.{_≡_};
 ghost use Prim.Native.Nat.{_+_, _≤_};
 ghost use lib.ListN.{length, take, drop};
 ghost use Rattle.lists.specs.Lists.{all};
-ghost use Rattle.zeros.specs.Zeros.{isNought};
+ghost use Rattle.zeros.specs.Zeros.{isNought, block};
+
+// Bytes are read by blocks of a constant length, which the compiler reads best.
+const BLOCK: usize = 1024;
 
 pub fn words_zero(ws: &[u64], from: usize, n: usize) -> bool
     requires { ⌜ from + n ≤ length (now ws) ⌝ }
@@ -19,7 +22,20 @@ pub fn words_zero(ws: &[u64], from: usize, n: usize) -> bool
     some == 0
 }
 
-pub fn bytes_zero(b: &[u8], from: usize, n: usize) -> bool
+fn block_zero(b: &[u8], from: usize) -> bool
+    requires { ⌜ from + block ≤ length (now b) ⌝ }
+    ensures { λ r. ⌜ r ≡ all isNought (take block (drop from (now (b .entry)))) ⌝ }
+{
+    let mut some: u8 = 0;
+    let mut i = 0;
+    while i < BLOCK {
+        some = some | b[from + i];
+        i += 1;
+    }
+    some == 0
+}
+
+fn part_zero(b: &[u8], from: usize, n: usize) -> bool
     requires { ⌜ from + n ≤ length (now b) ⌝ }
     ensures { λ r. ⌜ r ≡ all isNought (take n (drop from (now (b .entry)))) ⌝ }
 {
@@ -30,4 +46,18 @@ pub fn bytes_zero(b: &[u8], from: usize, n: usize) -> bool
         i += 1;
     }
     some == 0
+}
+
+pub fn bytes_zero(b: &[u8], from: usize, n: usize) -> bool
+    requires { ⌜ from + n ≤ length (now b) ⌝ }
+    ensures { λ r. ⌜ r ≡ all isNought (take n (drop from (now (b .entry)))) ⌝ }
+{
+    let mut i = 0;
+    while BLOCK <= n - i {
+        if !block_zero(b, from + i) {
+            return false;
+        }
+        i += BLOCK;
+    }
+    part_zero(b, from + i, n - i)
 }
