@@ -1,8 +1,8 @@
 -- Words, or bytes, put together by `or`: what is put together is zero exactly if each of them is; and bytes taken block
 -- by block. Assumes nothing.
 use Prim.Native.Nat.{ℕ, _+_, _-_, _≤_, _<_}
-use mathlib.Core.Path.{_≡_, sym, ap, ap₂, _∙_}
-use mathlib.Core.Bool.{Bool, true, false, _&&_}
+use mathlib.Core.Path.{_≡_, sym, ap, _∙_}
+use mathlib.Core.Bool.{Bool, true, false, _&&_, and-true, and-false}
 use mathlib.Core.List.{List, []}
 use native.Mathlib.Omega.{arith}
 use lib.Bits.{bitOr}
@@ -39,38 +39,22 @@ module _ (ws : List ℕ) (from n : ℕ) where
         let long = part-long ws from n h in e ∙ ap (all isNought) (take-all i (take n (drop from ws)) (omega arith))
 
 -- are n words from a place on zero?
-abbrev zeroes : List ℕ → (from n : ℕ) → Bool
+abbrev pub zeroes : List ℕ → (from n : ℕ) → Bool
 zeroes ws from n = all isNought (take n (drop from ws))
 
--- they are exactly if those behind the first i are
-abbrev pub Left : List ℕ → (from n i : ℕ) → Type 0
-Left ws from n i = zeroes ws from n ≡ zeroes ws (from + i) (n - i)
+module _ (ws : List ℕ) (from n left k : ℕ) (h : k ≤ left) (e : zeroes ws from n ≡ zeroes ws from left) where
+  -- all but the last k of what is left, then these
+  last : zeroes ws from n ≡ (zeroes ws from (left - k) && zeroes ws (from + (left - k)) k)
+  last =
+      let m : left ≡ left - k + k = omega arith in
+      e
+      ∙ ap (zeroes ws from) m
+      ∙ ap (all isNought) (take-add (left - k) k (drop from ws))
+      ∙ all-append isNought (take (left - k) (drop from ws)) (take k (drop (left - k) (drop from ws)))
+      ∙ ap (λ l. zeroes ws from (left - k) && all isNought (take k l)) (drop-drop (left - k) from ws)
 
-module _ (ws : List ℕ) (from n : ℕ) where
-  -- the first k, then the others
-  zeroes-split : (k : ℕ) → k ≤ n → zeroes ws from n ≡ (zeroes ws from k && zeroes ws (from + k) (n - k))
-  zeroes-split k h =
-      let e : n ≡ k + (n - k) = omega arith in
-      ap (zeroes ws from) e
-      ∙ ap (all isNought) (take-add k (n - k) (drop from ws))
-      ∙ all-append isNought (take k (drop from ws)) (take (n - k) (drop k (drop from ws)))
-      ∙ ap (λ l. zeroes ws from k && all isNought (take (n - k) l)) (drop-drop k from ws)
+  pub last-zero : zeroes ws (from + (left - k)) k ≡ true → zeroes ws from n ≡ zeroes ws from (left - k)
+  last-zero t = last ∙ ap (λ b. zeroes ws from (left - k) && b) t ∙ and-true (zeroes ws from (left - k))
 
-  pub left-none : Left ws from n 0
-  left-none =
-      let e : from ≡ from + 0 = omega arith in
-      let d : n ≡ n - 0 = omega arith in
-      ap₂ (zeroes ws) e d
-
-module _ (ws : List ℕ) (from n i k : ℕ) (h : k ≤ n - i) (e : Left ws from n i) where
-  split-left : zeroes ws from n ≡ (zeroes ws (from + i) k && zeroes ws (from + (i + k)) (n - (i + k)))
-  split-left =
-      let p : from + i + k ≡ from + (i + k) = omega arith in
-      let q : n - i - k ≡ n - (i + k) = omega arith in
-      e ∙ zeroes-split ws (from + i) (n - i) k h ∙ ap₂ (λ a m. zeroes ws (from + i) k && zeroes ws a m) p q
-
-  pub left-more : zeroes ws (from + i) k ≡ true → Left ws from n (i + k)
-  left-more t = split-left ∙ ap (λ b. b && zeroes ws (from + (i + k)) (n - (i + k))) t
-
-  pub left-not : zeroes ws (from + i) k ≡ false → zeroes ws from n ≡ false
-  left-not t = split-left ∙ ap (λ b. b && zeroes ws (from + (i + k)) (n - (i + k))) t
+  pub last-not : zeroes ws (from + (left - k)) k ≡ false → zeroes ws from n ≡ false
+  last-not t = last ∙ ap (λ b. zeroes ws from (left - k) && b) t ∙ and-false (zeroes ws from (left - k))

@@ -52,12 +52,12 @@ pub fn bytes_zero(b: &[u8], from: usize, n: usize) -> bool
     requires { ⌜ from + n ≤ length (now b) ⌝ }
     ensures { λ r. ⌜ r ≡ all isNought (take n (drop from (now (b .entry)))) ⌝ }
 {
-    let mut i = 0;
-    while BLOCK <= n - i {
-        if !block_zero(b, from + i) {
+    let mut left = n;
+    while BLOCK <= left {
+        left -= BLOCK;
+        if !block_zero(b, from + left) {
             return false;
         }
-        i += BLOCK;
     }
-    part_zero(b, from + i, n - i)
+    part_zero(b, from, left)
 }

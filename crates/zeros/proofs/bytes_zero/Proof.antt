@@ -1,23 +1,22 @@
 -- `bytes_zero` meets its contract. Assumes nothing.
 use Prim.Native.Nat.{_-_, _≤_}
 use borrow.Author.Needs.{needs}
-use mathlib.Core.Path.{_∙_, sym}
+use mathlib.Core.Path.{_≡_, _∙_, refl, sym}
 use borrow.Author.Tests.{not-true, not-false}
 use native.Mathlib.Omega.{arith}
 use Rattle.zeros.specs.Zeros.{block}
-use Rattle.zeros.proofs.Zeros.{Left, left-none, left-more, left-not}
+use Rattle.zeros.proofs.Zeros.{zeroes, last-zero, last-not}
 use Rattle.zeros.proofs.bytes_zero.Statement.{statement}
 use Rattle.zeros.proofs.bytes_zero.Tie as tie
 
 abbrev Inv-loop : tie.InvT-loop
-Inv-loop b from n i₀ i = (i ≤ n) × Left b from n i
+Inv-loop b from n left₀ left = (left ≤ n) × (zeroes b from n ≡ zeroes b from left)
 
 abbrev μ-loop : tie.MeasureT-loop
-μ-loop b from n i₀ i = n - i
+μ-loop b from n left₀ left = left
 
 loop-holds : tie.Need-loop-holds Inv-loop μ-loop
-loop-holds c =
-    let a = c .before .args in (search needs, left-none (a .b .now) (a .from) (a .n))
+loop-holds c = (search needs, refl)
 
 returns : tie.Need-returns Inv-loop μ-loop
 returns c =
@@ -25,7 +24,7 @@ returns c =
     let l = z .before .before in
     let a = l .before .before .args in
     sym
-    (left-not (a .b .now) (a .from) (a .n) (l .loop .i) block (omega arith) (l .loop .inv .1)
+    (last-not (a .b .now) (a .from) (a .n) (l .loop .left) block (omega arith) (l .loop .inv .1)
     (sym (z .block-zero .ensures) ∙ not-true (z .block-zero .result) (c .if1 .taken)))
 
 loop-again : tie.Need-loop-again Inv-loop μ-loop
@@ -34,7 +33,7 @@ loop-again c =
     let l = z .before .before in
     let a = l .before .before .args in (
       omega arith,
-      left-more (a .b .now) (a .from) (a .n) (l .loop .i) block (omega arith) (l .loop .inv .1)
+      last-zero (a .b .now) (a .from) (a .n) (l .loop .left) block (omega arith) (l .loop .inv .1)
           (sym (z .block-zero .ensures) ∙ not-false (z .block-zero .result) (c .if1 .left)),
     )
 
@@ -49,13 +48,9 @@ bytes-zero-spec =
     μ-loop
     loop-holds
     (λ c. search needs)
-    (λ c. search needs)
     (λ c κs. search needs)
     returns
     (λ c. search needs)
-    (λ c. search needs)
     loop-again
-    (λ c. search needs)
-    (λ c. search needs)
     (λ c κs. search needs)
     returns-2)
