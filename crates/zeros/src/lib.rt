@@ -4,12 +4,27 @@ ghost use mathlib.Core.Path.{_≡_};
 ghost use Prim.Native.Nat.{_+_, _≤_};
 ghost use lib.ListN.{length, take, drop};
 ghost use Rattle.lists.specs.Lists.{all};
-ghost use Rattle.zeros.specs.Zeros.{isNought, block};
+ghost use Rattle.zeros.specs.Zeros.{isNought, blockBytes, blockWords};
 
-// Bytes are read by blocks of a constant length, which the compiler reads best.
-const BLOCK: usize = 1024;
+// They are read by blocks of a constant length, which the compiler reads best.
+const BLOCK_BYTES: usize = 1024;
 
-pub fn words_zero(ws: &[u64], from: usize, n: usize) -> bool
+const BLOCK_WORDS: usize = 128;
+
+fn words_block_zero(ws: &[u64], from: usize) -> bool
+    requires { ⌜ from + blockWords ≤ length (now ws) ⌝ }
+    ensures { λ r. ⌜ r ≡ all isNought (take blockWords (drop from (now (ws .entry)))) ⌝ }
+{
+    let mut some: u64 = 0;
+    let mut i = 0;
+    while i < BLOCK_WORDS {
+        some = some | ws[from + i];
+        i += 1;
+    }
+    some == 0
+}
+
+fn words_part_zero(ws: &[u64], from: usize, n: usize) -> bool
     requires { ⌜ from + n ≤ length (now ws) ⌝ }
     ensures { λ r. ⌜ r ≡ all isNought (take n (drop from (now (ws .entry)))) ⌝ }
 {
@@ -22,20 +37,34 @@ pub fn words_zero(ws: &[u64], from: usize, n: usize) -> bool
     some == 0
 }
 
-fn block_zero(b: &[u8], from: usize) -> bool
-    requires { ⌜ from + block ≤ length (now b) ⌝ }
-    ensures { λ r. ⌜ r ≡ all isNought (take block (drop from (now (b .entry)))) ⌝ }
+pub fn words_zero(ws: &[u64], from: usize, n: usize) -> bool
+    requires { ⌜ from + n ≤ length (now ws) ⌝ }
+    ensures { λ r. ⌜ r ≡ all isNought (take n (drop from (now (ws .entry)))) ⌝ }
+{
+    let mut left = n;
+    while BLOCK_WORDS <= left {
+        left -= BLOCK_WORDS;
+        if !words_block_zero(ws, from + left) {
+            return false;
+        }
+    }
+    words_part_zero(ws, from, left)
+}
+
+fn bytes_block_zero(b: &[u8], from: usize) -> bool
+    requires { ⌜ from + blockBytes ≤ length (now b) ⌝ }
+    ensures { λ r. ⌜ r ≡ all isNought (take blockBytes (drop from (now (b .entry)))) ⌝ }
 {
     let mut some: u8 = 0;
     let mut i = 0;
-    while i < BLOCK {
+    while i < BLOCK_BYTES {
         some = some | b[from + i];
         i += 1;
     }
     some == 0
 }
 
-fn part_zero(b: &[u8], from: usize, n: usize) -> bool
+fn bytes_part_zero(b: &[u8], from: usize, n: usize) -> bool
     requires { ⌜ from + n ≤ length (now b) ⌝ }
     ensures { λ r. ⌜ r ≡ all isNought (take n (drop from (now (b .entry)))) ⌝ }
 {
@@ -53,11 +82,11 @@ pub fn bytes_zero(b: &[u8], from: usize, n: usize) -> bool
     ensures { λ r. ⌜ r ≡ all isNought (take n (drop from (now (b .entry)))) ⌝ }
 {
     let mut left = n;
-    while BLOCK <= left {
-        left -= BLOCK;
-        if !block_zero(b, from + left) {
+    while BLOCK_BYTES <= left {
+        left -= BLOCK_BYTES;
+        if !bytes_block_zero(b, from + left) {
             return false;
         }
     }
-    part_zero(b, from, left)
+    bytes_part_zero(b, from, left)
 }

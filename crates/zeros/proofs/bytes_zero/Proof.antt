@@ -4,7 +4,7 @@ use borrow.Author.Needs.{needs}
 use mathlib.Core.Path.{_≡_, _∙_, refl, sym}
 use borrow.Author.Tests.{not-true, not-false}
 use native.Mathlib.Omega.{arith}
-use Rattle.zeros.specs.Zeros.{block}
+use Rattle.zeros.specs.Zeros.{blockBytes}
 use Rattle.zeros.proofs.Zeros.{zeroes, last-zero, last-not}
 use Rattle.zeros.proofs.bytes_zero.Statement.{statement}
 use Rattle.zeros.proofs.bytes_zero.Tie as tie
@@ -24,8 +24,8 @@ returns c =
     let l = z .before .before in
     let a = l .before .before .args in
     sym
-    (last-not (a .b .now) (a .from) (a .n) (l .loop .left) block (omega arith) (l .loop .inv .1)
-    (sym (z .block-zero .ensures) ∙ not-true (z .block-zero .result) (c .if1 .taken)))
+    (last-not (a .b .now) (a .from) (a .n) (l .loop .left) blockBytes (omega arith) (l .loop .inv .1)
+    (sym (z .bytes-block-zero .ensures) ∙ not-true (z .bytes-block-zero .result) (c .if1 .taken)))
 
 loop-again : tie.Need-loop-again Inv-loop μ-loop
 loop-again c =
@@ -33,12 +33,12 @@ loop-again c =
     let l = z .before .before in
     let a = l .before .before .args in (
       omega arith,
-      last-zero (a .b .now) (a .from) (a .n) (l .loop .left) block (omega arith) (l .loop .inv .1)
-          (sym (z .block-zero .ensures) ∙ not-false (z .block-zero .result) (c .if1 .left)),
+      last-zero (a .b .now) (a .from) (a .n) (l .loop .left) blockBytes (omega arith) (l .loop .inv .1)
+          (sym (z .bytes-block-zero .ensures) ∙ not-false (z .bytes-block-zero .result) (c .if1 .left)),
     )
 
 returns-2 : tie.Need-returns-2 Inv-loop μ-loop
-returns-2 c = c .part-zero .ensures ∙ sym (c .before .before .loop .inv .1)
+returns-2 c = c .bytes-part-zero .ensures ∙ sym (c .before .before .loop .inv .1)
 
 pub bytes-zero-spec : {M : Type 1} → statement M
 bytes-zero-spec =

@@ -1,10 +1,10 @@
--- `part_zero` meets its contract. Assumes nothing.
+-- `bytes_part_zero` meets its contract. Assumes nothing.
 use Prim.Native.Nat.{_-_, _≤_}
 use borrow.Author.Needs.{needs}
 use native.Mathlib.Omega.{arith}
 use Rattle.zeros.proofs.Zeros.{Together, together-none, together-more, together-all}
-use Rattle.zeros.proofs.part_zero.Statement.{statement}
-use Rattle.zeros.proofs.part_zero.Tie as tie
+use Rattle.zeros.proofs.bytes_part_zero.Statement.{statement}
+use Rattle.zeros.proofs.bytes_part_zero.Tie as tie
 
 abbrev Inv-loop : tie.InvT-loop
 Inv-loop b from n some₀ i₀ some i = (i ≤ n) × Together b from n some i
@@ -31,8 +31,8 @@ returns c =
     together-all (a .b .now) (a .from) (a .n) (l .loop .some) (l .loop .i) (omega arith) (l .loop .inv .1)
     (omega arith)
 
-pub part-zero-spec : {M : Type 1} → statement M
-part-zero-spec =
+pub bytes-part-zero-spec : {M : Type 1} → statement M
+bytes-part-zero-spec =
     tie.close
     (tie.spec
     Inv-loop
