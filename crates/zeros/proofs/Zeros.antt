@@ -1,4 +1,4 @@
--- Words, or bytes, put together by `or`: what is put together is zero exactly if each of them is; and bytes taken block
+-- Words, or bytes, put together by `or`: what is put together is zero exactly if each of them is; and parts taken block
 -- by block. Assumes nothing.
 use Prim.Native.Nat.{ℕ, _+_, _-_, _≤_, _<_}
 use mathlib.Core.Path.{_≡_, sym, ap, _∙_}
