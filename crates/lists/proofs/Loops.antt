@@ -68,7 +68,8 @@ module _ {A : Type 0} (f : A → Bool) (d : A) where
   any-more xs i h a e =
       ap (any f) (upto xs i d h) ∙ any-append f (take i xs) (getD xs i d ∷ []) ∙ or-both a (or-both e refl)
 
-  pub any-next : (xs : List A) (i : ℕ) → i < length xs → any f (take (i + 1) xs) ≡ (any f (take i xs) || f (getD xs i d))
+  pub any-next : (xs : List A) (i : ℕ) → i < length xs
+      → any f (take (i + 1) xs) ≡ (any f (take i xs) || f (getD xs i d))
   unfolding any
   any-next xs i h =
       ap (any f) (upto xs i d h)

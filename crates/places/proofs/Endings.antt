@@ -48,28 +48,29 @@ free-thread-end x ep em ek = rw (ep, em, ek)
 -- ---- a process place by whether it is free
 
 module _ (find : ℕ → ℕ) (ws notes : List ℕ) (place w note : ℕ) (e : w ≡ getD (headTo (processAt ws place)) wordOfId 0)
-    where
-  its-id : w ≡ processAt ws place .holds .id
-  unfolding headTo
-  its-id = e
+  where
+    its-id : w ≡ processAt ws place .holds .id
+    unfolding headTo
+    its-id = e
 
-  pub free-process : length ws ≡ processTable → place < processPlaces → w ≡ 0 → {z : Bool}
-      → z ≡ all isNought (row processWords ws place)
-      → (z ≡ processOkAt find (processesOf ws) place) × (notes ≡ notedAt processId notes place note (processAt ws place))
-  unfolding processOkAt processOk notedAt
-  free-process long h k ez =
-      let free = eq-eqb (processAt ws place .holds .id) 0 (sym its-id ∙ k) in (
-        ez ∙ ap (all isNought) (sym (process-row ws long place h)) ∙ sym (cond-true _ _ free),
-        sym (cond-true _ _ free),
-      )
+    pub free-process : length ws ≡ processTable → place < processPlaces → w ≡ 0 → {z : Bool}
+        → z ≡ all isNought (row processWords ws place)
+        → (z ≡ processOkAt find (processesOf ws) place) × (notes ≡ notedAt processId notes place note (processAt ws
+        place))
+    unfolding processOkAt processOk notedAt
+    free-process long h k ez =
+        let free = eq-eqb (processAt ws place .holds .id) 0 (sym its-id ∙ k) in (
+          ez ∙ ap (all isNought) (sym (process-row ws long place h)) ∙ sym (cond-true _ _ free),
+          sym (cond-true _ _ free),
+        )
 
-  pub live-process-at : (w ≡ 0 → ⊥) → {l : Bool} → l ≡ liveProcessOk find place (processAt ws place)
-      → (l ≡ processOkAt find (processesOf ws) place)
-      × (set notes place note ≡ notedAt processId notes place note (processAt ws place))
-  unfolding processOkAt processOk notedAt
-  live-process-at k el =
-      let live = ne-eqb (processAt ws place .holds .id) 0 (λ z. k (its-id ∙ z)) in
-      (el ∙ sym (cond-false _ _ live), sym (cond-false _ _ live))
+    pub live-process-at : (w ≡ 0 → ⊥) → {l : Bool} → l ≡ liveProcessOk find place (processAt ws place)
+        → (l ≡ processOkAt find (processesOf ws) place)
+        × (set notes place note ≡ notedAt processId notes place note (processAt ws place))
+    unfolding processOkAt processOk notedAt
+    live-process-at k el =
+        let live = ne-eqb (processAt ws place .holds .id) 0 (λ z. k (its-id ∙ z)) in
+        (el ∙ sym (cond-false _ _ live), sym (cond-false _ _ live))
 
 -- a live process has a note that it has a thread
 pub peopled-end : (xs : List (Place Process)) (notes : List ℕ) (i w : ℕ) → w ≡ getD xs i freeProcess .holds .id

@@ -79,13 +79,13 @@ module _ (find : ℕ → ℕ) (ws vs : List ℕ) (place w : ℕ) (owners peopled
         → Left find ws vs place false owners owners′ peopled peopled′
     unfolding threadOkAt threadOk
     orphan h owners′ peopled′ =
-      let n : owner ≡ processPlaces =
-      omega (arith, at-place, find-le mine (heldProcesses ws), length-heldProcesses ws) in (
-      sym (cond-false _ _ is-live
-          ∙ and-left _ (absent-any mine noProcess (heldProcesses ws) processPlaces owner (length-heldProcesses ws)
-          at-place n)),
-      (λ z. clash z refl, λ z. clash z refl),
-    )
+        let n : owner ≡ processPlaces =
+        omega (arith, at-place, find-le mine (heldProcesses ws), length-heldProcesses ws) in (
+          sym (cond-false _ _ is-live
+              ∙ and-left _ (absent-any mine noProcess (heldProcesses ws) processPlaces owner (length-heldProcesses ws)
+              at-place n)),
+          (λ z. clash z refl, λ z. clash z refl),
+        )
 
     module _ (inside : owner < processPlaces) where
       owned : any mine (heldProcesses ws) ≡ true

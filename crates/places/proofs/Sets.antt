@@ -175,7 +175,7 @@ module _ (p : Process) where
   unfolding ignoredBy ignored ignoring
   ignored-is a b c d ea eb ec ed =
       let with : (x y : SigSet) (t s : ℕ) → Signal s → y ≡ union x (alone-default t)
-          → has y s ≡ (has x s || (isDefaultAt s && eqb s t)) =
+      → has y s ≡ (has x s || (isDefaultAt s && eqb s t)) =
       λ x y t s i e. ap (λ (z : SigSet). has z s) e ∙ has-union x (alone-default t) s i
       ∙ ap (λ (z : Bool). has x s || z) (alone (isDefaultAt t) t s i ∙ at-itself isDefaultAt t s) in
       is-set d (λ s. ignored (actionOf p s) s) (rw ed (union-lt c (alone-default SIGWINCH)))

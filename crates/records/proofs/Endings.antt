@@ -258,7 +258,8 @@ module _ (ws vs th ignored owners : List ℕ) (n : ThreadsNoted ws vs th ignored
         unfolding threadRecordOk aimedAtThread namesLive recordNotIgnored liveProcess liveThread theProcess view
         thread-delivered =
             let live = such-process ws r place at-place owner-inside in
-            ap (λ k. isDelivered (bits k) r) (n .ignores place owner-inside (live-place ws r place at-place owner-inside))
+            ap (λ k. isDelivered (bits k) r) (n .ignores place owner-inside (live-place ws r place at-place
+            owner-inside))
             ∙ delivered (processAt ws place .holds) r
             ∙ rw (live, such-thread, of-thread, eq-eqb w (r .process) z, its-process ws r place at-place)
             (all-there (eqb (r .code) siQueue) (nameable (r .signal)) _)

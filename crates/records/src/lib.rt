@@ -174,7 +174,16 @@ fn thread_records(
     let n = queue::used(b);
     let mut i = 0;
     while i < n {
-        if !thread_record(ps, ts, th, ignored, owners, siginfo::read(b, i), counts, seen) {
+        if !thread_record(
+            ps,
+            ts,
+            th,
+            ignored,
+            owners,
+            siginfo::read(b, i),
+            counts,
+            seen,
+        ) {
             return false;
         }
         i += 1;
@@ -230,7 +239,13 @@ fn thread_buffer_ok(
     thread_records(ps, ts, th, ignored, owners, b, counts, &mut seen)
 }
 
-fn process_buffer_ok(ps: &[u64], ph: &[u16], ignored: &[u64], b: &[u8], counts: &mut [usize]) -> bool
+fn process_buffer_ok(
+    ps: &[u64],
+    ph: &[u16],
+    ignored: &[u64],
+    b: &[u8],
+    counts: &mut [usize],
+) -> bool
     requires { ⌜ ProcessesNoted (now ps) (now ph) (now ignored) × (length (now b) ≡ bufferBytes) ⌝ }
     requires { ⌜ now counts ≡ tallies (heldProcesses (now ps)) [] ⌝ }
     ensures { λ h. ⌜ h ≡ processRecordsOk (processesOf (now (ps .entry))) (recordsOf (now (b .entry))) ⌝ }

@@ -103,7 +103,8 @@ module _ (ps ts tb pb : List ℕ) where
   module _ (ph th : List ℕ) (hp : Hinted processPlaces ph) (ht : Hinted threadPlaces th)
       (lp : length ps ≡ processTable) (lt : length ts ≡ threadTable) (t : isLaid tb ≡ true) (p : isLaid pb ≡ true) where
     hinted : soundTables (lent ps ts tb pb) ≡ tested (processBy ph ps) (threadBy th ts)
-    hinted = told (processBy ph ps) (threadBy th ts) (λ n c. process-found ph ps n hp c) (λ n c. thread-found th ts n ht c)
+    hinted =
+        told (processBy ph ps) (threadBy th ts) (λ n c. process-found ph ps n hp c) (λ n c. thread-found th ts n ht c)
 
     pub places-wrong : placesOk (processBy ph ps) (threadBy th ts) (processesOf ps) (threadsOf ts) ≡ false
         → false ≡ soundTables (lent ps ts tb pb)

@@ -16,7 +16,8 @@ returns c =
     let ws = a .args .ps .now in
     free-process (processBy (a .args .hints .now) ws) ws (a .args .notes .now) (a .args .place)
     (c .before .before .field-at .result) (ignoredBy (processAt ws (a .args .place) .holds) .0)
-    (c .before .before .field-at .ensures) (a .pre .0 .0) (a .pre .0 .1) (c .before .if1 .taken) (c .words-zero .ensures)
+    (c .before .before .field-at .ensures) (a .pre .0 .0) (a .pre .0 .1) (c .before .if1 .taken) (c .words-zero
+    .ensures)
 
 ignored-requires : tie.Need-ignored-requires
 ignored-requires c κs =
@@ -35,8 +36,11 @@ returns-2 c =
     let end =
     live-process-at (processBy (a .args .hints .now) ws) ws (a .args .notes .now) (a .args .place)
     (f .field-at .result) (ignoredBy (processAt ws (a .args .place) .holds) .0)
-    (f .field-at .ensures) (c .before .before .before .before .if1 .left) (c .live-process-ok .ensures) in
-    (end .0, ap (λ (i : SigSet). set (a .args .notes .now) (a .args .place) (i .0)) (c .before .ignored .ensures) ∙ end .1)
+    (f .field-at .ensures) (c .before .before .before .before .if1 .left) (c .live-process-ok .ensures) in (
+      end .0,
+      ap (λ (i : SigSet). set (a .args .notes .now) (a .args .place) (i .0)) (c .before .ignored .ensures) ∙
+          end .1,
+    )
 
 pub process-ok-spec : {M : Type 1} → statement M
 process-ok-spec =

@@ -29,8 +29,7 @@ abbrev μ-loop : tie.MeasureT-loop
 loop-holds : tie.Need-loop-holds Inv-loop μ-loop
 loop-holds c =
     let a = c .before .before .before .args in
-    let xs = processesOf (a .ps .now) in
-    (
+    let xs = processesOf (a .ps .now) in (
       search needs,
       (refl, (range-none (processOkAt (processBy (a .hints .now) (a .ps .now)) xs) 0, ignored-none xs (a .notes .now))),
     )
@@ -47,8 +46,7 @@ returns c =
     let p = c .before .before .before in
     let l = p .before .before .before in
     let a = l .before .before .before .before .args in
-    let f = processOkAt (processBy (a .hints .now) (a .ps .now)) (processesOf (a .ps .now)) in
-    (
+    let f = processOkAt (processBy (a .hints .now) (a .ps .now)) (processesOf (a .ps .now)) in (
       sym (range-fails f 0 processPlaces (l .loop .i) (omega arith)
           (ap f (zero-add (l .loop .i))
           ∙ sym (p .process-ok .ensures .0) ∙ not-true (p .process-ok .result) (c .if1 .taken))),
@@ -62,8 +60,7 @@ loop-again c =
     let a = l .before .before .before .before in
     let xs = processesOf (a .args .ps .now) in
     let f = processOkAt (processBy (a .args .hints .now) (a .args .ps .now)) xs in
-    let long : l .loop .i < length (l .loop .notes) = omega (arith, l .loop .inv .1 .0, a .pre .1 .1) in
-    (
+    let long : l .loop .i < length (l .loop .notes) = omega (arith, l .loop .inv .1 .0, a .pre .1 .1) in (
       omega arith,
       (
         search needs,
@@ -81,8 +78,7 @@ unfolding processesOk
 returns-2 c =
     let a = c .before .before .before .before .before .args in
     let e : c .before .loop .i ≡ processPlaces = omega arith in
-    let xs = processesOf (a .ps .now) in
-    (
+    let xs = processesOf (a .ps .now) in (
       sym (ap (λ k. all (processOkAt (processBy (a .hints .now) (a .ps .now)) xs) (range 0 k)) (sym e)
           ∙ c .before .loop .inv .1 .1 .0),
       λ _. subst (λ k. IgnoredNoted xs k (c .before .loop .notes)) e (c .before .loop .inv .1 .1 .1),

@@ -25,7 +25,8 @@ returns-2 c =
     (f .thread-field-at .result) (a .args .owners .now) (a .args .peopled .now) (f .thread-field-at .ensures)
     (a .args .ph .now) (c .before .before .thread-field-at2 .result) (c .before .place-of .result)
     (c .before .before .before .if1 .left) (c .before .before .thread-field-at2 .ensures) (a .pre .1 .0 .1)
-    (a .pre .1 .1 .1 .1 .0) (c .before .place-of .ensures) (c .if2 .taken) (a .args .owners .now) (a .args .peopled .now)
+    (a .pre .1 .1 .1 .1 .0) (c .before .place-of .ensures) (c .if2 .taken) (a .args .owners .now) (a .args .peopled
+    .now)
 
 returns-3 : tie.Need-returns-3
 returns-3 c =
@@ -35,7 +36,8 @@ returns-3 c =
     live-thread (threadBy (a .args .th .now) (a .args .ts .now)) (a .args .ps .now) (a .args .ts .now) (a .args .place)
     (f .thread-field-at .result) (a .args .owners .now) (a .args .peopled .now) (f .thread-field-at .ensures)
     (a .args .ph .now) (g .before .thread-field-at2 .result) (g .place-of .result) (g .before .before .if1 .left)
-    (g .before .thread-field-at2 .ensures) (a .pre .1 .0 .1) (a .pre .1 .1 .1 .1 .0) (g .place-of .ensures) (omega arith)
+    (g .before .thread-field-at2 .ensures) (a .pre .1 .0 .1) (a .pre .1 .1 .1 .1 .0) (g .place-of .ensures) (omega
+    arith)
     (a .args .ignored .now) (a .pre .1 .1 .1 .1 .1) (c .live-thread-ok .ensures)
 
 pub thread-ok-spec : {M : Type 1} → statement M

@@ -85,8 +85,7 @@ loop-again c =
     let f = threadOkAt find xs ys in
     let held = not-false (t .thread-ok .result) (c .if1 .left) in
     let ok = sym (t .thread-ok .ensures .0) ∙ held in
-    let below : l .loop .i < length ys = rw (length-threadsOf (a .args .ts .now)) (omega arith) in
-    (
+    let below : l .loop .i < length ys = rw (length-threadsOf (a .args .ts .now)) (omega arith) in (
       omega arith,
       (
         (search needs, search needs),
@@ -95,7 +94,8 @@ loop-again c =
           (
             owners-more xs ys (l .loop .i) (l .loop .owners) _ (omega (arith, l .loop .inv .1 .0 .0, n .1 .0))
                 (l .loop .inv .1 .1 .1 .0) (t .thread-ok .ensures .1 .0 held),
-            peopled-more xs ys find (a .pre .1 .1 .1 .1 .0 .0) (length-processesOf (a .args .ps .now)) (l .loop .i) below
+            peopled-more xs ys find (a .pre .1 .1 .1 .1 .0 .0) (length-processesOf (a .args .ps .now)) (l .loop .i)
+                below
                 ok (l .loop .peopled) _ (l .loop .inv .1 .0 .1 ∙ n .1 .1) (l .loop .inv .1 .1 .1 .1)
                 (t .thread-ok .ensures .1 .1 held),
           ),

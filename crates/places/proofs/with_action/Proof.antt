@@ -6,8 +6,7 @@ use Rattle.places.proofs.with_action.Tie as tie
 
 returns : tie.Need-returns
 returns c =
-    let a = c .before .before .before .before .before .before .before .before .before .args in
-    (
+    let a = c .before .before .before .before .before .before .before .before .before .args in (
       refl,
       (
         c .before .before .before .union .ensures,

@@ -16,7 +16,8 @@ returns : tie.Need-returns
 returns c =
     let a = c .before .before .before .before .before .before .before .before .before in
     let q = c .before .before in (
-      sym (and-left _ (sym (misaimed (a .args .ps .now) (a .args .ph .now) (a .args .ignored .now) (a .pre .0) (a .args .r)
+      sym (and-left _ (sym (misaimed (a .args .ps .now) (a .args .ph .now) (a .args .ignored .now) (a .pre .0) (a
+          .args .r)
           (q .place-of .result) (q .place-of .ensures) refl (c .if1 .taken)))),
       (refl, refl),
     )
@@ -53,7 +54,8 @@ returns-2 c =
 
 admit-requires : tie.Need-admit-requires
 admit-requires c κs =
-    let a = c .before .before .before .before .before .before .before .before .before .before .before .before .before .before in
+    let a = c .before .before .before .before .before .before .before .before .before .before .before .before .before
+    .before in
     let t = c .before .before .before .before .before in
     let q = t .before .before in
     let h =
@@ -63,7 +65,8 @@ admit-requires c κs =
 
 returns-3 : tie.Need-returns-3
 returns-3 c =
-    let a = c .before .before .before .before .before .before .before .before .before .before .before .before .before .before .before .before .before .before .before in
+    let a = c .before .before .before .before .before .before .before .before .before .before .before .before .before
+    .before .before .before .before .before .before in
     let d = c .before .before .before .before in
     let i = d .before .before .before .before in
     let q = i .before .before .before .before in

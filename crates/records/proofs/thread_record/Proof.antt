@@ -17,7 +17,8 @@ returns c =
     let a = c .before .before .before .before .before .before .before .before .before .before in
     let q = c .before in (
       sym (and-left _ (sym (lost (a .args .ps .now) (a .args .ts .now) (a .args .th .now) (a .args .ignored .now)
-          (a .args .owners .now) (a .pre .0) (a .args .r) (q .place-of .result) (q .place-of .ensures) (c .if1 .taken)))),
+          (a .args .owners .now) (a .pre .0) (a .args .r) (q .place-of .result) (q .place-of .ensures) (c .if1
+          .taken)))),
       (refl, refl),
     )
 
@@ -46,7 +47,8 @@ field-at-requires c κs =
 
 returns-2 : tie.Need-returns-2
 returns-2 c =
-    let a = c .before .before .before .before .before .before .before .before .before .before .before .before .before .before in
+    let a = c .before .before .before .before .before .before .before .before .before .before .before .before .before
+    .before in
     let w = c .before .before in
     let q = w .before .before .before in
     let f =
@@ -56,7 +58,8 @@ returns-2 c =
 
 mul-ignored : tie.Need-mul-t13
 mul-ignored c =
-    let a = c .before .before .before .before .before .before .before .before .before .before .before .before .before .before in
+    let a = c .before .before .before .before .before .before .before .before .before .before .before .before .before
+    .before in
     let q = c .before .before .before .before .before in
     let f =
     found (a .args .ps .now) (a .args .ts .now) (a .args .th .now) (a .args .ignored .now)
@@ -65,7 +68,8 @@ mul-ignored c =
 
 shared-slice-read-ignored : tie.Need-shared-slice-read-t16
 shared-slice-read-ignored c =
-    let a = c .before .before .before .before .before .before .before .before .before .before .before .before .before .before .before in
+    let a = c .before .before .before .before .before .before .before .before .before .before .before .before .before
+    .before .before in
     let q = c .before .before .before .before .before .before in
     let f =
     found (a .args .ps .now) (a .args .ts .now) (a .args .th .now) (a .args .ignored .now)
@@ -74,14 +78,14 @@ shared-slice-read-ignored c =
 
 returns-3 : tie.Need-returns-3
 returns-3 c =
-    let a = c .before .before .before .before .before .before .before .before .before .before .before .before .before .before .before .before .before in
+    let a = c .before .before .before .before .before .before .before .before .before .before .before .before .before
+    .before .before .before .before in
     let w = c .before .before .before .before .before in
     let q = w .before .before .before in
     let f =
     found (a .args .ps .now) (a .args .ts .now) (a .args .th .now) (a .args .ignored .now)
     (a .args .owners .now) (a .pre .0) (a .args .r) (q .place-of .result) (q .place-of .ensures) (omega arith) in
-    let k = f .delivery (w .field-at .result) (w .field-at .ensures) (c .before .before .before .if2 .left) in
-    (
+    let k = f .delivery (w .field-at .result) (w .field-at .ensures) (c .before .before .before .if2 .left) in (
       sym (and-left _ (k ∙ sym (c .before .is-delivered .ensures) ∙ not-true (c .before .is-delivered .result)
           (c .if3 .taken))),
       (refl, refl),
@@ -89,12 +93,17 @@ returns-3 c =
 
 admit-requires : tie.Need-admit-requires
 admit-requires c κs =
-    let a = c .before .before .before .before .before .before .before .before .before .before .before .before .before .before .before .before .before .before .before in
+    let a = c .before .before .before .before .before .before .before .before .before .before .before .before .before
+    .before .before .before .before .before .before in
     let t = c .before .before .before .before .before .before .before .before .before in
     let q = t .before in
     let f =
     found (a .args .ps .now) (a .args .ts .now) (a .args .th .now) (a .args .ignored .now)
-    (a .args .owners .now) (a .pre .0) (a .args .r) (q .place-of .result) (q .place-of .ensures) (omega (arith, t .if1 .left)) in
+    (a .args .owners .now) (a .pre .0) (a .args .r) (q .place-of .result) (q .place-of .ensures) (omega (
+      arith,
+      t .if1
+          .left,
+    )) in
     ((omega (arith, f .inside, a .pre .1 .0 .0), omega (arith, t .if1 .left, a .pre .1 .0 .1)), a .pre .1 .1 _)
 
 returns-4 : tie.Need-returns-4
@@ -103,10 +112,15 @@ returns-4 c =
     let i = d .before .before .before .before in
     let w = i .before .before .before .before in
     let q = w .before .before .before in
-    let a = c .before .before .before .before .before .before .before .before .before .before .before .before .before .before .before .before .before .before .before .before .before .before .before .before in
+    let a = c .before .before .before .before .before .before .before .before .before .before .before .before .before
+    .before .before .before .before .before .before .before .before .before .before .before in
     let f =
     found (a .args .ps .now) (a .args .ts .now) (a .args .th .now) (a .args .ignored .now)
-    (a .args .owners .now) (a .pre .0) (a .args .r) (q .place-of .result) (q .place-of .ensures) (omega (arith, w .before .before .if1 .left)) in
+    (a .args .owners .now) (a .pre .0) (a .args .r) (q .place-of .result) (q .place-of .ensures) (omega (
+      arith,
+      w
+          .before .before .if1 .left,
+    )) in
     let z = i .before .before .if2 .left in
     let ok =
     f .delivery (w .field-at .result) (w .field-at .ensures) z ∙ sym (i .is-delivered .ensures)
