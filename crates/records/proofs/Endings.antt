@@ -1,30 +1,31 @@
 -- How the tests of one record end, over plain variables: the proofs of the code pass what they know. Assumes nothing.
-use Prim.Native.Nat.{ℕ, _+_, _-_, _≤_, _<_}
+use Prim.Native.Nat.{ℕ, _+_, _-_, _^_, _≤_, _<_}
 use mathlib.Core.Path.{_≡_, refl, sym, ap, ap₂, _∙_}
-use mathlib.Core.Bool.{Bool, true, false, not, _&&_, _||_, cond}
+use mathlib.Core.Bool.{Bool, true, false, not, _&&_, _||_, cond, and-comm}
 use mathlib.Core.List.{List, []}
 use mathlib.Core.Option.{Option·getD}
 use native.Mathlib.Omega.{arith}
 use lib.Dec.{eqb, leb}
 use lib.ListN.{getD}
 use borrow.Author.Tests.{eqb-true, eq-eqb, ne-eqb, leb-true, leb-false, le-leb, lt-leb, not-true, not-false}
-use Rattle.limits.specs.Limits.{processPlaces, threadPlaces, recordLimit, siQueue}
+use Rattle.limits.specs.Limits.{processPlaces, threadPlaces, recordLimit, lastStandard, siQueue}
 use Rattle.limits.specs.Limits.{processId as wordOfId}
 use Rattle.lists.specs.Lists.{any, first, find}
-use Rattle.lists.proofs.Bools.{same-test, or-cases, or-fst-false, or-snd-false, and-snd, and-imp}
+use Rattle.lists.proofs.Bools.{split, clash, and-left, same-test, or-cases, or-fst-false, or-snd-false, and-snd, and-imp}
 use Rattle.lists.proofs.Loops.{find-le, find-at}
 use Rattle.lists.proofs.Finds.{found-any, absent-any, any-inside}
-use Rattle.sigset.specs.Set.{bits, has}
-use Rattle.sigset.proofs.Laws.{has-set}
+use Rattle.sigset.specs.declared.SigSet.{SigSet}
+use Rattle.sigset.specs.Set.{Signal, bits, has, sumOf, setOf, intersect}
+use Rattle.sigset.proofs.Laws.{has-set, has-beyond, has-intersect, intersect-lt}
 use Rattle.types.specs.declared.Siginfo.{Siginfo}
 use Rattle.rules.specs.Types.{Process, Thread, noProcess, noThread}
-use Rattle.rules.specs.Signals.{standard, ignored}
+use Rattle.rules.specs.Signals.{isSignal, standard, ignored}
 use Rattle.rules.specs.View.{isProcess, isThread, actionOf, liveProcess, liveThread, theProcess, theThread}
 use Rattle.rules.specs.Store.{view, freeProcess, freeThread}
 use Rattle.rules.specs.Sound.{nameable, namesLive, aimedAtThread, aimedAtProcess, recordNotIgnored}
 use Rattle.rules.proofs.Ids.{named-live}
 use Rattle.rules.proofs.Marks.{first-held}
-use Rattle.rules.proofs.Signals.{nameable-signal}
+use Rattle.rules.proofs.Signals.{is-signal, signal-is, standard-is, nameable-signal}
 use Rattle.tables.specs.Tables.{processesOf, threadsOf, heldProcesses, heldThreads, processAt, threadAt, headTo}
 use Rattle.tables.proofs.Words.{length-heldProcesses, length-heldThreads}
 use Rattle.tables.proofs.Places.{held-at}
@@ -35,14 +36,30 @@ use Rattle.places.specs.Notes.{ProcessesNoted, ThreadsNoted}
 
 -- ---- one signal against the set of its queue
 
-module _ (seen : List ℕ) (q s : ℕ) {a b : Bool} (ea : a ≡ standard s) (eb : b ≡ has (bits (getD seen q 0)) s) where
-  pub stale : (a && b) ≡ true → false ≡ isFresh seen q s
-  unfolding isFresh
-  stale e = sym (ap not (sym (ap₂ (λ x y. x && y) ea eb) ∙ e))
+-- of a set only the standard signals
+standard-set : setOf standard ≡ bits (2 ^ lastStandard - 1)
+unfolding setOf sumOf standard
+standard-set = refl
 
-  pub fresh : (a && b) ≡ false → true ≡ isFresh seen q s
-  unfolding isFresh
-  fresh e = sym (ap not (sym (ap₂ (λ x y. x && y) ea eb) ∙ e))
+standard-only : (a : SigSet) (s : ℕ) → has (intersect a (bits (2 ^ lastStandard - 1))) s ≡ (standard s && has a s)
+standard-only a s =
+    split (isSignal s)
+    (λ e.
+    let g = is-signal s e in
+    has-intersect a (bits (2 ^ lastStandard - 1)) s g
+    ∙ ap (λ (b : SigSet). has a s && has b s) (sym standard-set)
+    ∙ ap (λ b. has a s && b) (has-set standard s g)
+    ∙ and-comm (has a s) (standard s))
+    (λ e.
+    let none : Signal s → ⊥ = λ g. clash (signal-is s g) e in
+    has-beyond (intersect a (bits (2 ^ lastStandard - 1))) s (intersect-lt a (bits (2 ^ lastStandard - 1))) none
+    ∙ sym (and-left (has a s) (split (standard s) (λ t. clash (standard-is s t) e) (λ t. t))))
+
+pub fresh-by : (seen : List ℕ) (q s : ℕ) {hit : Bool}
+    → hit ≡ has (intersect (bits (getD seen q 0)) (bits (2 ^ lastStandard - 1))) s
+    → not hit ≡ isFresh seen q s
+unfolding isFresh
+fresh-by seen q s e = ap not (e ∙ standard-only (bits (getD seen q 0)) s)
 
 -- ---- two counts against the limit, without adding them up
 

@@ -14,6 +14,7 @@ ghost use Rattle.soundness.specs.Check.{tallies, seenSets, ownQueue, isFresh, i
 ghost use Rattle.soundness.specs.Check.{smallCounts, processPlace, threadPlace, threadRecordOk, processRecordOk};
 ghost use Rattle.soundness.specs.Check.{threadRecordsOk, processRecordsOk, withinAt, allWithin, recordsOk};
 ghost use Rattle.places.specs.Notes.{ProcessesNoted, ThreadsNoted};
+use limits::LAST_STANDARD;
 use limits::PROCESS_ID;
 use limits::PROCESS_MARKS;
 use limits::PROCESS_PLACES;
@@ -41,6 +42,9 @@ fn is_delivered(ignores: SigSet, r: Siginfo) -> bool
     (r.code == SI_QUEUE) & !hit
 }
 
+// The standard signals, which are pending at most once.
+const STANDARD: SigSet = SigSet((1 << LAST_STANDARD) - 1);
+
 // The record is counted and noted, unless its signal may be pending only once and is so already.
 fn admit(s: u32, counts: &mut [usize], place: usize, seen: &mut [u64], queue: usize) -> bool
     requires { ⌜ (place < length (now counts)) × (queue < length (now seen)) ⌝ }
@@ -50,7 +54,8 @@ fn admit(s: u32, counts: &mut [usize], place: usize, seen: &mut [u64], queue: us
     ensures { λ h. ⌜ now (seen .exit) ≡ cond h (noted (now (seen .entry)) queue s) (now (seen .entry)) ⌝ }
 {
     let before = SigSet(seen[queue]);
-    if decide::is_standard(s) & SigSet::has(before, s) {
+    let once = SigSet::intersect(before, STANDARD);
+    if SigSet::has(once, s) {
         return false;
     }
     counts[place] = counts[place] + 1;
