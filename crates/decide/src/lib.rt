@@ -1,7 +1,10 @@
 // Tests on single values: what a signal, an action, a set or an id is.
 ghost use mathlib.Core.Path.{_≡_};
+ghost use lib.Bits.{bitAnd};
+ghost use lib.Dec.{eqb};
+ghost use Rattle.limits.specs.Limits.{knownFlags};
 ghost use Rattle.rules.specs.Signals.{isSignal, standard, ignoring, ignored};
-ghost use Rattle.rules.specs.Sound.{goodId, goodUser, isDefault, unmasked, flagsKnown, nameable};
+ghost use Rattle.rules.specs.Sound.{goodId, goodUser, isDefault, unmasked, nameable};
 use limits::KNOWN_FLAGS;
 use limits::LARGEST_ID;
 use limits::LARGEST_USER;
@@ -61,10 +64,10 @@ pub fn is_default(a: Action) -> bool
     (a.handler == 0) & ((a.flags == 0) & (mask.0 == 0))
 }
 
-pub fn are_flags_known(a: Action) -> bool
-    ensures { λ r. ⌜ r ≡ flagsKnown a ⌝ }
+// Has the word no flag but the known ones?
+pub fn are_flags_known(flags: u64) -> bool
+    ensures { λ r. ⌜ r ≡ eqb (bitAnd flags knownFlags) flags ⌝ }
 {
-    let flags = a.flags;
     flags & KNOWN_FLAGS == flags
 }
 

@@ -19,7 +19,6 @@ ghost use Rattle.soundness.specs.Check.{disjoint, onePlace};
 ghost use Rattle.places.specs.Notes.{Gathers, IgnoredNoted, OwnersNoted, PeopledNoted};
 ghost use Rattle.soundness.specs.Check.{ownerPlace};
 ghost use Rattle.places.specs.Notes.{notedAt, peopledBy};
-use limits::KNOWN_FLAGS;
 use limits::PROCESS_EFFECTIVE;
 use limits::PROCESS_ID;
 use limits::PROCESS_MARKS;
@@ -160,7 +159,7 @@ fn live_process_ok(ps: &[u64], hints: &[u16], place: usize, g: Gathered, ignores
     let marks = SigSet(tables::field_at(ps, place, PROCESS_MARKS));
     let found = hints::place_of(ps, PROCESS_WORDS, PROCESS_PLACES, hints, id) == place;
     let unmaskable = kill_stop_default(ps, place);
-    let actions = decide::is_unmasked(masks) & (flags & KNOWN_FLAGS == flags);
+    let actions = decide::is_unmasked(masks) & decide::are_flags_known(flags);
     let delivered = are_disjoint(marks, ignores);
     head_ok(ps, place) & (found & (unmaskable & (actions & delivered)))
 }
