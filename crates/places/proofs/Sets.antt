@@ -1,6 +1,6 @@
 -- What is gathered of the actions of a process, as sets, and the marks held against it. Assumes nothing.
-use Prim.Native.Nat.{ℕ, _+_, _-_, _≤_, _<_}
-use mathlib.Core.Path.{_≡_, refl, sym, ap, ap₂, subst, _∙_}
+use Prim.Native.Nat.{ℕ, _+_, _-_, _<_}
+use mathlib.Core.Path.{_≡_, refl, sym, ap, ap₂, _∙_}
 use mathlib.Core.Bool.{Bool, true, false, not, _&&_, _||_, cond, and-false, or-false, or-assoc}
 use native.Mathlib.Omega.{arith}
 use lib.Bits.{bitAnd, bitOr}
@@ -85,52 +85,37 @@ module _ (p : Process) where
 
   pub gathers-more : (n : ℕ) (g h : Gathered) (a : Action) → n < length (p .actions) → a ≡ actionOf p (n + 1)
       → Gathers p n g
-      → h .flags ≡ bitOr (g .flags) (a .flags) → h .masks ≡ union (g .masks) (a .mask)
-      → h .chosen ≡ union (g .chosen) (cond (ignoredByChoice p (n + 1)) (ofSignal (n + 1)) empty)
+      → (h .flags ≡ bitOr (g .flags) (a .flags)) × ((h .masks ≡ union (g .masks) (a .mask))
+      × (h .chosen ≡ union (g .chosen) (cond (eqb (a .handler) sigIgn) (ofSignal (n + 1)) empty)))
       → Gathers p (n + 1) h
   unfolding actionOf flagsKnown actionUnmasked
-  gathers-more n g h a l e k ef em ec =
+  gathers-more n g h a l e k w =
       let m : n + 1 - 1 ≡ n = omega arith in
       let at : a ≡ getD (p .actions) n defaultAction = e ∙ ap (λ (i : ℕ). getD (p .actions) i defaultAction) m in
+      let one : Bool → SigSet = λ b. cond b (ofSignal (n + 1)) empty in
+      let next : SigSet = one (ignoredByChoice p (n + 1)) in
       record {
         known =
-            ap (λ (x : ℕ). eqb (bitAnd x knownFlags) x) ef
+            ap (λ (x : ℕ). eqb (bitAnd x knownFlags) x) (w .0)
             ∙ known-or (g .flags) (a .flags) knownFlags
             ∙ ap₂ (λ (x y : Bool). x && y) (k .known) (ap flagsKnown at)
             ∙ sym (all-next flagsKnown defaultAction (p .actions) n l);
         maskable =
-            ap unmasked em
+            ap unmasked (w .1 .0)
             ∙ unmasked-union (g .masks) (a .mask)
             ∙ ap₂ (λ (x y : Bool). x && y) (k .maskable) (ap actionUnmasked at)
             ∙ sym (all-next actionUnmasked defaultAction (p .actions) n l);
         chosen =
-            ec
-            ∙ is-set (union (g .chosen) (cond (ignoredByChoice p (n + 1)) (ofSignal (n + 1)) empty))
-            (λ s. leb s (n + 1) && ignoredByChoice p s)
-            (union-lt (g .chosen) (cond (ignoredByChoice p (n + 1)) (ofSignal (n + 1)) empty))
+            w .1 .1
+            ∙ ap (λ (x : Action). union (g .chosen) (one (eqb (x .handler) sigIgn))) e
+            ∙ is-set (union (g .chosen) next) (λ s. leb s (n + 1) && ignoredByChoice p s) (union-lt (g .chosen) next)
             (λ s i.
-            has-union (g .chosen) (cond (ignoredByChoice p (n + 1)) (ofSignal (n + 1)) empty) s i
+            has-union (g .chosen) next s i
             ∙ ap₂ (λ (x y : Bool). x || y)
             (ap (λ (x : SigSet). has x s) (k .chosen) ∙ has-set (λ s. leb s n && ignoredByChoice p s) s i)
             (alone (ignoredByChoice p (n + 1)) (n + 1) s i)
             ∙ up-to-next (ignoredByChoice p) n s);
       }
-
-  -- the same by the signal
-  pub gathers-next : (s : ℕ) (g h : Gathered) (a : Action) → 1 ≤ s → s ≤ length (p .actions) → a ≡ actionOf p s
-      → Gathers p (s - 1) g
-      → (h .flags ≡ bitOr (g .flags) (a .flags)) × ((h .masks ≡ union (g .masks) (a .mask))
-      × (h .chosen ≡ union (g .chosen) (cond (eqb (a .handler) sigIgn) (ofSignal s) empty)))
-      → Gathers p (s + 1 - 1) h
-  gathers-next s g h a low high e k w =
-      let n : s - 1 + 1 ≡ s = omega arith in
-      let m : s - 1 + 1 ≡ s + 1 - 1 = omega arith in
-      let f : ℕ → SigSet = λ i. union (g .chosen) (cond (ignoredByChoice p i) (ofSignal i) empty) in
-      subst (λ (i : ℕ). Gathers p i h) m
-      (gathers-more (s - 1) g h a (omega arith) (e ∙ ap (actionOf p) (sym n)) k (w .0) (w .1 .0)
-      (w .1 .1
-      ∙ ap (λ (x : Action). union (g .chosen) (cond (eqb (x .handler) sigIgn) (ofSignal s) empty)) e
-      ∙ ap f (sym n)))
 
   -- what is gathered of all
   module _ (long : length (p .actions) ≡ signals) (g : Gathered) (k : Gathers p signals g) where

@@ -22,6 +22,10 @@ use Rattle.places.specs.declared.Gathered.{Gathered}
 abbrev pub ignoredByChoice : Process → ℕ → Bool
 ignoredByChoice p s = eqb (actionOf p s .handler) sigIgn
 
+-- how many actions are gathered at once
+abbrev pub block : ℕ
+block = 8
+
 -- what a pass over the first n actions gathers: their flags and masks put together, and the signals set to ignore
 pub record Gathers (p : Process) (n : ℕ) (g : Gathered) : Type 0 where
   pub known : eqb (bitAnd (g .flags) knownFlags) (g .flags) ≡ all flagsKnown (take n (p .actions))

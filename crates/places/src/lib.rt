@@ -2,7 +2,7 @@
 // In passing it is noted which signals each process ignores, and in which place the process of each thread is.
 ghost use mathlib.Core.Path.{_≡_};
 ghost use mathlib.Core.Bool.{true, cond};
-ghost use Prim.Native.Nat.{_≤_, _<_};
+ghost use Prim.Native.Nat.{_+_, _≤_, _<_};
 ghost use lib.Bits.{bitOr};
 ghost use lib.Dec.{eqb};
 ghost use lib.ListN.{length};
@@ -14,7 +14,7 @@ ghost use Rattle.rules.specs.Sound.{killStopDefault, zeroThread, processId, thr
 ghost use Rattle.tables.specs.Tables.{processesOf, threadsOf, heldProcesses, processAt, threadAt};
 ghost use Rattle.soundness.specs.Check.{headOk, liveProcessOk, processOkAt, processesOk, liveThreadOk, threadOkAt};
 ghost use Rattle.soundness.specs.Check.{threadsOk, placesOk, processBy, threadBy, ignoredBy};
-ghost use Rattle.places.specs.Notes.{ignoredByChoice};
+ghost use Rattle.places.specs.Notes.{block, ignoredByChoice};
 ghost use Rattle.soundness.specs.Check.{disjoint, onePlace};
 ghost use Rattle.places.specs.Notes.{Gathers, IgnoredNoted, OwnersNoted, PeopledNoted};
 ghost use Rattle.soundness.specs.Check.{ownerPlace};
@@ -51,6 +51,9 @@ pub struct Gathered {
     pub masks: SigSet,
     pub chosen: SigSet,
 }
+
+// How many actions are gathered at once. It divides SIGNALS.
+const BLOCK: u32 = 8;
 
 // ---- one process place
 
@@ -105,6 +108,22 @@ fn with_action(g: Gathered, a: Action, s: u32) -> Gathered
     }
 }
 
+// The next actions of a process, after those that are done: so few that the compiler writes them out.
+fn gather_block(ps: &[u64], place: usize, g: Gathered, done: u32) -> Gathered
+    requires { ⌜ (length (now ps) ≡ processTable) × (place < processPlaces) ⌝ }
+    requires { ⌜ (done + block ≤ signals) × Gathers (processAt (now ps) place .holds) done g ⌝ }
+    ensures { λ r. ⌜ Gathers (processAt (now (ps .entry)) place .holds) (done + block) r ⌝ }
+{
+    let mut h = g;
+    let mut i: u32 = 0;
+    while i < BLOCK {
+        let s = done + i + 1;
+        h = with_action(h, tables::action_at(ps, place, s), s);
+        i += 1;
+    }
+    h
+}
+
 // The one pass over the actions of a process.
 fn gather(ps: &[u64], place: usize) -> Gathered
     requires { ⌜ (length (now ps) ≡ processTable) × (place < processPlaces) ⌝ }
@@ -115,10 +134,10 @@ fn gather(ps: &[u64], place: usize) -> Gathered
         masks: SigSet::EMPTY,
         chosen: SigSet::EMPTY,
     };
-    let mut s: u32 = 1;
-    while s <= SIGNALS {
-        g = with_action(g, tables::action_at(ps, place, s), s);
-        s += 1;
+    let mut n: u32 = 0;
+    while n < SIGNALS / BLOCK {
+        g = gather_block(ps, place, g, n * BLOCK);
+        n += 1;
     }
     g
 }
