@@ -1,21 +1,20 @@
 -- How the test of a thread place ends, over plain variables: by the place of its process. Assumes nothing.
 use Prim.Native.Nat.{ℕ, _≤_, _<_}
-use mathlib.Core.Path.{_≡_, refl, sym, ap, ap₂, _∙_}
+use mathlib.Core.Path.{_≡_, refl, sym, ap, _∙_}
 use mathlib.Core.Bool.{Bool, true, false, not, _&&_}
 use mathlib.Core.List.{List}
 use native.Mathlib.Omega.{arith}
 use lib.Dec.{eqb}
-use lib.ListN.{length, getD, set}
+use lib.ListN.{getD, set}
 use borrow.Author.Tests.{eq-eqb, ne-eqb}
 use Rattle.limits.specs.Limits.{processPlaces, threadProcess}
 use Rattle.limits.specs.Limits.{threadId as wordOfId}
 use Rattle.lists.specs.Lists.{any}
 use Rattle.lists.specs.Lists.{find as search}
-use Rattle.lists.proofs.Bools.{clash, and-fst, and-left, cond-true, cond-false}
-use Rattle.lists.proofs.Loops.{find-le, find-at}
+use Rattle.lists.proofs.Bools.{clash, and-left, cond-true, cond-false}
+use Rattle.lists.proofs.Loops.{find-le}
 use Rattle.lists.proofs.Finds.{found-any, absent-any}
 use Rattle.hints.specs.Hints.{Hinted}
-use Rattle.sigset.specs.declared.SigSet.{SigSet}
 use Rattle.sigset.specs.Set.{bits}
 use Rattle.rules.specs.Types.{Process, noProcess}
 use Rattle.rules.specs.View.{isProcess}
@@ -23,11 +22,11 @@ use Rattle.rules.specs.Store.{freeProcess}
 use Rattle.rules.specs.Sound.{threadId, zeroThread}
 use Rattle.rules.proofs.Ids.{named-live}
 use Rattle.tables.specs.Tables.{processesOf, threadsOf, heldProcesses, processAt, threadAt, threadTo}
-use Rattle.tables.proofs.Words.{length-heldProcesses}
+use Rattle.tables.proofs.Words.{length-processesOf, length-heldProcesses}
 use Rattle.tables.proofs.Places.{held-at}
 use Rattle.soundness.specs.Check.{onePlace, processBy, ignoredBy, ownerPlace, ownerOf, liveThreadOk, threadOk}
 use Rattle.soundness.specs.Check.{threadOkAt}
-use Rattle.soundness.proofs.Ids.{process-found}
+use Rattle.soundness.proofs.Ids.{process-found, held-found}
 use Rattle.places.specs.Notes.{IgnoredNoted, notedAt}
 
 -- what the test leaves: its answer, and where it holds the notes of the place's owner
@@ -97,12 +96,8 @@ module _ (find : ℕ → ℕ) (ws vs : List ℕ) (place w : ℕ) (owners peopled
       owner-live : not (eqb (processAt ws owner .holds .id) 0) ≡ true
       unfolding isProcess
       owner-live =
-          let long = length-heldProcesses ws in
-          let here : mine (processAt ws owner .holds) ≡ true =
-          ap mine (sym (held-at (processesOf ws) owner freeProcess)
-          ∙ ap (λ k. getD (heldProcesses ws) k noProcess) at-place)
-          ∙ find-at mine noProcess (heldProcesses ws) (omega (arith, at-place)) in
-          ap not (named-live (threadAt vs place .holds .process) (processAt ws owner .holds .id) here)
+          ap not (named-live (threadAt vs place .holds .process) (processAt ws owner .holds .id)
+          (held-found mine freeProcess (processesOf ws) owner at-place (rw (length-processesOf ws) inside)))
 
       its-owner : ownerOf (heldProcesses ws) (threadAt vs place) ≡ processAt ws owner .holds
       unfolding ownerOf

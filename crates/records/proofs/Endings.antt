@@ -1,6 +1,6 @@
 -- How the tests of one record end, over plain variables: the proofs of the code pass what they know. Assumes nothing.
 use Prim.Native.Nat.{ℕ, _+_, _-_, _^_, _≤_, _<_}
-use mathlib.Core.Path.{_≡_, refl, sym, ap, ap₂, _∙_}
+use mathlib.Core.Path.{_≡_, refl, sym, ap, _∙_}
 use mathlib.Core.Bool.{Bool, true, false, not, _&&_, _||_, cond, and-comm}
 use mathlib.Core.List.{List, []}
 use mathlib.Core.Option.{Option·getD}
@@ -12,7 +12,7 @@ use Rattle.limits.specs.Limits.{processPlaces, threadPlaces, recordLimit, lastS
 use Rattle.limits.specs.Limits.{processId as wordOfId}
 use Rattle.lists.specs.Lists.{any, first, find}
 use Rattle.lists.proofs.Bools.{split, clash, and-left, same-test, or-cases, or-fst-false, or-snd-false, and-snd, and-imp}
-use Rattle.lists.proofs.Loops.{find-le, find-at}
+use Rattle.lists.proofs.Loops.{find-le}
 use Rattle.lists.proofs.Finds.{found-any, absent-any, any-inside}
 use Rattle.sigset.specs.declared.SigSet.{SigSet}
 use Rattle.sigset.specs.Set.{Signal, bits, has, sumOf, setOf, intersect}
@@ -27,11 +27,10 @@ use Rattle.rules.proofs.Ids.{named-live}
 use Rattle.rules.proofs.Marks.{first-held}
 use Rattle.rules.proofs.Signals.{is-signal, signal-is, standard-is, nameable-signal}
 use Rattle.tables.specs.Tables.{processesOf, threadsOf, heldProcesses, heldThreads, processAt, threadAt, headTo}
-use Rattle.tables.proofs.Words.{length-heldProcesses, length-heldThreads}
-use Rattle.tables.proofs.Places.{held-at}
+use Rattle.tables.proofs.Words.{length-processesOf, length-threadsOf, length-heldProcesses, length-heldThreads}
 use Rattle.soundness.specs.Check.{isDelivered, isFresh, withinAt, bumped, noted, placesView, processPlace, threadPlace}
 use Rattle.soundness.specs.Check.{threadRecordOk, processRecordOk, ignoredBy, ownerPlace, processBy, threadBy}
-use Rattle.soundness.proofs.Ids.{process-found, thread-found}
+use Rattle.soundness.proofs.Ids.{process-found, thread-found, held-found}
 use Rattle.places.specs.Notes.{ProcessesNoted, ThreadsNoted}
 
 -- ---- one signal against the set of its queue
@@ -131,12 +130,8 @@ module _ (ws : List ℕ) (r : Siginfo) (place : ℕ) (at : place ≡ find (isPro
     live-place : not (eqb (processAt ws place .holds .id) 0) ≡ true
     unfolding isProcess
     live-place =
-        let long = length-heldProcesses ws in
-        let mine : isProcess (r .process) (processAt ws place .holds) ≡ true =
-        ap (isProcess (r .process))
-        (sym (held-at (processesOf ws) place freeProcess) ∙ ap (λ k. getD (heldProcesses ws) k noProcess) at)
-        ∙ find-at (isProcess (r .process)) noProcess (heldProcesses ws) (omega (arith, at)) in
-        ap not (named-live (r .process) (processAt ws place .holds .id) mine)
+        ap not (named-live (r .process) (processAt ws place .holds .id)
+        (held-found (isProcess (r .process)) freeProcess (processesOf ws) place at (rw (length-processesOf ws) h)))
 
 -- ---- a record of the process buffer
 
@@ -212,12 +207,8 @@ module _ (ws vs th ignored owners : List ℕ) (n : ThreadsNoted ws vs th ignored
     live-thread : not (eqb (itsThread .id) 0) ≡ true
     unfolding isThread
     live-thread =
-        let long = length-heldThreads vs in
-        let mine : isThread (r .thread) itsThread ≡ true =
-        ap (isThread (r .thread))
-        (sym (held-at (threadsOf vs) queue freeThread) ∙ ap (λ k. getD (heldThreads vs) k noThread) at-thread)
-        ∙ find-at (isThread (r .thread)) noThread (heldThreads vs) (omega (arith, at-thread)) in
-        ap not (named-live (r .thread) (itsThread .id) mine)
+        ap not (named-live (r .thread) (itsThread .id)
+        (held-found (isThread (r .thread)) freeThread (threadsOf vs) queue at-thread (rw (length-threadsOf vs) h)))
 
     -- the place of its process
     abbrev place : ℕ
@@ -237,13 +228,9 @@ module _ (ws vs th ignored owners : List ℕ) (n : ThreadsNoted ws vs th ignored
     unfolding isProcess
     owner-id =
         let p : ℕ = itsThread .process in
-        let long = length-heldProcesses ws in
-        let inside = owner-inside in
         eqb-true (processAt ws place .holds .id) p
         (and-snd (not (eqb p 0)) (eqb (processAt ws place .holds .id) p)
-        (ap (isProcess p)
-        (sym (held-at (processesOf ws) place freeProcess) ∙ ap (λ k. getD (heldProcesses ws) k noProcess) at-owner)
-        ∙ find-at (isProcess p) noProcess (heldProcesses ws) (omega (arith, at-owner))))
+        (held-found (isProcess p) freeProcess (processesOf ws) place at-owner (rw (length-processesOf ws) owner-inside)))
 
     module _ (w : ℕ) (ew : w ≡ getD (headTo (processAt ws place)) wordOfId 0) where
       its-owner : itsThread .process ≡ w

@@ -1,13 +1,15 @@
 -- An id is found by hint as by a search, where no two places of its table have it. Assumes nothing.
-use Prim.Native.Nat.{ℕ, _≤_}
+use Prim.Native.Nat.{ℕ, _≤_, _<_}
 use mathlib.Core.Path.{_≡_, refl, sym, ap, _∙_}
+use mathlib.Core.Bool.{Bool, true}
 use mathlib.Core.List.{List, map}
 use native.Mathlib.Omega.{arith}
-use lib.ListN.{length, length-map}
+use lib.ListN.{length, getD, length-map}
 use lib.Seq.{getD-take}
 use Rattle.limits.specs.Limits.{processPlaces, processWords, threadPlaces, threadWords, headWords}
 use Rattle.lists.specs.Lists.{count, find}
 use Rattle.lists.proofs.Lists.{count-map}
+use Rattle.lists.proofs.Loops.{find-at}
 use Rattle.lists.proofs.Finds.{find-map}
 use Rattle.lists.proofs.Rows.{rows-map}
 use Rattle.hints.specs.Hints.{Hinted, idsOf, firstWord, isId, seek}
@@ -17,6 +19,7 @@ use Rattle.rules.specs.View.{isProcess, isThread}
 use Rattle.rules.specs.Store.{Place, held}
 use Rattle.tables.specs.Tables.{processesOf, threadsOf, heldProcesses, heldThreads, processFrom, threadFrom, headed}
 use Rattle.tables.proofs.Words.{length-processesOf, length-threadsOf}
+use Rattle.tables.proofs.Places.{held-at}
 use Rattle.soundness.specs.Check.{processBy, threadBy}
 
 module _ {A : Type 0} (id : A → ℕ) (xs : List (Place A)) where
@@ -57,3 +60,11 @@ module _ (hints ws : List ℕ) (n : ℕ) where
   thread-found h c =
       ap (λ l. seek hints l n) thread-ids
       ∙ by-hint (λ (t : Thread). t .id) (threadsOf ws) hints n (rw (length-threadsOf ws) h) c
+
+-- what a search among the places finds passes the test
+pub held-found : {A : Type 0} (p : A → Bool) (d : Place A) (xs : List (Place A)) (i : ℕ) → i ≡ find p (map held xs)
+    → i < length xs
+    → p (getD xs i d .holds) ≡ true
+held-found p d xs i e h =
+    ap p (sym (held-at xs i d) ∙ ap (λ k. getD (map held xs) k (d .holds)) e)
+    ∙ find-at p (d .holds) (map held xs) (omega (arith, e, length-map xs held))

@@ -1,11 +1,11 @@
-use mathlib.Core.Path.{_≡_, refl, sym, ap, ap₂, _∙_}
-use mathlib.Core.Bool.{true, _&&_}
+use mathlib.Core.Path.{refl, sym, ap₂, _∙_}
+use mathlib.Core.Bool.{_&&_}
 use borrow.Author.Needs.{needs}
 use borrow.Author.Tests.{not-true, not-false}
 use Rattle.lists.proofs.Bools.{clash, and-left, and-right}
 use Rattle.tables.specs.Tables.{processesOf, threadsOf}
 use Rattle.tables.proofs.Words.{length-processesOf, length-threadsOf}
-use Rattle.soundness.specs.Check.{processBy, threadBy, processesOk, threadsOk, peopled, placesOk}
+use Rattle.soundness.specs.Check.{processBy, processesOk, peopled, placesOk}
 use Rattle.soundness.proofs.Regrouped.{processes-one}
 use Rattle.places.proofs.Notes.{peopled-none, peopled-all}
 use Rattle.places.proofs.places_ok.Statement.{statement}
