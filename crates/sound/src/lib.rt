@@ -2,7 +2,7 @@
 ghost use mathlib.Core.Path.{_≡_};
 ghost use mathlib.Core.Bool.{true};
 ghost use lib.ListN.{length};
-ghost use Rattle.limits.specs.Limits.{processTable, threadTable, bufferBytes};
+ghost use Rattle.limits.specs.Limits.{processTable, threadTable};
 ghost use Rattle.queue.specs.Queue.{isLaid};
 ghost use Rattle.sound.specs.Lent.{soundTables, before};
 use hints::HINT_SLOTS;
