@@ -12,7 +12,7 @@ use borrow.Author.Tests.{eq-eqb, ne-eqb, eqb-true, eqb-false}
 use Rattle.lists.specs.Lists.{find}
 use Rattle.lists.proofs.Bools.{split}
 use Rattle.lists.proofs.Rows.{length-rows, getD-rows, getD-row}
-use Rattle.hints.specs.Hints.{hintSlots, firstSlot, secondSlot, firstWord, idsOf, isId, Hinted, seek, slotFor}
+use Rattle.hints.specs.Hints.{hintSlots, firstSlot, secondSlot, firstWord, idsOf, isId, Hinted, seek, noted}
 use Rattle.hints.proofs.Laws.{first-below, second-below, none-zero, seek-first, seek-second, seek-last}
 use Rattle.hints.proofs.Laws.{seek-absent}
 
@@ -41,30 +41,49 @@ module _ (width places : ℕ) (ws : List ℕ) where
 
 -- ---- its hints
 
--- the slot for an id as code finds it
-module _ (hints : List ℕ) (id first : ℕ) (e : first ≡ firstSlot id) where
-  pub slot-first : getD hints first 0 ≡ 0 → first ≡ slotFor hints id
-  unfolding slotFor
-  slot-first z = rw (e, eq-eqb (getD hints (firstSlot id) 0) 0 (rw e at z))
+module _ (places : ℕ) (hints : List ℕ) (long : length hints ≡ hintSlots) (all : Hinted places hints) (place : ℕ)
+    (p : place < places) where
+  set-hinted : (at : ℕ) → Hinted places (set hints at place)
+  set-hinted at slot h =
+      split (eqb slot at)
+      (λ e. let z = eqb-true slot at e in rw (z, getD-set-same hints at place 0 (omega arith)) p)
+      (λ e. rw (getD-set-other hints at slot place 0 (eqb-false slot at e)) (all slot h))
 
-  pub slot-second : (second : ℕ) → second ≡ secondSlot id → (getD hints first 0 ≡ 0 → ⊥) → second ≡ slotFor hints id
-  unfolding slotFor
-  slot-second second g z = rw (g, ne-eqb (getD hints (firstSlot id) 0) 0 (rw e at z))
+  pub noted-hinted : (id : ℕ) → Hinted places (noted hints id place)
+  unfolding noted
+  noted-hinted id =
+      split (eqb (getD hints (firstSlot id) 0) 0)
+      (λ e. rw e (set-hinted (firstSlot id)))
+      (λ e. rw e (set-hinted (secondSlot id)))
+
+pub length-noted : (hints : List ℕ) (id place : ℕ) → length (noted hints id place) ≡ length hints
+unfolding noted
+length-noted hints id place =
+    split (eqb (getD hints (firstSlot id) 0) 0)
+    (λ e. rw (e, length-set))
+    (λ e. rw (e, length-set))
+
+-- noted as code does it
+module _ (hints : List ℕ) (id place slot : ℕ) where
+  pub noted-first : slot ≡ firstSlot id → getD hints slot 0 ≡ 0 → set hints slot place ≡ noted hints id place
+  unfolding noted
+  noted-first e f = rw (e, eq-eqb (getD hints (firstSlot id) 0) 0 (rw e at f))
+
+  pub noted-second : (other : ℕ) → slot ≡ firstSlot id → other ≡ secondSlot id → (getD hints slot 0 ≡ 0 → ⊥)
+      → set hints other place ≡ noted hints id place
+  unfolding noted
+  noted-second other e g f = rw (g, ne-eqb (getD hints (firstSlot id) 0) 0 (rw e at f))
 
 -- ---- hints while they are filled
 
 abbrev pub Filling : ℕ → List ℕ → Type 0
 Filling places hints = (length hints ≡ hintSlots) × Hinted places hints
 
-pub filling-set : (places : ℕ) (hints : List ℕ) (at place : ℕ) → Filling places hints → place < places
-    → Filling places (set hints at place)
-filling-set places hints at place f p = (
-  simp length-set (f .0),
-  λ slot h.
-      split (eqb slot at)
-      (λ e. let z = eqb-true slot at e in rw (z, getD-set-same hints at place 0 (omega arith)) p)
-      (λ e. rw (getD-set-other hints at slot place 0 (eqb-false slot at e)) (f .1 slot h)),
-)
+pub filling-noted : (places : ℕ) (hints now : List ℕ) (id place : ℕ) → Filling places hints → place < places
+    → now ≡ noted hints id place
+    → Filling places now
+filling-noted places hints now id place f p e =
+    rw e (length-noted hints id place ∙ f .0, noted-hinted places hints (f .0) (f .1) place p id)
 
 -- ---- a look-up as code makes it
 

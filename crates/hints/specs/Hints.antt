@@ -40,6 +40,7 @@ seek hints ids id =
     cond (isId id (getD ids (getD hints (firstSlot id) 0) 0)) (getD hints (firstSlot id) 0)
     (cond (isId id (getD ids (getD hints (secondSlot id) 0) 0)) (getD hints (secondSlot id) 0) (find (isId id) ids))
 
--- where a place is noted for an id: in the first slot where that is unused
-unfoldable pub slotFor : List ℕ → ℕ → ℕ
-slotFor hints id = cond (eqb (getD hints (firstSlot id) 0) 0) (firstSlot id) (secondSlot id)
+-- a place noted for an id, in the first slot where that is unused
+unfoldable pub noted : List ℕ → (id place : ℕ) → List ℕ
+noted hints id place =
+    cond (eqb (getD hints (firstSlot id) 0) 0) (set hints (firstSlot id) place) (set hints (secondSlot id) place)

@@ -5,7 +5,7 @@ ghost use mathlib.Core.Path.{_≡_};
 ghost use Prim.Native.Nat.{_*_, _≤_, _<_};
 ghost use lib.ListN.{length};
 ghost use Rattle.lists.specs.Lists.{find};
-ghost use Rattle.hints.specs.Hints.{hintSlots, firstSlot, secondSlot, idsOf, isId, Hinted, seek, slotFor};
+ghost use Rattle.hints.specs.Hints.{hintSlots, firstSlot, secondSlot, idsOf, isId, Hinted, seek, noted};
 use limits::THREAD_PLACES;
 
 // Slots enough that few ids of a full table share one.
@@ -26,21 +26,19 @@ fn second_slot(id: u64) -> usize
 
 // ---- filled
 
-// The first slot where that is unused, else the second: chosen as a value, not by a branch.
-fn slot_for(hints: &[u16], id: u64) -> usize
+fn note(hints: &mut [u16], id: u64, place: u16)
     requires { ⌜ length (now hints) ≡ hintSlots ⌝ }
-    ensures { λ r. ⌜ (r ≡ slotFor (now (hints .entry)) id) × (r < hintSlots) ⌝ }
+    ensures { λ _. ⌜ now (hints .exit) ≡ noted (now (hints .entry)) id place ⌝ }
 {
-    let first = first_slot(id);
-    let second = second_slot(id);
-    if hints[first] == 0 {
-        return first;
+    let slot = first_slot(id);
+    if hints[slot] == 0 {
+        hints[slot] = place;
+    } else {
+        hints[second_slot(id)] = place;
     }
-    second
 }
 
-// Hints for the ids of a table of so many places, the first word of each being its id. A free place is noted too:
-// nobody looks for its id, 0.
+// Hints for the ids of a table of so many places, the first word of each being its id.
 pub fn fill(ws: &[u64], width: usize, places: usize, hints: &mut [u16])
     requires { ⌜ (length (now ws) ≡ places * width) × ((1 ≤ width) × (places ≤ 65535)) ⌝ }
     requires { ⌜ (length (now hints) ≡ hintSlots) × Hinted places (now hints) ⌝ }
@@ -48,8 +46,10 @@ pub fn fill(ws: &[u64], width: usize, places: usize, hints: &mut [u16])
 {
     let mut i = 0;
     while i < places {
-        let slot = slot_for(hints, ws[i * width]);
-        hints[slot] = i as u16;
+        let id = ws[i * width];
+        if id != 0 {
+            note(hints, id, i as u16);
+        }
         i += 1;
     }
 }

@@ -1,8 +1,11 @@
 -- `fill` meets its contract. The invariant: every hint is a place. Assumes nothing.
-use Prim.Native.Nat.{_-_, _≤_}
+use Prim.Native.Nat.{_*_, _-_, _≤_}
+use mathlib.Core.Path.{sym, subst, _∙_}
+use mathlib.Core.Logic.{⊎-elim}
 use native.Mathlib.Omega.{arith}
 use borrow.Author.Needs.{needs}
-use Rattle.hints.proofs.Table.{in-table, Filling, filling-set}
+use lib.ListN.{getD}
+use Rattle.hints.proofs.Table.{in-table, Filling, filling-noted}
 use Rattle.hints.proofs.fill.Statement.{statement}
 use Rattle.hints.proofs.fill.Tie as tie
 
@@ -15,31 +18,34 @@ abbrev μ-loop : tie.MeasureT-loop
 loop-holds : tie.Need-loop-holds Inv-loop μ-loop
 loop-holds c = (search needs, c .before .before .pre .1)
 
-mul-slot-for : tie.Need-mul-slot-for Inv-loop μ-loop
-mul-slot-for c =
-    let l = c .before .before in
+mul-id : tie.Need-mul-id Inv-loop μ-loop
+mul-id c =
+    let l = c .before in
     let a = l .before .before .before .args in
     omega (arith, in-table (l .loop .i) (a .places) (a .width) (omega arith) (omega arith))
 
-mul-slot-for-2 : tie.Need-mul-slot-for-2 Inv-loop μ-loop
-mul-slot-for-2 c =
-    let l = c .before .before in
+mul-id-2 : tie.Need-mul-id-2 Inv-loop μ-loop
+mul-id-2 c =
+    let l = c .before in
     let a = l .before .before .before .args in
     omega (arith, in-table (l .loop .i) (a .places) (a .width) (omega arith) (omega arith))
 
-shared-slice-read-slot-for : tie.Need-shared-slice-read-slot-for Inv-loop μ-loop
-shared-slice-read-slot-for c =
-    let l = c .before .before .before in
+shared-slice-read-id : tie.Need-shared-slice-read-id Inv-loop μ-loop
+shared-slice-read-id c =
+    let l = c .before .before in
     let a = l .before .before .before .args in
     omega (arith, in-table (l .loop .i) (a .places) (a .width) (omega arith) (omega arith))
 
 loop-again : tie.Need-loop-again Inv-loop μ-loop
 loop-again c =
-    let l = c .before .before .before .before in
+    let l = c .before .before .before in
     let a = l .before .before .before .args in (
       omega arith,
-      filling-set (a .places) (l .loop .hints) (c .slot-for .result) (l .loop .i) (l .loop .inv .1)
-          (omega arith),
+      ⊎-elim
+          (λ w. filling-noted (a .places) (l .loop .hints) (c .if1 .hints) (getD (a .ws .now) (l .loop .i * a .width) 0)
+          (l .loop .i) (l .loop .inv .1) (omega arith) (w .5 ∙ w .2 .ensures))
+          (λ w. subst (Filling (a .places)) (sym (w .1)) (l .loop .inv .1))
+          (c .if1 .came),
     )
 
 returns : tie.Need-returns Inv-loop μ-loop
@@ -52,13 +58,11 @@ fill-spec =
     Inv-loop
     μ-loop
     loop-holds
-    mul-slot-for
-    mul-slot-for-2
-    shared-slice-read-slot-for
+    mul-id
+    mul-id-2
+    shared-slice-read-id
+    (λ c. search needs)
     (λ c κs. search needs)
-    (λ c. search needs)
-    (λ c. search needs)
-    (λ c. search needs)
     (λ c. search needs)
     (λ c. search needs)
     loop-again
