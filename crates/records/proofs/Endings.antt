@@ -11,7 +11,8 @@ use borrow.Author.Tests.{eqb-true, eq-eqb, ne-eqb, leb-true, leb-false, le-leb, 
 use Rattle.limits.specs.Limits.{processPlaces, threadPlaces, recordLimit, lastStandard, siQueue}
 use Rattle.limits.specs.Limits.{processId as wordOfId}
 use Rattle.lists.specs.Lists.{any, first, find}
-use Rattle.lists.proofs.Bools.{split, clash, and-left, same-test, or-cases, or-fst-false, or-snd-false, and-snd, and-imp}
+use Rattle.lists.proofs.Bools.{split, clash, same-test, and-left, and-snd, and-imp, or-cases, or-fst-false}
+use Rattle.lists.proofs.Bools.{or-snd-false}
 use Rattle.lists.proofs.Loops.{find-le}
 use Rattle.lists.proofs.Finds.{found-any, absent-any, any-inside}
 use Rattle.sigset.specs.declared.SigSet.{SigSet}
@@ -230,7 +231,8 @@ module _ (ws vs th ignored owners : List ℕ) (n : ThreadsNoted ws vs th ignored
         let p : ℕ = itsThread .process in
         eqb-true (processAt ws place .holds .id) p
         (and-snd (not (eqb p 0)) (eqb (processAt ws place .holds .id) p)
-        (held-found (isProcess p) freeProcess (processesOf ws) place at-owner (rw (length-processesOf ws) owner-inside)))
+        (held-found (isProcess p) freeProcess (processesOf ws) place at-owner
+        (rw (length-processesOf ws) owner-inside)))
 
     module _ (w : ℕ) (ew : w ≡ getD (headTo (processAt ws place)) wordOfId 0) where
       its-owner : itsThread .process ≡ w
