@@ -20,7 +20,7 @@ use Rattle.tables.proofs.Words.{process-row}
 use Rattle.sigset.specs.declared.SigSet.{SigSet}
 use Rattle.soundness.specs.Check.{headOk, actionOk, disjoint, ignoredBy, liveProcessOk, processOk, processOkAt}
 use Rattle.soundness.specs.Check.{liveThreadOk}
-use Rattle.places.specs.Notes.{notedAt, peopledBy}
+use Rattle.places.specs.Notes.{notedAt, threadedBy}
 
 -- ---- a live place: its tests, one after the other
 
@@ -73,7 +73,7 @@ module _ (find : ℕ → ℕ) (ws notes : List ℕ) (place w note : ℕ) (e : w 
         (el ∙ sym (cond-false _ _ live), sym (cond-false _ _ live))
 
 -- a live process has a note that it has a thread
-pub peopled-end : (xs : List (Place Process)) (notes : List ℕ) (i w : ℕ) → w ≡ getD xs i freeProcess .holds .id
-    → (eqb w 0 || not (eqb (getD notes i 0) 0)) ≡ peopledBy xs notes i
-unfolding peopledBy
-peopled-end xs notes i w e = split (eqb w 0) (λ z. rw (← e, z)) (λ z. rw (← e, z))
+pub threaded-end : (xs : List (Place Process)) (notes : List ℕ) (i w : ℕ) → w ≡ getD xs i freeProcess .holds .id
+    → (eqb w 0 || not (eqb (getD notes i 0) 0)) ≡ threadedBy xs notes i
+unfolding threadedBy
+threaded-end xs notes i w e = split (eqb w 0) (λ z. rw (← e, z)) (λ z. rw (← e, z))

@@ -19,8 +19,8 @@ use Rattle.rules.specs.View.{isProcess, belongsTo}
 use Rattle.rules.specs.Store.{Place, held, freeProcess, freeThread}
 use Rattle.rules.specs.Sound.{isLive, processId, threadId, zeroThread}
 use Rattle.tables.proofs.Places.{held-at}
-use Rattle.soundness.specs.Check.{onePlace, ignoredBy, ownerPlace, threadOk, threadOkAt, peopledAt, peopled}
-use Rattle.places.specs.Notes.{IgnoredNoted, OwnersNoted, PeopledNoted, peopledBy, notedAt}
+use Rattle.soundness.specs.Check.{onePlace, ignoredBy, ownerPlace, threadOk, threadOkAt, hasThreadAt, haveThreads}
+use Rattle.places.specs.Notes.{IgnoredNoted, OwnersNoted, ThreadedNoted, threadedBy, notedAt}
 
 -- ---- a note for each live place, where the note goes to the place itself
 
@@ -82,9 +82,9 @@ one-note false notes owner i h =
     rw (e, getD-set-other notes owner i 1 0 (eqb-false i owner e)) (sym (or-false (not (eqb (getD notes i 0) 0)))))
 
 module _ (xs : List (Place Process)) (ys : List (Place Thread)) where
-  pub peopled-none : PeopledNoted xs ys 0 (replicate processPlaces 0)
+  pub threaded-none : ThreadedNoted xs ys 0 (replicate processPlaces 0)
   unfolding any
-  peopled-none i h live = ap (λ (k : ℕ). not (eqb k 0)) (getD-replicate processPlaces i 0 0 h)
+  threaded-none i h live = ap (λ (k : ℕ). not (eqb k 0)) (getD-replicate processPlaces i 0 0 h)
 
   module _ (place : ℕ → ℕ) (one : onePlace (map held xs)) (lx : length xs ≡ processPlaces)
       (n : ℕ) (h : n < length ys) (ok : threadOkAt place xs ys n ≡ true) where
@@ -125,11 +125,11 @@ module _ (xs : List (Place Process)) (ys : List (Place Thread)) where
         ∙ find-at (isProcess p) noProcess (map held xs) (find-any (isProcess p) (map held xs) owned) in
         eq-eqb p (x .id) (sym (eqb-true (x .id) p (and-snd (not (eqb p 0)) (eqb (x .id) p) mine))))))
 
-    pub peopled-more : (notes after : List ℕ) → length notes ≡ processPlaces → PeopledNoted xs ys n notes
+    pub threaded-more : (notes after : List ℕ) → length notes ≡ processPlaces → ThreadedNoted xs ys n notes
         → after ≡ notedAt threadId notes owner 1 it
-        → PeopledNoted xs ys (n + 1) after
+        → ThreadedNoted xs ys (n + 1) after
     unfolding notedAt
-    peopled-more notes after ln k e i b live =
+    threaded-more notes after ln k e i b live =
         let inside : n < length (map held ys) = rw (length-map ys held) h in
         let id : ℕ = getD xs i freeProcess .holds .id in
         ap (λ (l : List ℕ). not (eqb (getD l i 0) 0)) e
@@ -138,11 +138,11 @@ module _ (xs : List (Place Process)) (ys : List (Place Thread)) where
         (sym (ap (belongsTo id) (held-at ys n freeThread) ∙ theirs i (omega arith) live))
         ∙ sym (any-next (belongsTo id) noThread (map held ys) n inside)
 
-  pub peopled-all : length ys ≡ threadPlaces → (notes : List ℕ) → PeopledNoted xs ys threadPlaces notes
-      → all (peopledBy xs notes) (range 0 processPlaces) ≡ peopled xs ys
-  unfolding peopled peopledAt peopledBy
-  peopled-all ly notes k =
-      let same : (i : ℕ) → i < processPlaces → peopledBy xs notes i ≡ peopledAt xs ys i =
+  pub threaded-all : length ys ≡ threadPlaces → (notes : List ℕ) → ThreadedNoted xs ys threadPlaces notes
+      → all (threadedBy xs notes) (range 0 processPlaces) ≡ haveThreads xs ys
+  unfolding haveThreads hasThreadAt threadedBy
+  threaded-all ly notes k =
+      let same : (i : ℕ) → i < processPlaces → threadedBy xs notes i ≡ hasThreadAt xs ys i =
       λ i h. split (isLive processId (getD xs i freeProcess))
       (λ live.
       ap (λ (b : Bool). not (isLive processId (getD xs i freeProcess)) || b)
@@ -150,10 +150,10 @@ module _ (xs : List (Place Process)) (ys : List (Place Thread)) where
       ∙ ap (any (belongsTo (getD xs i freeProcess .holds .id)))
       (take-all threadPlaces (map held ys) (rw (length-map ys held) (omega arith)))))
       (λ free. rw free) in
-      same-test (all (peopledBy xs notes) (range 0 processPlaces)) (all (peopledAt xs ys) (range 0 processPlaces))
+      same-test (all (threadedBy xs notes) (range 0 processPlaces)) (all (hasThreadAt xs ys) (range 0 processPlaces))
       (λ e.
-      all-below (peopledAt xs ys) processPlaces
-      (λ i h. sym (same i h) ∙ below-all (peopledBy xs notes) processPlaces e i h))
+      all-below (hasThreadAt xs ys) processPlaces
+      (λ i h. sym (same i h) ∙ below-all (threadedBy xs notes) processPlaces e i h))
       (λ e.
-      all-below (peopledBy xs notes) processPlaces
-      (λ i h. same i h ∙ below-all (peopledAt xs ys) processPlaces e i h))
+      all-below (threadedBy xs notes) processPlaces
+      (λ i h. same i h ∙ below-all (hasThreadAt xs ys) processPlaces e i h))

@@ -30,23 +30,23 @@ use Rattle.soundness.proofs.Ids.{process-found, held-found}
 use Rattle.places.specs.Notes.{IgnoredNoted, notedAt}
 
 -- what the test leaves: its answer, and where it holds the notes of the place's owner
-abbrev pub Left : (find : ℕ → ℕ) (ws vs : List ℕ) (place : ℕ) (r : Bool) (owners owners′ peopled peopled′ : List ℕ)
+abbrev pub Left : (find : ℕ → ℕ) (ws vs : List ℕ) (place : ℕ) (r : Bool) (owners owners′ threaded threaded′ : List ℕ)
     → Type 0
-Left find ws vs place r owners owners′ peopled peopled′ =
+Left find ws vs place r owners owners′ threaded threaded′ =
     (r ≡ threadOkAt find (processesOf ws) (threadsOf vs) place)
     × ((r ≡ true → owners′ ≡ notedAt threadId owners place (ownerPlace (heldProcesses ws) (threadAt vs place))
     (threadAt vs place))
-    × (r ≡ true → peopled′ ≡ notedAt threadId peopled (ownerPlace (heldProcesses ws) (threadAt vs place)) 1
+    × (r ≡ true → threaded′ ≡ notedAt threadId threaded (ownerPlace (heldProcesses ws) (threadAt vs place)) 1
     (threadAt vs place)))
 
-module _ (find : ℕ → ℕ) (ws vs : List ℕ) (place w : ℕ) (owners peopled : List ℕ)
+module _ (find : ℕ → ℕ) (ws vs : List ℕ) (place w : ℕ) (owners threaded : List ℕ)
     (e : w ≡ getD (threadTo (threadAt vs place)) wordOfId 0) where
   its-id : w ≡ threadAt vs place .holds .id
   unfolding threadTo
   its-id = e
 
   pub free-thread : w ≡ 0 → {z : Bool} → z ≡ zeroThread (threadAt vs place)
-      → Left find ws vs place z owners owners peopled peopled
+      → Left find ws vs place z owners owners threaded threaded
   unfolding threadOkAt threadOk notedAt
   free-thread k ez =
       let free = eq-eqb (threadAt vs place .holds .id) 0 (sym its-id ∙ k) in
@@ -74,10 +74,10 @@ module _ (find : ℕ → ℕ) (ws vs : List ℕ) (place w : ℕ) (owners peopled
     is-live : eqb (threadAt vs place .holds .id) 0 ≡ false
     is-live = ne-eqb (threadAt vs place .holds .id) 0 (λ z. live (its-id ∙ z))
 
-    pub orphan : processPlaces ≤ owner → (owners′ peopled′ : List ℕ)
-        → Left find ws vs place false owners owners′ peopled peopled′
+    pub orphan : processPlaces ≤ owner → (owners′ threaded′ : List ℕ)
+        → Left find ws vs place false owners owners′ threaded threaded′
     unfolding threadOkAt threadOk
-    orphan h owners′ peopled′ =
+    orphan h owners′ threaded′ =
         let n : owner ≡ processPlaces =
         omega (arith, at-place, find-le mine (heldProcesses ws), length-heldProcesses ws) in (
           sym (cond-false _ _ is-live
@@ -107,7 +107,7 @@ module _ (find : ℕ → ℕ) (ws vs : List ℕ) (place w : ℕ) (owners peopled
 
       pub live-thread : (ignored : List ℕ) → IgnoredNoted (processesOf ws) processPlaces ignored → {l : Bool}
           → l ≡ liveThreadOk find (bits (getD ignored owner 0)) place (threadAt vs place)
-          → Left find ws vs place l owners (set owners place owner) peopled (set peopled owner 1)
+          → Left find ws vs place l owners (set owners place owner) threaded (set threaded owner 1)
       unfolding threadOkAt threadOk notedAt
       live-thread ignored noted el =
           let ignores : bits (getD ignored owner 0) ≡ ignoredBy (ownerOf (heldProcesses ws) (threadAt vs place)) =
@@ -119,6 +119,6 @@ module _ (find : ℕ → ℕ) (ws vs : List ℕ) (place w : ℕ) (owners peopled
                 ∙ sym (cond-false _ _ is-live),
             (
               λ _. ap (set owners place) at-owner ∙ sym (cond-false _ _ is-live),
-              λ _. ap (λ k. set peopled k 1) at-owner ∙ sym (cond-false _ _ is-live),
+              λ _. ap (λ k. set threaded k 1) at-owner ∙ sym (cond-false _ _ is-live),
             ),
           )

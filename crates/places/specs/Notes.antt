@@ -43,13 +43,13 @@ OwnersNoted xs ys n notes = (i : ℕ) → i < n → isLive threadId (getD ys i f
     → getD notes i 0 ≡ ownerPlace (map held xs) (getD ys i freeThread)
 
 -- which live processes have a thread in the first n places
-abbrev pub PeopledNoted : List (Place Process) → List (Place Thread) → (n : ℕ) → List ℕ → Type 0
-PeopledNoted xs ys n notes = (i : ℕ) → i < processPlaces → isLive processId (getD xs i freeProcess) ≡ true
+abbrev pub ThreadedNoted : List (Place Process) → List (Place Thread) → (n : ℕ) → List ℕ → Type 0
+ThreadedNoted xs ys n notes = (i : ℕ) → i < processPlaces → isLive processId (getD xs i freeProcess) ≡ true
     → not (eqb (getD notes i 0) 0) ≡ any (belongsTo (getD xs i freeProcess .holds .id)) (take n (map held ys))
 
 -- the same, as it is noted
-unfoldable pub peopledBy : List (Place Process) → List ℕ → ℕ → Bool
-peopledBy xs notes i = ifLive processId (λ _. not (eqb (getD notes i 0) 0)) (getD xs i freeProcess)
+unfoldable pub threadedBy : List (Place Process) → List ℕ → ℕ → Bool
+threadedBy xs notes i = ifLive processId (λ _. not (eqb (getD notes i 0) 0)) (getD xs i freeProcess)
 
 -- one note more, unless the place is free
 unfoldable pub notedAt : {A : Type 0} → (A → ℕ) → List ℕ → (at note : ℕ) → Place A → List ℕ

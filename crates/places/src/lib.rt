@@ -16,9 +16,9 @@ ghost use Rattle.soundness.specs.Check.{headOk, liveProcessOk, processOkAt, pro
 ghost use Rattle.soundness.specs.Check.{threadsOk, placesOk, processBy, threadBy, ignoredBy};
 ghost use Rattle.places.specs.Notes.{block, ignoredByChoice};
 ghost use Rattle.soundness.specs.Check.{disjoint, onePlace};
-ghost use Rattle.places.specs.Notes.{Gathers, IgnoredNoted, OwnersNoted, PeopledNoted};
+ghost use Rattle.places.specs.Notes.{Gathers, IgnoredNoted, OwnersNoted, ThreadedNoted};
 ghost use Rattle.soundness.specs.Check.{ownerPlace};
-ghost use Rattle.places.specs.Notes.{notedAt, peopledBy};
+ghost use Rattle.places.specs.Notes.{notedAt, threadedBy};
 use limits::PROCESS_EFFECTIVE;
 use limits::PROCESS_ID;
 use limits::PROCESS_MARKS;
@@ -256,21 +256,21 @@ fn thread_ok(
     th: &[u16],
     ignored: &[u64],
     owners: &mut [u16],
-    peopled: &mut [u8],
+    threaded: &mut [u8],
     place: usize,
 ) -> bool
     requires { ⌜ (length (now ps) ≡ processTable) × ((length (now ts) ≡ threadTable) × (place < threadPlaces)) ⌝ }
     requires { ⌜ (length (now ph) ≡ hintSlots) × Hinted processPlaces (now ph) ⌝ }
     requires { ⌜ (length (now th) ≡ hintSlots) × Hinted threadPlaces (now th) ⌝ }
     requires { ⌜ (length (now ignored) ≡ processPlaces) × ((length (now owners) ≡ threadPlaces)
-        × (length (now peopled) ≡ processPlaces)) ⌝ }
+        × (length (now threaded) ≡ processPlaces)) ⌝ }
     requires { ⌜ onePlace (heldProcesses (now ps)) × IgnoredNoted (processesOf (now ps)) processPlaces (now ignored) ⌝ }
     ensures { λ r. ⌜ r ≡ threadOkAt (threadBy (now (th .entry)) (now (ts .entry))) (processesOf (now (ps .entry)))
         (threadsOf (now (ts .entry))) place ⌝ }
     ensures { λ r. ⌜ (r ≡ true → now (owners .exit) ≡ notedAt threadId (now (owners .entry)) place
         (ownerPlace (heldProcesses (now (ps .entry))) (threadAt (now (ts .entry)) place))
         (threadAt (now (ts .entry)) place)) ⌝ }
-    ensures { λ r. ⌜ (r ≡ true → now (peopled .exit) ≡ notedAt threadId (now (peopled .entry))
+    ensures { λ r. ⌜ (r ≡ true → now (threaded .exit) ≡ notedAt threadId (now (threaded .entry))
         (ownerPlace (heldProcesses (now (ps .entry))) (threadAt (now (ts .entry)) place)) 1
         (threadAt (now (ts .entry)) place)) ⌝ }
 {
@@ -283,7 +283,7 @@ fn thread_ok(
         return false;
     }
     owners[place] = owner as u16;
-    peopled[owner] = 1;
+    threaded[owner] = 1;
     live_thread_ok(ts, th, place, SigSet(ignored[owner]))
 }
 
@@ -294,25 +294,25 @@ fn threads_ok(
     th: &[u16],
     ignored: &[u64],
     owners: &mut [u16],
-    peopled: &mut [u8],
+    threaded: &mut [u8],
 ) -> bool
     requires { ⌜ (length (now ps) ≡ processTable) × (length (now ts) ≡ threadTable) ⌝ }
     requires { ⌜ (length (now ph) ≡ hintSlots) × Hinted processPlaces (now ph) ⌝ }
     requires { ⌜ (length (now th) ≡ hintSlots) × Hinted threadPlaces (now th) ⌝ }
     requires { ⌜ (length (now ignored) ≡ processPlaces) × ((length (now owners) ≡ threadPlaces)
-        × (length (now peopled) ≡ processPlaces)) ⌝ }
+        × (length (now threaded) ≡ processPlaces)) ⌝ }
     requires { ⌜ onePlace (heldProcesses (now ps)) × IgnoredNoted (processesOf (now ps)) processPlaces (now ignored) ⌝ }
-    requires { ⌜ PeopledNoted (processesOf (now ps)) (threadsOf (now ts)) 0 (now peopled) ⌝ }
+    requires { ⌜ ThreadedNoted (processesOf (now ps)) (threadsOf (now ts)) 0 (now threaded) ⌝ }
     ensures { λ r. ⌜ r ≡ threadsOk (threadBy (now (th .entry)) (now (ts .entry))) (processesOf (now (ps .entry)))
         (threadsOf (now (ts .entry))) ⌝ }
     ensures { λ r. ⌜ (r ≡ true → OwnersNoted (processesOf (now (ps .entry))) (threadsOf (now (ts .entry)))
         threadPlaces (now (owners .exit))) ⌝ }
-    ensures { λ r. ⌜ (r ≡ true → PeopledNoted (processesOf (now (ps .entry))) (threadsOf (now (ts .entry)))
-        threadPlaces (now (peopled .exit))) ⌝ }
+    ensures { λ r. ⌜ (r ≡ true → ThreadedNoted (processesOf (now (ps .entry))) (threadsOf (now (ts .entry)))
+        threadPlaces (now (threaded .exit))) ⌝ }
 {
     let mut i = 0;
     while i < THREAD_PLACES {
-        if !thread_ok(ps, ts, ph, th, ignored, owners, peopled, i) {
+        if !thread_ok(ps, ts, ph, th, ignored, owners, threaded, i) {
             return false;
         }
         i += 1;
@@ -323,22 +323,22 @@ fn threads_ok(
 // ---- all places
 
 // Has the process in a place a thread, by the notes? A free place needs none.
-fn is_peopled(ps: &[u64], peopled: &[u8], place: usize) -> bool
-    requires { ⌜ (length (now ps) ≡ processTable) × (length (now peopled) ≡ processPlaces) ⌝ }
+fn has_thread(ps: &[u64], threaded: &[u8], place: usize) -> bool
+    requires { ⌜ (length (now ps) ≡ processTable) × (length (now threaded) ≡ processPlaces) ⌝ }
     requires { ⌜ place < processPlaces ⌝ }
-    ensures { λ r. ⌜ r ≡ peopledBy (processesOf (now (ps .entry))) (now (peopled .entry)) place ⌝ }
+    ensures { λ r. ⌜ r ≡ threadedBy (processesOf (now (ps .entry))) (now (threaded .entry)) place ⌝ }
 {
-    (tables::field_at(ps, place, PROCESS_ID) == 0) | (peopled[place] != 0)
+    (tables::field_at(ps, place, PROCESS_ID) == 0) | (threaded[place] != 0)
 }
 
-fn all_peopled(ps: &[u64], peopled: &[u8]) -> bool
-    requires { ⌜ (length (now ps) ≡ processTable) × (length (now peopled) ≡ processPlaces) ⌝ }
-    ensures { λ r. ⌜ r ≡ all (peopledBy (processesOf (now (ps .entry))) (now (peopled .entry)))
+fn all_have_threads(ps: &[u64], threaded: &[u8]) -> bool
+    requires { ⌜ (length (now ps) ≡ processTable) × (length (now threaded) ≡ processPlaces) ⌝ }
+    ensures { λ r. ⌜ r ≡ all (threadedBy (processesOf (now (ps .entry))) (now (threaded .entry)))
         (range 0 processPlaces) ⌝ }
 {
     let mut i = 0;
     while i < PROCESS_PLACES {
-        if !is_peopled(ps, peopled, i) {
+        if !has_thread(ps, threaded, i) {
             return false;
         }
         i += 1;
@@ -366,12 +366,12 @@ pub fn places_ok(
     ensures { λ r. ⌜ (r ≡ true → OwnersNoted (processesOf (now (ps .entry))) (threadsOf (now (ts .entry)))
         threadPlaces (now (owners .exit))) ⌝ }
 {
-    let mut peopled = [0u8; PROCESS_PLACES];
+    let mut threaded = [0u8; PROCESS_PLACES];
     if !processes_ok(ps, ph, ignored) {
         return false;
     }
-    if !threads_ok(ps, ts, ph, th, ignored, owners, &mut peopled) {
+    if !threads_ok(ps, ts, ph, th, ignored, owners, &mut threaded) {
         return false;
     }
-    all_peopled(ps, &peopled)
+    all_have_threads(ps, &threaded)
 }

@@ -20,7 +20,7 @@ use Rattle.rules.proofs.Ids.{one-held, distinct-held, told-apart}
 use Rattle.rules.proofs.ClausesByTable.{Lengths, lengths-of}
 use Rattle.rules.proofs.ClausesByPlace.{OwnProcess, GoodProcess, GoodThread, Good, HaveThreads, good, have-threads}
 use Rattle.rules.proofs.ClausesByPlace.{good-sound}
-use Rattle.soundness.specs.Check.{processOkAt, processesOk, threadOkAt, threadsOk, peopledAt, peopled, placesOk}
+use Rattle.soundness.specs.Check.{processOkAt, processesOk, threadOkAt, threadsOk, hasThreadAt, haveThreads, placesOk}
 use Rattle.soundness.specs.Check.{threadRecordsOk, processRecordsOk, recordsOk, checked}
 use Rattle.soundness.proofs.Places.{process-own, process-told, process-ok, thread-good, thread-told, thread-ok}
 use Rattle.soundness.proofs.Records.{Tells, GoodRecords, thread-records, process-records, within-limit}
@@ -111,15 +111,15 @@ module _ (process thread : ℕ → ℕ) (st : Store) (l : Lengths st)
         ∙ distinct-held threadId (st .threads) freeThread (g .1) i inside e)),
   )
 
-  peopled-tells : Tells (peopled (st .processes) (st .threads)) (HaveThreads st)
-  unfolding peopled peopledAt hasThread view
-  peopled-tells = (
+  have-threads-tell : Tells (haveThreads (st .processes) (st .threads)) (HaveThreads st)
+  unfolding haveThreads hasThreadAt hasThread view
+  have-threads-tell = (
     λ k.
         All-each (Pass (ifLive processId (hasThread (view st)))) (st .processes) freeProcess
         (λ i h.
-        below-all (peopledAt (st .processes) (st .threads)) processPlaces k i (omega (arith, l .processes))),
+        below-all (hasThreadAt (st .processes) (st .threads)) processPlaces k i (omega (arith, l .processes))),
     λ g.
-        all-below (peopledAt (st .processes) (st .threads)) processPlaces
+        all-below (hasThreadAt (st .processes) (st .threads)) processPlaces
         (λ i h.
         All-at (Pass (ifLive processId (hasThread (view st)))) (st .processes) i freeProcess
         (omega (arith, l .processes)) g),
@@ -183,7 +183,7 @@ module _ (process thread : ℕ → ℕ) (st : Store) (l : Lengths st)
               records = b .0;
             };
       })
-      (peopled-tells .0 (and-snd (threadsOk thread xs (st .threads)) _ k1))
+      (have-threads-tell .0 (and-snd (threadsOk thread xs (st .threads)) _ k1))
 
   good-checked : Good st → HaveThreads st → checked process thread st ≡ true
   unfolding checked placesOk recordsOk limitKept
@@ -191,7 +191,7 @@ module _ (process thread : ℕ → ℕ) (st : Store) (l : Lengths st)
       let p : GoodProcesses =
       (All-imp (GoodProcess st) OwnProcess (λ x k. k .own) (st .processes) (g .processes), g .processApart) in
       let t : GoodThreads = (g .threads, g .threadApart) in
-      and-both (and-both (processes-tell .1 p) (and-both (threads-tell .1 t) (peopled-tells .1 h)))
+      and-both (and-both (processes-tell .1 p) (and-both (threads-tell .1 t) (have-threads-tell .1 h)))
       (and-both (g .threadBuffer .laid .rest)
       (and-both (g .processBuffer .laid .rest)
       (and-both (threads-of p t .1 (g .threadBuffer .records, g .threadBuffer .laid .once))

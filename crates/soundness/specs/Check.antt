@@ -1,5 +1,5 @@
 -- The test of soundness in the order in which it is made: place by place, then record by record.
--- proofs/Regrouped shows that it is the rules' test. Crates places and sound make it.
+-- proofs/Regrouped shows that it is the rules' test. Crates places, records and sound make it.
 use Prim.Native.Nat.{ℕ, _+_, _≤_}
 use mathlib.Core.Bool.{Bool, not, _&&_, cond}
 use mathlib.Core.List.{List, [], map}
@@ -101,18 +101,18 @@ module _ (place : ℕ → ℕ) (xs : List (Place Process)) (ys : List (Place Thr
 
 module _ (xs : List (Place Process)) (ys : List (Place Thread)) where
   -- a live process has a thread
-  unfoldable pub peopledAt : ℕ → Bool
-  peopledAt i = ifLive processId (λ x. any (belongsTo (x .holds .id)) (map held ys)) (getD xs i freeProcess)
+  unfoldable pub hasThreadAt : ℕ → Bool
+  hasThreadAt i = ifLive processId (λ x. any (belongsTo (x .holds .id)) (map held ys)) (getD xs i freeProcess)
 
-  unfoldable pub peopled : Bool
-  peopled = all peopledAt (range 0 processPlaces)
+  unfoldable pub haveThreads : Bool
+  haveThreads = all hasThreadAt (range 0 processPlaces)
 
   -- what a record is held against: the places alone
   abbrev pub placesView : View
   placesView = view (record { processes = xs; threads = ys; threadBuffer = []; processBuffer = [] })
 
 unfoldable pub placesOk : (process thread : ℕ → ℕ) → List (Place Process) → List (Place Thread) → Bool
-placesOk process thread xs ys = processesOk process xs && (threadsOk thread xs ys && peopled xs ys)
+placesOk process thread xs ys = processesOk process xs && (threadsOk thread xs ys && haveThreads xs ys)
 
 -- ---- the records of a buffer, oldest first
 

@@ -5,9 +5,9 @@ use borrow.Author.Tests.{not-true, not-false}
 use Rattle.lists.proofs.Bools.{clash, and-left, and-right}
 use Rattle.tables.specs.Tables.{processesOf, threadsOf}
 use Rattle.tables.proofs.Words.{length-processesOf, length-threadsOf}
-use Rattle.soundness.specs.Check.{processBy, processesOk, peopled, placesOk}
+use Rattle.soundness.specs.Check.{processBy, processesOk, haveThreads, placesOk}
 use Rattle.soundness.proofs.Regrouped.{processes-one}
-use Rattle.places.proofs.Notes.{peopled-none, peopled-all}
+use Rattle.places.proofs.Notes.{threaded-none, threaded-all}
 use Rattle.places.proofs.places_ok.Statement.{statement}
 use Rattle.places.proofs.places_ok.Tie as tie
 
@@ -38,7 +38,7 @@ threads-ok-requires c κs =
                     (sym (p .processes-ok .ensures .0) ∙ held),
                 p .processes-ok .ensures .1 held,
               ),
-              peopled-none (processesOf ws) (threadsOf (a .args .ts .now)),
+              threaded-none (processesOf ws) (threadsOf (a .args .ts .now)),
             ),
           ),
         ),
@@ -67,9 +67,9 @@ returns-3 c =
     let ys = threadsOf (a .ts .now) in
     let ph = not-false (p .processes-ok .result) (t .before .before .before .before .if1 .left) in
     let th = not-false (t .threads-ok .result) (c .before .before .if2 .left) in (
-      c .all-peopled .ensures
-          ∙ peopled-all xs ys (length-threadsOf (a .ts .now)) _ (t .threads-ok .ensures .1 .1 th)
-          ∙ sym (ap₂ (λ x y. x && (y && peopled xs ys)) (sym (p .processes-ok .ensures .0) ∙ ph)
+      c .all-have-threads .ensures
+          ∙ threaded-all xs ys (length-threadsOf (a .ts .now)) _ (t .threads-ok .ensures .1 .1 th)
+          ∙ sym (ap₂ (λ x y. x && (y && haveThreads xs ys)) (sym (p .processes-ok .ensures .0) ∙ ph)
           (sym (t .threads-ok .ensures .0) ∙ th)),
       (λ _. p .processes-ok .ensures .1 ph, λ _. t .threads-ok .ensures .1 .0 th),
     )

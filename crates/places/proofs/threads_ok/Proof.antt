@@ -13,19 +13,19 @@ use Rattle.lists.proofs.Loops.{range-none, range-more, range-fails}
 use Rattle.tables.specs.Tables.{processesOf, threadsOf}
 use Rattle.tables.proofs.Words.{length-processesOf, length-threadsOf}
 use Rattle.soundness.specs.Check.{threadOkAt, threadsOk, threadBy}
-use Rattle.places.specs.Notes.{OwnersNoted, PeopledNoted}
-use Rattle.places.proofs.Notes.{owners-none, owners-more, peopled-more}
+use Rattle.places.specs.Notes.{OwnersNoted, ThreadedNoted}
+use Rattle.places.proofs.Notes.{owners-none, owners-more, threaded-more}
 use Rattle.places.proofs.threads_ok.Statement.{statement}
 use Rattle.places.proofs.threads_ok.Tie as tie
 
 abbrev Inv-loop : tie.InvT-loop
-Inv-loop ps ts ph th ignored owners₀ peopled₀ i₀ owners peopled i =
-    (i ≤ threadPlaces) × (((length owners ≡ length owners₀) × (length peopled ≡ length peopled₀))
+Inv-loop ps ts ph th ignored owners₀ threaded₀ i₀ owners threaded i =
+    (i ≤ threadPlaces) × (((length owners ≡ length owners₀) × (length threaded ≡ length threaded₀))
     × ((all (threadOkAt (threadBy th ts) (processesOf ps) (threadsOf ts)) (range 0 i) ≡ true)
-    × (OwnersNoted (processesOf ps) (threadsOf ts) i owners × PeopledNoted (processesOf ps) (threadsOf ts) i peopled)))
+    × (OwnersNoted (processesOf ps) (threadsOf ts) i owners × ThreadedNoted (processesOf ps) (threadsOf ts) i threaded)))
 
 abbrev μ-loop : tie.MeasureT-loop
-μ-loop ps ts ph th ignored owners₀ peopled₀ i₀ owners peopled i = threadPlaces - i
+μ-loop ps ts ph th ignored owners₀ threaded₀ i₀ owners threaded i = threadPlaces - i
 
 loop-holds : tie.Need-loop-holds Inv-loop μ-loop
 loop-holds c =
@@ -94,9 +94,9 @@ loop-again c =
           (
             owners-more xs ys (l .loop .i) (l .loop .owners) _ (omega (arith, l .loop .inv .1 .0 .0, n .1 .0))
                 (l .loop .inv .1 .1 .1 .0) (t .thread-ok .ensures .1 .0 held),
-            peopled-more xs ys find (a .pre .1 .1 .1 .1 .0 .0) (length-processesOf (a .args .ps .now)) (l .loop .i)
+            threaded-more xs ys find (a .pre .1 .1 .1 .1 .0 .0) (length-processesOf (a .args .ps .now)) (l .loop .i)
                 below
-                ok (l .loop .peopled) _ (l .loop .inv .1 .0 .1 ∙ n .1 .1) (l .loop .inv .1 .1 .1 .1)
+                ok (l .loop .threaded) _ (l .loop .inv .1 .0 .1 ∙ n .1 .1) (l .loop .inv .1 .1 .1 .1)
                 (t .thread-ok .ensures .1 .1 held),
           ),
         ),
@@ -114,7 +114,7 @@ returns-2 c =
       sym (ap (λ k. all (threadOkAt (threadBy (a .th .now) (a .ts .now)) xs ys) (range 0 k)) (sym e) ∙ l .inv .1 .1 .0),
       (
         λ _. subst (λ k. OwnersNoted xs ys k (l .owners)) e (l .inv .1 .1 .1 .0),
-        λ _. subst (λ k. PeopledNoted xs ys k (l .peopled)) e (l .inv .1 .1 .1 .1),
+        λ _. subst (λ k. ThreadedNoted xs ys k (l .threaded)) e (l .inv .1 .1 .1 .1),
       ),
     )
 

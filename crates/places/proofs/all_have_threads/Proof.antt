@@ -9,51 +9,51 @@ use Rattle.limits.specs.Limits.{processPlaces}
 use Rattle.lists.specs.Lists.{all, range}
 use Rattle.lists.proofs.Loops.{range-none, range-more, range-fails}
 use Rattle.tables.specs.Tables.{processesOf}
-use Rattle.places.specs.Notes.{peopledBy}
-use Rattle.places.proofs.all_peopled.Statement.{statement}
-use Rattle.places.proofs.all_peopled.Tie as tie
+use Rattle.places.specs.Notes.{threadedBy}
+use Rattle.places.proofs.all_have_threads.Statement.{statement}
+use Rattle.places.proofs.all_have_threads.Tie as tie
 
 abbrev Inv-loop : tie.InvT-loop
-Inv-loop ps peopled i₀ i =
-    (i ≤ processPlaces) × (all (peopledBy (processesOf ps) peopled) (range 0 i) ≡ true)
+Inv-loop ps threaded i₀ i =
+    (i ≤ processPlaces) × (all (threadedBy (processesOf ps) threaded) (range 0 i) ≡ true)
 
 abbrev μ-loop : tie.MeasureT-loop
-μ-loop ps peopled i₀ i = processPlaces - i
+μ-loop ps threaded i₀ i = processPlaces - i
 
 loop-holds : tie.Need-loop-holds Inv-loop μ-loop
 loop-holds c =
     let a = c .before .before .args in
-    (search needs, range-none (peopledBy (processesOf (a .ps .now)) (a .peopled .now)) 0)
+    (search needs, range-none (threadedBy (processesOf (a .ps .now)) (a .threaded .now)) 0)
 
 returns : tie.Need-returns Inv-loop μ-loop
 returns c =
     let l = c .before .before .before in
     let a = l .before .before .before .args in
-    let f = peopledBy (processesOf (a .ps .now)) (a .peopled .now) in
+    let f = threadedBy (processesOf (a .ps .now)) (a .threaded .now) in
     sym (range-fails f 0 processPlaces (l .loop .i) (omega arith)
     (ap f (zero-add (l .loop .i))
-    ∙ sym (c .before .is-peopled .ensures) ∙ not-true (c .before .is-peopled .result) (c .if1 .taken)))
+    ∙ sym (c .before .has-thread .ensures) ∙ not-true (c .before .has-thread .result) (c .if1 .taken)))
 
 loop-again : tie.Need-loop-again Inv-loop μ-loop
 loop-again c =
     let l = c .before .before .before in
     let a = l .before .before .before .args in
-    let f = peopledBy (processesOf (a .ps .now)) (a .peopled .now) in (
+    let f = threadedBy (processesOf (a .ps .now)) (a .threaded .now) in (
       omega arith,
       range-more f 0 (l .loop .i) (l .loop .inv .1)
           (ap f (zero-add (l .loop .i))
-          ∙ sym (c .before .is-peopled .ensures) ∙ not-false (c .before .is-peopled .result) (c .if1 .left)),
+          ∙ sym (c .before .has-thread .ensures) ∙ not-false (c .before .has-thread .result) (c .if1 .left)),
     )
 
 returns-2 : tie.Need-returns-2 Inv-loop μ-loop
 returns-2 c =
     let a = c .before .before .before .before .args in
     let e : c .before .loop .i ≡ processPlaces = omega arith in
-    sym (ap (λ k. all (peopledBy (processesOf (a .ps .now)) (a .peopled .now)) (range 0 k)) (sym e)
+    sym (ap (λ k. all (threadedBy (processesOf (a .ps .now)) (a .threaded .now)) (range 0 k)) (sym e)
     ∙ c .before .loop .inv .1)
 
-pub all-peopled-spec : {M : Type 1} → statement M
-all-peopled-spec =
+pub all-have-threads-spec : {M : Type 1} → statement M
+all-have-threads-spec =
     tie.close
     (tie.spec
     Inv-loop
