@@ -20,7 +20,8 @@ use Rattle.rules.proofs.Ids.{one-held, distinct-held, told-apart}
 use Rattle.rules.proofs.ClausesByTable.{Lengths, lengths-of}
 use Rattle.rules.proofs.ClausesByPlace.{OwnProcess, GoodProcess, GoodThread, Good, HaveThreads, good, have-threads}
 use Rattle.rules.proofs.ClausesByPlace.{good-sound}
-use Rattle.soundness.specs.Check.{processOkAt, processesOk, threadOkAt, threadsOk, hasThreadAt, haveThreads, placesOk}
+use Rattle.soundness.specs.Check.{processOkAt, processesOk, threadOkAt, threadsOk, hasThreadAt}
+use Rattle.soundness.specs.Check.{haveThreads, placesOk}
 use Rattle.soundness.specs.Check.{threadRecordsOk, processRecordsOk, recordsOk, checked}
 use Rattle.soundness.proofs.Places.{process-own, process-told, process-ok, thread-good, thread-told, thread-ok}
 use Rattle.soundness.proofs.Records.{Tells, GoodRecords, thread-records, process-records, within-limit}
