@@ -22,7 +22,8 @@ abbrev Inv-loop : tie.InvT-loop
 Inv-loop ps ts ph th ignored owners₀ threaded₀ i₀ owners threaded i =
     (i ≤ threadPlaces) × (((length owners ≡ length owners₀) × (length threaded ≡ length threaded₀))
     × ((all (threadOkAt (threadBy th ts) (processesOf ps) (threadsOf ts)) (range 0 i) ≡ true)
-    × (OwnersNoted (processesOf ps) (threadsOf ts) i owners × ThreadedNoted (processesOf ps) (threadsOf ts) i threaded)))
+    × (OwnersNoted (processesOf ps) (threadsOf ts) i owners
+    × ThreadedNoted (processesOf ps) (threadsOf ts) i threaded)))
 
 abbrev μ-loop : tie.MeasureT-loop
 μ-loop ps ts ph th ignored owners₀ threaded₀ i₀ owners threaded i = threadPlaces - i
