@@ -21,7 +21,7 @@ use contract.Running.{givenOf, tables, tablesOf}
 use types.Kit.{Given, Item, Sq, runs, atRet, ‵, raw, _⊛_, ⋆, _$_, _∵_, !, qed, by, move, keep, drop, group, use0, use1}
 use types.Kit.{use2, split, join, rewrite, fsplit, fjoin, suffices, frame, done}
 use types.Part.{whole as part, sub, look-in}
-use types.Run.{look, init, forget, stop, fld, from, load, lit, and-then, no-more, of-opd, bin, assigns, first, branches}
+use types.Run.{look, init, forget, stop, fld, from, load, and-then, no-more, of-opd, bin, assigns, first, branches}
 use types.Run.{skips, exec, land, returns, returns-within, enter, alloc1, alloc0, params1, pass1, pass0}
 use types.Tokens.{lft-new, lft-end}
 use sound.WpLaws.{FmC, fmOf}
@@ -51,7 +51,7 @@ use Rattle.threads.proofs.load_words.Met as ld-thm
 use Rattle.rrezhbuta.proofs.Lends.{elem, slice, table, word}
 use Rattle.rrezhbuta.proofs.Lengths.{no-look}
 use Rattle.rrezhbuta.proofs.Load.{table-room, Load, loads-shared}
-use Rattle.threads.proofs.Walk.{is-yes, Cell, spare, holds, slots, cells, frees-all, copied, Numbers, numbers}
+use Rattle.threads.proofs.Walk.{is-yes, Cell, spare, holds, slots, cells, frees-all, copied, constant, Numbers, numbers}
 use Rattle.threads.proofs.Walk.{slices-array, past, Truths, truths, Its, ends-by, meets-by, calls-by}
 use Rattle.rrezhbuta.proofs.no_part as np
 use Rattle.rrezhbuta.proofs.no_part.Symbol as np-def
@@ -202,14 +202,14 @@ module _ {M : Type 1} (𝓤 : URA M) (H : Heap 𝓤) (A : Atoms 𝓤) (W : Given
       looks : length (ts .now) ≡ threadPlaces → Sq W Ready (runs C Λ En mir.t-4 (atRet En Post))
       looks all =
           move ! (21 ∷ []) $ zeroes-array ! refl (λ xs long.
-          slices-array ! 14 12 tt refl refl refl refl refl refl $
+          slices-array ! 14 12 threadTable (refl, tt) refl refl refl refl refl refl $
           -- [the array; ps's, the buffers' and ts's tokens; ps; tb; pb; ts; the locals]
           move ! (3 ∷ 7 ∷ 0 ∷ []) $
           loads-shared ! fm mem run known-load κ₃ q₃ ts l₆ xs all long
           (λ i j. and-then ! (copied ! 24 refl) (and-then ! (copied ! 11 refl) (no-more !))) (λ w unit.
           land ! (from ! (stop !)) (init ! 15 refl (nothing-lawful 𝓤 H A W .typed tt (w ∷ []) unit .0)) $
           forget ! 15 refl $ forget ! 13 refl $ forget ! 11 refl $
-          slices-array ! 9 7 tt refl refl refl refl refl refl $
+          slices-array ! 9 7 threadTable (refl, tt) refl refl refl refl refl refl $
           rewrite ! 7 (λ (n : ℕ). ‵ (fat fullShare (slice erased imm (tyInt w64)) l₁₃ 0 (sliceVal (l₆, 0) n)))
           (sym (table-long (ts .now) all)) refl $
           lft-new ! tt (λ ν. move ! (2 ∷ []) $
@@ -239,7 +239,8 @@ module _ {M : Type 1} (𝓤 : URA M) (H : Heap 𝓤) (A : Atoms 𝓤) (W : Given
       begins =
           assigns ! (of-opd ! (load ! (from ! (fld ! refl (stop !))) (look-in ! 25 (sub ! 1 refl (part !)))))
           (from ! (stop !)) (init ! 19 refl (tt, record { fits = g₄ .0 })) $
-          assigns ! (bin ! (copied ! 19 refl) (lit ! tt) tt) (from ! (stop !)) (init ! 17 refl (tt, tt)) $
+          assigns ! (bin ! (copied ! 19 refl) (constant ! threadPlaces (refl, tt)) tt)
+          (from ! (stop !)) (init ! 17 refl (tt, tt)) $
           first ! $ branches ! (copied ! 17 refl)
           (λ other. move ! (1 ∷ 4 ∷ []) $ use2 W (raw (None 𝓤 H A mem run .pre to-none)) asks-none $
           calls-by ! fm np.ended (np.clauses 𝓤 H A mem run) known-none to-none (λ r zs. length (now r) ≡ 0)

@@ -49,9 +49,9 @@ use Rattle.rrezhbuta.specs.Entry.{rowAfter}
 use Rattle.threads.proofs.Lent.{at-list, lends-row, row-back, shares-row, shared-row-back}
 use Rattle.threads.proofs.Slot.{zeroes-array, closes-array}
 use Rattle.threads.proofs.Words.{table-long}
-use Rattle.threads.proofs.Walk.{is-yes, Cell, spare, holds, slots, cells, frees-all, copied, reborrows, slices-array}
-use Rattle.threads.proofs.Walk.{past, figures, words, Numbers, Small, numbers, spelled, told, are-small, Truths, truths}
-use Rattle.threads.proofs.Walk.{Its, ends-by, meets-by, calls-by, calls-by-last}
+use Rattle.threads.proofs.Walk.{is-yes, Cell, spare, holds, slots, cells, frees-all, copied, constant, reborrows}
+use Rattle.threads.proofs.Walk.{slices-array, past, figures, words, Numbers, Small, numbers, spelled, told, are-small}
+use Rattle.threads.proofs.Walk.{Truths, truths, Its, ends-by, meets-by, calls-by, calls-by-last}
 use Rattle.threads.proofs.Thread as T
 use Rattle.threads.proofs.load_words as ld
 use Rattle.threads.proofs.load_words.Symbol as ld-def
@@ -284,7 +284,7 @@ module _ {M : Type 1} (𝓤 : URA M) (H : Heap 𝓤) (A : Atoms 𝓤) (W : Given
           assigns ! (bin ! (copied ! 49 refl) (lit ! tt) tt) (from ! (stop !)) (init ! 45 refl (tt, tt)) $
           first ! $ branches ! (copied ! 45 refl)
           (λ zero. reborrows ! 72 11 9 (L .ts .room .0) refl refl refl refl refl refl refl refl $
-          slices-array ! 7 5 tt refl refl refl refl refl refl $
+          slices-array ! 7 5 threadTable (refl, tt) refl refl refl refl refl refl $
           rewrite ! 5 (λ (n : ℕ). ‵ (fat fullShare (slice erased imm (tyInt w64)) l₃₉ 0 (sliceVal (l₁₆, 0) n)))
           (sym long) refl $
           lft-new ! tt (λ ν. move ! (2 ∷ []) $
@@ -320,7 +320,7 @@ module _ {M : Type 1} (𝓤 : URA M) (H : Heap 𝓤) (A : Atoms 𝓤) (W : Given
           (runs C Λ En mir.t-10 (atRet En Post))
       serves all =
           reborrows ! 80 33 31 (L .ps .room .0) refl refl refl refl refl refl refl refl $
-          slices-array ! 29 27 tt refl refl refl refl refl refl $
+          slices-array ! 29 27 threadTable (refl, tt) refl refl refl refl refl refl $
           reborrows ! 78 25 23 (L .tb .room .0) refl refl refl refl refl refl refl refl $
           reborrows ! 76 21 19 (L .pb .room .0) refl refl refl refl refl refl refl refl $
           reborrows ! 74 17 15 (L .out .room .0) refl refl refl refl refl refl refl refl $
@@ -364,7 +364,7 @@ module _ {M : Type 1} (𝓤 : URA M) (H : Heap 𝓤) (A : Atoms 𝓤) (W : Given
       loads all =
           move ! (50 ∷ []) $ zeroes-array ! refl (λ xs long.
           reborrows ! 72 41 39 (L .ts .room .0) refl refl refl refl refl refl refl refl $
-          slices-array ! 37 35 tt refl refl refl refl refl refl $
+          slices-array ! 37 35 threadTable (refl, tt) refl refl refl refl refl refl $
           move ! (4 ∷ 2 ∷ 0 ∷ []) $
           loads-lent ! fm mem run known-load (L .ts) l₁₆ xs all long
           (λ i j k. and-then ! (copied ! 39 refl) (and-then ! (copied ! 35 refl) (no-more !))) (λ w unit.
@@ -377,7 +377,8 @@ module _ {M : Type 1} (𝓤 : URA M) (H : Heap 𝓤) (A : Atoms 𝓤) (W : Given
       begins =
           assigns ! (of-opd ! (load ! (from ! (fld ! refl (stop !))) (look-in ! 70 (sub ! 1 refl (part !)))))
           (from ! (stop !)) (init ! 44 refl (tt, record { fits = L .ts .room .0 })) $
-          assigns ! (bin ! (copied ! 44 refl) (lit ! tt) tt) (from ! (stop !)) (init ! 42 refl (tt, tt)) $
+          assigns ! (bin ! (copied ! 44 refl) (constant ! threadPlaces (refl, tt)) tt)
+          (from ! (stop !)) (init ! 42 refl (tt, tt)) $
           first ! $ branches ! (copied ! 42 refl)
           (λ other. assigns ! (un ! (lit ! tt) (record { fits = lit< tt })) (from ! (stop !))
           (init ! 80 refl (tt, record { fits = lit< tt })) $

@@ -52,7 +52,7 @@ use Rattle.threads.proofs.load_words.Met as ld-thm
 use Rattle.rrezhbuta.proofs.Lends.{elem, slice, table, word}
 use Rattle.rrezhbuta.proofs.Lengths.{no-slot}
 use Rattle.rrezhbuta.proofs.Load.{table-room, Load, loads-shared}
-use Rattle.threads.proofs.Walk.{is-yes, Cell, spare, holds, slots, cells, frees-all, copied, Numbers, numbers}
+use Rattle.threads.proofs.Walk.{is-yes, Cell, spare, holds, slots, cells, frees-all, copied, constant, Numbers, numbers}
 use Rattle.threads.proofs.Walk.{slices-array, past, Truths, truths, Its, ends-by, meets-by, calls-by}
 use Rattle.looking.specs.Looks.{lookSlot}
 use Rattle.looking.proofs.look_slot as sl
@@ -186,14 +186,14 @@ module _ {M : Type 1} (𝓤 : URA M) (H : Heap 𝓤) (A : Atoms 𝓤) (W : Given
       looks : length (ts .now) ≡ threadPlaces → Sq W Ready (runs C Λ En mir.t-4 (atRet En Post))
       looks all =
           move ! (22 ∷ []) $ zeroes-array ! refl (λ xs long.
-          slices-array ! 15 13 tt refl refl refl refl refl refl $
+          slices-array ! 15 13 threadTable (refl, tt) refl refl refl refl refl refl $
           -- [the array; ps's, tb's, pb's and ts's tokens; ps; tb; pb; ts; the locals]
           move ! (4 ∷ 8 ∷ 0 ∷ []) $
           loads-shared ! fm mem run known-load κ₄ q₄ ts l₆ xs all long
           (λ i j. and-then ! (copied ! 25 refl) (and-then ! (copied ! 12 refl) (no-more !))) (λ w unit.
           land ! (from ! (stop !)) (init ! 16 refl (nothing-lawful 𝓤 H A W .typed tt (w ∷ []) unit .0)) $
           forget ! 16 refl $ forget ! 14 refl $ forget ! 12 refl $
-          slices-array ! 10 8 tt refl refl refl refl refl refl $
+          slices-array ! 10 8 threadTable (refl, tt) refl refl refl refl refl refl $
           rewrite ! 8 (λ (n : ℕ). ‵ (fat fullShare (slice erased imm (tyInt w64)) l₁₃ 0 (sliceVal (l₆, 0) n)))
           (sym (table-long (ts .now) all)) refl $
           lft-new ! tt (λ ν. move ! (2 ∷ []) $
@@ -226,7 +226,8 @@ module _ {M : Type 1} (𝓤 : URA M) (H : Heap 𝓤) (A : Atoms 𝓤) (W : Given
       begins =
           assigns ! (of-opd ! (load ! (from ! (fld ! refl (stop !))) (look-in ! 26 (sub ! 1 refl (part !)))))
           (from ! (stop !)) (init ! 20 refl (tt, record { fits = g₄ .0 })) $
-          assigns ! (bin ! (copied ! 20 refl) (lit ! tt) tt) (from ! (stop !)) (init ! 18 refl (tt, tt)) $
+          assigns ! (bin ! (copied ! 20 refl) (constant ! threadPlaces (refl, tt)) tt)
+          (from ! (stop !)) (init ! 18 refl (tt, tt)) $
           first ! $ branches ! (copied ! 18 refl)
           (λ other. assigns ! (of-opd ! (lit ! tt)) (from ! (stop !)) (init ! 34 refl (tt, record { fits = lit< tt })) $
           returns-within ! Post refl (look ! 34 refl) $ forget ! 34 refl $ forget ! 20 refl $ forget ! 18 refl $

@@ -50,8 +50,8 @@ use Rattle.threads.specs.declared.Thread.{Thread}
 use Rattle.threads.proofs.Size.{recordSize, near-full}
 use Rattle.threads.proofs.Turns.{Upto, Nearer, Nearer-wf, fits, next, nearer, tested}
 use Rattle.threads.proofs.Lent.{at-list, lends-row, row-back, resolves}
-use Rattle.threads.proofs.Walk.{Cell, spare, holds, slots, cells, frees-all, copied, reborrows, Its, ends-by}
-use Rattle.threads.proofs.Walk.{meets-by, calls-by}
+use Rattle.threads.proofs.Walk.{Cell, spare, holds, slots, cells, frees-all, copied, constant, reborrows, Its}
+use Rattle.threads.proofs.Walk.{ends-by, meets-by, calls-by}
 use Rattle.threads.proofs.Words.{table-long, written, written-long, written-none, written-suc, written-all}
 use Rattle.threads.proofs.Thread as T
 use Rattle.threads.proofs.Thread.Laws as T′
@@ -181,7 +181,8 @@ module _ {M : Type 1} (𝓤 : URA M) (H : Heap 𝓤) (A : Atoms 𝓤) (W : Given
           → Sq W (At i) (runs C Λ En mir.turn-1 (anyQ (Turned i)))
       unfolding afterTurn
       writes i e l =
-          assigns ! (bin ! (copied ! 20 refl) (lit ! tt) tt) (from ! (stop !)) (init ! 18 refl (tt, tt)) $
+          assigns ! (bin ! (copied ! 20 refl) (constant ! threadPlaces (refl, tt)) tt)
+          (from ! (stop !)) (init ! 18 refl (tt, tt)) $
           rewrite ! 18 (λ (t : Bool). ‵ (fat fullShare tyBool l₄ 0 (vbool t))) e refl $
           stays ! (copied ! 18 refl) $
           reborrows ! 22 14 12 (gd .0) refl refl refl refl refl refl refl refl $
@@ -226,7 +227,8 @@ module _ {M : Type 1} (𝓤 : URA M) (H : Heap 𝓤) (A : Atoms 𝓤) (W : Given
           → Sq W (At i) (runs C Λ En mir.turn-1 (anyQ (Turned i)))
       unfolding afterTurn
       ends i e last =
-          assigns ! (bin ! (copied ! 20 refl) (lit ! tt) tt) (from ! (stop !)) (init ! 18 refl (tt, tt)) $
+          assigns ! (bin ! (copied ! 20 refl) (constant ! threadPlaces (refl, tt)) tt)
+          (from ! (stop !)) (init ! 18 refl (tt, tt)) $
           rewrite ! 18 (λ (t : Bool). ‵ (fat fullShare tyBool l₄ 0 (vbool t))) e refl $
           leaves-loop ! (copied ! 18 refl) $ exec ! C Λ En mir.t-3 (atRet En Post) $
           shuts-slice ! tt T.the-row q′ ys b o $ move ! (1 ∷ 2 ∷ 3 ∷ 4 ∷ []) $

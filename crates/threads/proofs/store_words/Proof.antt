@@ -50,8 +50,8 @@ use Rattle.threads.specs.declared.Thread.{Thread}
 use Rattle.threads.proofs.Size.{recordSize, near-full}
 use Rattle.threads.proofs.Turns.{Upto, Nearer, Nearer-wf, fits, next, nearer, tested}
 use Rattle.threads.proofs.Lent.{at-list, resolves}
-use Rattle.threads.proofs.Walk.{Cell, spare, holds, slots, cells, frees-all, copied, is-yes, Its, ends-by}
-use Rattle.threads.proofs.Walk.{meets-by, calls-by}
+use Rattle.threads.proofs.Walk.{Cell, spare, holds, slots, cells, frees-all, copied, constant, is-yes, Its}
+use Rattle.threads.proofs.Walk.{ends-by, meets-by, calls-by}
 use Rattle.threads.proofs.Filled.{filled, filled-suc, filled-same, filled-long, filled-all}
 use Rattle.threads.proofs.Words.{records-long, same-is}
 use Rattle.threads.proofs.Thread as T
@@ -213,7 +213,8 @@ module _ {M : Type 1} (𝓤 : URA M) (H : Heap 𝓤) (A : Atoms 𝓤) (W : Given
           → Sq W (At i) (runs C Λ En mir.turn-1 (anyQ (Turned i)))
       unfolding afterTurn
       stores i e l =
-          assigns ! (bin ! (copied ! 22 refl) (lit ! tt) tt) (from ! (stop !)) (init ! 18 refl (tt, tt)) $
+          assigns ! (bin ! (copied ! 22 refl) (constant ! threadPlaces (refl, tt)) tt)
+          (from ! (stop !)) (init ! 18 refl (tt, tt)) $
           rewrite ! 18 (λ (t : Bool). ‵ (fat fullShare tyBool l₅ 0 (vbool t))) e refl $
           stays ! (copied ! 18 refl) $ forget ! 18 refl $
           -- the record of the words
@@ -295,7 +296,8 @@ module _ {M : Type 1} (𝓤 : URA M) (H : Heap 𝓤) (A : Atoms 𝓤) (W : Given
           → Sq W (At i) (runs C Λ En mir.turn-1 (anyQ (Turned i)))
       unfolding afterTurn
       ends i e last =
-          assigns ! (bin ! (copied ! 22 refl) (lit ! tt) tt) (from ! (stop !)) (init ! 18 refl (tt, tt)) $
+          assigns ! (bin ! (copied ! 22 refl) (constant ! threadPlaces (refl, tt)) tt)
+          (from ! (stop !)) (init ! 18 refl (tt, tt)) $
           rewrite ! 18 (λ (t : Bool). ‵ (fat fullShare tyBool l₅ 0 (vbool t))) e refl $
           leaves-loop ! (copied ! 18 refl) $ exec ! C Λ En mir.t-3 (atRet En Post) $
           rewrite ! 0 (λ (xs : List Thread). ‵ (row T.the-row fullShare xs b o))
