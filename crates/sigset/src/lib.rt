@@ -1,6 +1,6 @@
 // Signal sets. Signal s, from 1 to 64, is bit s - 1.
 ghost use mathlib.Core.Path.{_≡_};
-ghost use Rattle.sigset.specs.Set.{has, union, without, intersect, maskable, ofSignal, lowest};
+ghost use Rattle.sigset.specs.Set.{has, union, without, intersect, maskable, ofSignal, lowest, bits};
 use limits::SIGKILL;
 use limits::SIGNALS;
 use limits::SIGSTOP;
@@ -68,13 +68,17 @@ impl SigSet {
     pub fn lowest(a: SigSet) -> u32
         ensures { λ r. ⌜ r ≡ lowest a ⌝ }
     {
-        let mut s: u32 = 1;
-        while s <= SIGNALS {
-            if SigSet::has(a, s) {
-                return s;
-            }
-            s += 1;
+        if a.0 == 0 {
+            return 0;
         }
-        0
+        u64::trailing_zeros(a.0) + 1
     }
+}
+
+// The same for a host that links it, and for what it is measured by.
+#[no_mangle]
+pub extern "C" fn rrezhbuta_lowest(set: u64) -> u32
+    ensures { λ r. ⌜ r ≡ lowest (bits set) ⌝ }
+{
+    SigSet::lowest(SigSet(set))
 }
