@@ -18,8 +18,8 @@ pub fn proved(set: u64) -> u32 {
     unsafe { rrezhbuta_lowest(set) }
 }
 
-/// The same by a loop up from 1; a call like the library's, so never inlined. Written with `while` it takes half as long
-/// again, since the compiler then tests many signals at once.
+/// The same by a loop up from 1; a call like the library's, so never inlined. Written with `while` it takes half as
+/// long again, since the compiler then tests many signals at once.
 #[inline(never)]
 pub fn by_loop(set: u64) -> u32 {
     let found = (1..=SIGNALS).find(|s| (set >> (s - 1)) % 2 == 1);
