@@ -274,6 +274,10 @@ and-is = op-is bitAnd _&&_ and-shr and-mod and-lt one
     one false true = refl
     one false false = refl
 
+-- the digits above the lowest are those of the half
+pub shr-half : (x k : ℕ) → x / 2 ^ suc k ≡ x / 2 / 2 ^ k
+shr-half x k = ap (λ (j : ℕ). x / 2 ^ j) (sym (one-add k)) ∙ sym (shr-shr x 1 k)
+
 -- the digits of the complement
 flip : (n k b : ℕ) → k < n → b < 2 ^ n → ((2 ^ n - 1) - b) / 2 ^ k % 2 ≡ 1 - b / 2 ^ k % 2
 flip zero k b h l = absurd (not-suc-le-zero h)
@@ -281,11 +285,9 @@ flip (suc n) zero b h l = let e = pow-suc 2 n in omega arith
 flip (suc n) (suc k) b h l =
     let e = pow-suc 2 n in
     let half : ((2 ^ suc n - 1) - b) / 2 ≡ (2 ^ n - 1) - b / 2 = omega (arith, pow-pos n) in
-    let over : (x : ℕ) → x / 2 ^ suc k ≡ x / 2 / 2 ^ k =
-    λ x. ap (λ (j : ℕ). x / 2 ^ j) (sym (one-add k)) ∙ sym (shr-shr x 1 k) in
-    ap (λ (x : ℕ). x % 2) (over ((2 ^ suc n - 1) - b)) ∙ ap (λ (x : ℕ). x / 2 ^ k % 2) half
+    ap (λ (x : ℕ). x % 2) (shr-half ((2 ^ suc n - 1) - b) k) ∙ ap (λ (x : ℕ). x / 2 ^ k % 2) half
     ∙ flip n k (b / 2) (omega arith) (omega arith)
-    ∙ ap (λ (x : ℕ). 1 - x % 2) (sym (over b))
+    ∙ ap (λ (x : ℕ). 1 - x % 2) (sym (shr-half b k))
 
 flip-bit : (b : Bool) → eqb (1 - cond b 1 0) 1 ≡ not b
 flip-bit true = refl

@@ -3,19 +3,14 @@ use mathlib.Core.Path.{_≡_, refl, sym, ap, _∙_}
 use mathlib.Core.Bool.{false}
 use Prim.Native.Nat.{ℕ, zero, suc, _+_, _/_, _%_, _^_, _≤_, _<_}
 use native.Mathlib.Nat.{pow-suc, not-suc-le-zero, le-of-suc-le-suc}
-use native.Mathlib.Numerals.{one-add, add-one}
+use native.Mathlib.Numerals.{add-one}
 use native.Mathlib.Omega.{arith}
 use lib.Count.{trailingZeros, under}
 use lib.Dec.{eqb}
-use lib.Pow.{shr-shr}
 use Rattle.limits.specs.Limits.{signals}
 use Rattle.sigset.specs.declared.SigSet.{SigSet}
 use Rattle.sigset.specs.Set.{bits, has, lowest}
-use Rattle.sigset.proofs.Laws.{has-empty, lowest-is, lowest-none}
-
--- the digit above the lowest is one of the half
-digit-up : (n k : ℕ) → n / 2 ^ suc k % 2 ≡ n / 2 / 2 ^ k % 2
-digit-up n k = ap (λ (j : ℕ). n / 2 ^ j % 2) (sym (one-add k)) ∙ ap (λ (x : ℕ). x % 2) (sym (shr-shr n 1 k))
+use Rattle.sigset.proofs.Laws.{shr-half, has-empty, lowest-is, lowest-none}
 
 -- a number that is not 0 has a digit above its trailing zeros
 trailing-lt : (d n : ℕ) → 1 ≤ n → n < 2 ^ d → trailingZeros d n < d
@@ -36,7 +31,7 @@ trailing-digit (suc d) n h l = go (n % 2) refl (λ m g. trailing-digit d (n / 2)
   where
     go : (r : ℕ) → n % 2 ≡ r → (1 ≤ n / 2 → n / 2 < 2 ^ d → n / 2 / 2 ^ trailingZeros d (n / 2) % 2 ≡ 1)
         → n / 2 ^ under r (trailingZeros d (n / 2)) % 2 ≡ 1
-    go zero e ih = let p = pow-suc 2 d in digit-up n (trailingZeros d (n / 2)) ∙ ih (omega arith) (omega arith)
+    go zero e ih = let p = pow-suc 2 d in ap (λ (x : ℕ). x % 2) (shr-half n (trailingZeros d (n / 2))) ∙ ih (omega arith) (omega arith)
     go (suc r) e ih = omega arith
 
 -- and none below it is
@@ -48,7 +43,7 @@ trailing-below (suc d) n k h = go (n % 2) refl k h (λ j g. trailing-below d (n 
     go : (r : ℕ) → n % 2 ≡ r → (k : ℕ) → k < under r (trailingZeros d (n / 2))
         → ((j : ℕ) → j < trailingZeros d (n / 2) → n / 2 / 2 ^ j % 2 ≡ 0) → n / 2 ^ k % 2 ≡ 0
     go zero e zero g ih = omega arith
-    go zero e (suc k) g ih = digit-up n k ∙ ih k (omega arith)
+    go zero e (suc k) g ih = ap (λ (x : ℕ). x % 2) (shr-half n k) ∙ ih k (omega arith)
     go (suc r) e k g ih = absurd (not-suc-le-zero g)
 
 -- `trailing_zeros(a) + 1`

@@ -75,7 +75,7 @@ impl SigSet {
     }
 }
 
-// The same for a host that links it, and for what it is measured by.
+// The same for a host that links it.
 #[no_mangle]
 pub extern "C" fn rrezhbuta_lowest(set: u64) -> u32
     ensures { λ r. ⌜ r ≡ lowest (bits set) ⌝ }

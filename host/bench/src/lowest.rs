@@ -1,5 +1,6 @@
 //! The lowest member of a signal set: the proved function, which counts trailing zeros, against a loop up from 1.
 
+use crate::timing::in_turn;
 use rrezhbuta_compare::random::Random;
 use std::hint::black_box;
 use std::time::{Duration, Instant};
@@ -43,22 +44,11 @@ pub struct Times {
     pub by_loop: f64,
 }
 
-/// Times all sets on both sides, which take turns at going first.
+/// Times all sets on both sides.
 pub fn time(sets: &[u64], rounds: usize) -> Times {
-    let (mut ours, mut theirs) = (vec![], vec![]);
-    for round in 0..rounds {
-        if round % 2 == 0 {
-            ours.push(time_proved(sets));
-            theirs.push(time_loop(sets));
-        } else {
-            theirs.push(time_loop(sets));
-            ours.push(time_proved(sets));
-        }
-    }
-    Times {
-        proved: median(ours, sets.len()),
-        by_loop: median(theirs, sets.len()),
-    }
+    let [proved, by_loop] = in_turn(rounds, || time_proved(sets), || time_loop(sets))
+        .map(|seconds| seconds * 1e9 / sets.len() as f64);
+    Times { proved, by_loop }
 }
 
 fn time_proved(sets: &[u64]) -> Duration {
@@ -75,9 +65,4 @@ fn time_loop(sets: &[u64]) -> Duration {
         black_box(by_loop(black_box(set)));
     }
     began.elapsed()
-}
-
-fn median(mut times: Vec<Duration>, sets: usize) -> f64 {
-    times.sort();
-    times[times.len() / 2].as_secs_f64() * 1e9 / sets as f64
 }

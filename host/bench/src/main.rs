@@ -1,6 +1,6 @@
 //! Prints what each kind of call and a mix of them takes on half full tables: `bench [ROUNDS]`.
 
-use rrezhbuta_bench::timing::{accepted, time};
+use rrezhbuta_bench::timing::{accepted, rounds_asked, time};
 use rrezhbuta_bench::work::{all, half_full};
 use rrezhbuta_model::{BUFFER_RECORDS, PROCESS_PLACES, THREAD_PLACES};
 use std::process::ExitCode;
@@ -8,13 +8,9 @@ use std::process::ExitCode;
 const ROUNDS: usize = 400;
 
 fn main() -> ExitCode {
-    let rounds = match std::env::args().nth(1).map(|n| n.parse()) {
-        None => ROUNDS,
-        Some(Ok(rounds)) if rounds > 0 => rounds,
-        Some(_) => {
-            eprintln!("usage: bench [ROUNDS]");
-            return ExitCode::from(2);
-        }
+    let Some(rounds) = rounds_asked(ROUNDS) else {
+        eprintln!("usage: bench [ROUNDS]");
+        return ExitCode::from(2);
     };
     let start = half_full();
     println!(

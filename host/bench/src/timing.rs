@@ -37,24 +37,44 @@ pub fn accepted(start: &Model, batch: &Batch) -> usize {
     told.filter(Result::is_ok).count()
 }
 
-/// Times the batch on both sides, which take turns at going first.
-pub fn time(start: &Model, batch: &Batch, rounds: usize) -> Times {
-    let tables = tables_of(start);
-    let (mut proved, mut model) = (vec![], vec![]);
+/// How often both sides are timed: the program's one argument, else the number given. None where it is no number.
+pub fn rounds_asked(unless: usize) -> Option<usize> {
+    match std::env::args().nth(1) {
+        None => Some(unless),
+        Some(n) => n.parse().ok().filter(|&rounds| rounds > 0),
+    }
+}
+
+/// Times two sides so many rounds, which take turns at going first: the median of each, in seconds.
+pub fn in_turn(
+    rounds: usize,
+    ours: impl Fn() -> Duration,
+    theirs: impl Fn() -> Duration,
+) -> [f64; 2] {
+    let mut times = [vec![], vec![]];
     for round in 0..rounds {
-        if round % 2 == 0 {
-            proved.push(time_library(&tables, batch));
-            model.push(time_model(start, batch));
-        } else {
-            model.push(time_model(start, batch));
-            proved.push(time_library(&tables, batch));
+        for side in [round % 2, 1 - round % 2] {
+            times[side].push(if side == 0 { ours() } else { theirs() });
         }
     }
-    let calls = batch.calls.len();
-    Times {
-        proved: median(proved, calls),
-        model: median(model, calls),
-    }
+    times.map(median)
+}
+
+fn median(mut times: Vec<Duration>) -> f64 {
+    times.sort();
+    times[times.len() / 2].as_secs_f64()
+}
+
+/// Times the batch on both sides.
+pub fn time(start: &Model, batch: &Batch, rounds: usize) -> Times {
+    let tables = tables_of(start);
+    let [proved, model] = in_turn(
+        rounds,
+        || time_library(&tables, batch),
+        || time_model(start, batch),
+    )
+    .map(|seconds| seconds * 1e6 / batch.calls.len() as f64);
+    Times { proved, model }
 }
 
 fn time_library(start: &Tables<'_>, batch: &Batch) -> Duration {
@@ -97,10 +117,4 @@ pub fn make(start: &Model, batch: &Batch, on_library: bool) {
     } else {
         time_model(start, batch);
     }
-}
-
-/// The median of a call, in microseconds.
-fn median(mut times: Vec<Duration>, calls: usize) -> f64 {
-    times.sort();
-    times[times.len() / 2].as_secs_f64() * 1e6 / calls as f64
 }

@@ -1,6 +1,7 @@
 //! Prints what the lowest member of a set takes, on a million random sets of one signal: `lowest [ROUNDS]`.
 
 use rrezhbuta_bench::lowest::{sets_of_one, time};
+use rrezhbuta_bench::timing::rounds_asked;
 use std::process::ExitCode;
 
 const SETS: usize = 1_000_000;
@@ -8,13 +9,9 @@ const ROUNDS: usize = 100;
 const SEED: u64 = 2;
 
 fn main() -> ExitCode {
-    let rounds = match std::env::args().nth(1).map(|n| n.parse()) {
-        None => ROUNDS,
-        Some(Ok(rounds)) if rounds > 0 => rounds,
-        Some(_) => {
-            eprintln!("usage: lowest [ROUNDS]");
-            return ExitCode::from(2);
-        }
+    let Some(rounds) = rounds_asked(ROUNDS) else {
+        eprintln!("usage: lowest [ROUNDS]");
+        return ExitCode::from(2);
     };
     let times = time(&sets_of_one(SETS, SEED), rounds);
     let ratio = times.proved / times.by_loop;
