@@ -31,7 +31,9 @@ trailing-digit (suc d) n h l = go (n % 2) refl (λ m g. trailing-digit d (n / 2)
   where
     go : (r : ℕ) → n % 2 ≡ r → (1 ≤ n / 2 → n / 2 < 2 ^ d → n / 2 / 2 ^ trailingZeros d (n / 2) % 2 ≡ 1)
         → n / 2 ^ under r (trailingZeros d (n / 2)) % 2 ≡ 1
-    go zero e ih = let p = pow-suc 2 d in ap (λ (x : ℕ). x % 2) (shr-half n (trailingZeros d (n / 2))) ∙ ih (omega arith) (omega arith)
+    go zero e ih =
+        let p = pow-suc 2 d in
+        ap (λ (x : ℕ). x % 2) (shr-half n (trailingZeros d (n / 2))) ∙ ih (omega arith) (omega arith)
     go (suc r) e ih = omega arith
 
 -- and none below it is
