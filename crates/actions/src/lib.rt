@@ -2,14 +2,13 @@
 ghost use mathlib.Core.Path.{_≡_};
 ghost use Rattle.rules.specs.Types as call;
 ghost use Rattle.rules.specs.Actions.{stored};
-ghost use Rattle.rules.specs.Refusals.{badAction};
+ghost use Rattle.rules.specs.Refusals.{unstorable, badAction};
 ghost use Rattle.sound.specs.Lent.{before};
 ghost use Rattle.answers.specs.Step.{refusalOn, stepped};
 ghost use Rattle.actions.specs.Given.{newAction};
 use limits::EFAULT;
 use limits::EINVAL;
 use limits::ESRCH;
-use limits::KNOWN_FLAGS;
 use limits::SIGKILL;
 use limits::SIGNALS;
 use limits::SIGSTOP;
@@ -24,24 +23,29 @@ pub enum GivenAction {
     Action(Action),
 }
 
+// No new action is stored for KILL and STOP, and none with an unknown flag.
+fn is_unstorable(signal: u32, new: GivenAction) -> bool
+    ensures { λ r. ⌜ r ≡ unstorable signal (newAction new) ⌝ }
+{
+    match new {
+        GivenAction::NoAction => false,
+        GivenAction::Action(a) => ((signal == SIGKILL) | (signal == SIGSTOP)) | !decide::are_flags_known(a.flags),
+    }
+}
+
 fn is_bad_action(signal: u32, new: GivenAction) -> bool
     ensures { λ r. ⌜ r ≡ badAction signal (newAction new) ⌝ }
 {
-    let given = match new {
-        GivenAction::NoAction => false,
-        GivenAction::Action(_) => true,
-    };
-    let unmaskable = (signal == SIGKILL) | (signal == SIGSTOP);
-    (SIGNALS < signal) | ((signal == 0) | (given & unmaskable))
+    (SIGNALS < signal) | ((signal == 0) | is_unstorable(signal, new))
 }
 
-// What is stored of an action: the known flags, and no KILL and STOP in its mask.
+// What is stored of an action has no KILL and STOP in its mask.
 fn stored_of(a: Action) -> Action
     ensures { λ r. ⌜ r ≡ stored a ⌝ }
 {
     Action {
         handler: a.handler,
-        flags: a.flags & KNOWN_FLAGS,
+        flags: a.flags,
         mask: SigSet::maskable(a.mask),
     }
 }

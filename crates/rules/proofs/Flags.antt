@@ -1,16 +1,15 @@
 -- Flags of which only known bits are left are known flags. Assumes nothing.
 use Prim.Native.Nat.{ℕ, _-_, _/_, _%_, min}
-use mathlib.Core.Path.{_≡_, refl, ap, _∙_}
+use mathlib.Core.Path.{_≡_, refl, _∙_}
 use mathlib.Core.Bool.{true}
 use native.Mathlib.Omega.{arith}
 use native.Mathlib.Nat.{min-le-left}
 use lib.Arith.{bin-ind}
-use lib.Bits.{bitAnd, and-step, and-self}
+use lib.Bits.{bitAnd, and-step}
 use borrow.Author.Tests.{eq-eqb}
 use Rattle.limits.specs.Limits.{knownFlags, saSiginfo}
 use Rattle.types.specs.declared.Action.{Action}
 use Rattle.rules.specs.Sound.{flagsKnown}
-use Rattle.rules.specs.Actions.{stored}
 use Rattle.rules.specs.Taking.{reset}
 
 -- ---- the last bit and the others
@@ -31,17 +30,8 @@ and-assoc a =
     ∙ rw (and-high n b, and-low n b, and-step n (bitAnd b c), and-high b c, and-low b c, ih (b / 2) (c / 2), min-assoc))
     a
 
--- ---- what is stored
-
--- the bits that are left are of the known ones
-known-left : (flags left : ℕ) → bitAnd left knownFlags ≡ left
-    → bitAnd (bitAnd flags left) knownFlags ≡ bitAnd flags left
-known-left flags left e = and-assoc flags left knownFlags ∙ ap (bitAnd flags) e
-
-pub stored-known : (a : Action) → flagsKnown (stored a) ≡ true
-unfolding flagsKnown stored
-stored-known a = eq-eqb _ _ (known-left (a .flags) knownFlags (and-self knownFlags))
+-- ---- what is reset
 
 pub reset-known : (a : Action) → flagsKnown (reset a) ≡ true
 unfolding flagsKnown reset
-reset-known a = eq-eqb _ _ (known-left (a .flags) (knownFlags - saSiginfo) refl)
+reset-known a = eq-eqb _ _ (and-assoc (a .flags) (knownFlags - saSiginfo) knownFlags)

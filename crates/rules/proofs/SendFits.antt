@@ -7,7 +7,7 @@ use mathlib.Core.List.{List, [], _∷_, _++_}
 use mathlib.Core.Option.{Option, some, none}
 use native.Mathlib.Omega.{arith}
 use lib.Dec.{eqb, leb, ltb}
-use borrow.Author.Tests.{eq-eqb, eqb-false, ltb-false, leb-false, lt-ltb, le-leb}
+use borrow.Author.Tests.{eq-eqb, eqb-false, ltb-false, leb-false, lt-ltb, le-leb, not-false}
 use Rattle.limits.specs.Limits.{signals, recordLimit, SIGKILL, SIGCONT, SIGSTOP, siQueue}
 use Rattle.lists.proofs.Bools.{split, clash, and-fst, and-both, cond-true, cond-false, or-both, or-fst-false}
 use Rattle.lists.proofs.Bools.{or-snd-false, imp-by}
@@ -24,13 +24,12 @@ use Rattle.rules.specs.Sound.{unmasked, flagsKnown, nameable, sound}
 use Rattle.rules.specs.Sending.{Generation, testing, killing, stopping, dropping, absorbing, marking, keeping}
 use Rattle.rules.specs.Sending.{absorbs, generation, infoOf, jobControl, sendChanges, needsRecord}
 use Rattle.rules.specs.Actions.{stored, storeChanges, actionChanges, newMask, maskChanges}
-use Rattle.rules.specs.Refusals.{overLast, badAction, badTarget, noRoom}
+use Rattle.rules.specs.Refusals.{overLast, unstorable, badAction, badTarget, noRoom}
 use Rattle.rules.specs.Calls.{send}
 use Rattle.rules.specs.Fitting.{liveQueue, pendsSomewhere, admits, fits, fitsAll}
 use Rattle.rules.proofs.FewerPending.{FewerPending, fewer-refl, fewer-trans, fewer-discard, fewer-stopped}
 use Rattle.rules.proofs.FewerPending.{admits-fewer, append-fewer}
 use Rattle.rules.proofs.DiscardPending.{discard-clears}
-use Rattle.rules.proofs.Flags.{stored-known}
 use Rattle.rules.proofs.Queues.{target-process}
 use Rattle.rules.proofs.Unmaskable.{unmasked-maskable}
 
@@ -214,13 +213,14 @@ store-fits st e p s a l n f m =
 pub action-fits : (st : Store) → sound st ≡ true → (p s : ℕ) (new : Option Action) → badAction s new ≡ false
     → liveProcess (view st) p ≡ true
     → fitsAll (actionChanges p s new) st ≡ true
-unfolding actionChanges badAction fitsAll stored
+unfolding actionChanges badAction unstorable fitsAll stored flagsKnown
 action-fits st e p s none b l = refl
 action-fits st e p s (some a) b l =
     let b1 = or-snd-false (overLast s) _ b in
+    let b2 = or-snd-false (eqb s 0) _ b1 in
     store-fits st e p s (stored a) l
-    (nameable-by s (or-fst-false (eqb s 0) _ b1) (or-fst-false (overLast s) _ b) (or-snd-false (eqb s 0) _ b1))
-    (stored-known a) (unmasked-maskable (a .mask))
+    (nameable-by s (or-fst-false (eqb s 0) _ b1) (or-fst-false (overLast s) _ b) (or-fst-false (isUnmaskable s) _ b2))
+    (not-false (flagsKnown a) (or-snd-false (isUnmaskable s) _ b2)) (unmasked-maskable (a .mask))
 
 -- ---- a mask
 

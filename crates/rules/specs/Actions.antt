@@ -5,7 +5,7 @@ use mathlib.Core.List.{List, [], _∷_}
 use mathlib.Core.Option.{Option, some, none}
 use lib.Bits.{bitAnd}
 use lib.Dec.{eqb}
-use Rattle.limits.specs.Limits.{knownFlags, sigBlock, sigUnblock}
+use Rattle.limits.specs.Limits.{sigBlock, sigUnblock}
 use Rattle.sigset.specs.declared.SigSet.{SigSet}
 use Rattle.sigset.specs.Set.{has, setOf, union, without, maskable, ofSignal}
 use Rattle.types.specs.declared.Action.{Action}
@@ -17,9 +17,9 @@ use Rattle.rules.specs.View.{View, Change, setAction, setMask, discard, 
 unfoldable pub hasFlag : Action → ℕ → Bool
 hasFlag a flag = not (eqb (bitAnd (a .flags) flag) 0)
 
--- "other bits are dropped on storing"; 9 and 19 "are removed from the stored mask"
+-- 9 and 19 "are removed from the stored mask"
 unfoldable pub stored : Action → Action
-stored a = record { handler = a .handler; flags = bitAnd (a .flags) knownFlags; mask = maskable (a .mask) }
+stored a = record { handler = a .handler; flags = a .flags; mask = maskable (a .mask) }
 
 -- "Storing ignore, or default for an ignoring signal, discards that signal from all queues of
 -- the process (POSIX 2.4.3)."

@@ -23,9 +23,9 @@ use Rattle.rules.specs.Taking.{isStopped, canTakeSignal, nextSignal, nex
 use Rattle.rules.specs.Taking.{whoAnswer, taker, markInfo, handlerMask, resets, reset, resetChanges}
 use Rattle.rules.specs.Taking.{outcomeChanges, outcomeAnswer, deliver, delivered, takeChanges, takeAnswer}
 use Rattle.rules.specs.Adding.{addedProcess, addProcessChanges, addThreadChanges, otherThread, endThreadChanges}
-use Rattle.rules.specs.Refusals.{refusal, overLast, badAction, badWay, badId, noProcessLive, noThreadLive}
-use Rattle.rules.specs.Refusals.{badTarget, mayNot, noProcessPlace, noThreadPlace, noRoom, rows, isClear, fault}
-use Rattle.rules.specs.Refusals.{table, refusalOf}
+use Rattle.rules.specs.Refusals.{refusal, overLast, unstorable, badAction, badWay, badId, noProcessLive}
+use Rattle.rules.specs.Refusals.{noThreadLive, badTarget, mayNot, noProcessPlace, noThreadPlace, noRoom, rows}
+use Rattle.rules.specs.Refusals.{isClear, fault, table, refusalOf}
 use Rattle.rules.specs.Machine.{isU32, isU64, machineAction, machineSet, machine}
 use Rattle.rules.specs.Calls.{send, changes, reply, stages, runStages, finish, step, run, isRefused, slotOf}
 use Rattle.rules.specs.Calls.{partOf, lookPart}
@@ -43,8 +43,8 @@ unfolding told all any count find first keep leading dropFirst change replaceFir
     infoOf jobControl sendChanges sendAnswer needsRecord hasFlag stored storeChanges actionChanges newMask maskChanges
     blockedPending isStopped canTakeSignal nextSignal nextQueue nextIn next canTakeSome whoAnswer taker markInfo
     handlerMask resets reset resetChanges outcomeChanges outcomeAnswer deliver delivered takeChanges takeAnswer
-    addedProcess addProcessChanges addThreadChanges otherThread endThreadChanges refusal overLast badAction badWay badId
-    noProcessLive noThreadLive badTarget mayNot noProcessPlace noThreadPlace noRoom rows isClear fault table refusalOf
-    send changes reply stages runStages finish step run isRefused slotOf partOf lookPart isU32 isU64 machineAction
-    machineSet machine
+    addedProcess addProcessChanges addThreadChanges otherThread endThreadChanges refusal overLast unstorable badAction
+    badWay badId noProcessLive noThreadLive badTarget mayNot noProcessPlace noThreadPlace noRoom rows isClear fault
+    table refusalOf send changes reply stages runStages finish step run isRefused slotOf partOf lookPart isU32 isU64
+    machineAction machineSet machine
 computing = tt

@@ -2,7 +2,7 @@
 use Prim.Native.Nat.{ℕ}
 use mathlib.Core.Bool.{Bool, true, false, not, _&&_, _||_, cond}
 use mathlib.Core.List.{List, [], _∷_}
-use mathlib.Core.Option.{Option}
+use mathlib.Core.Option.{Option, some, none}
 use lib.Dec.{eqb, leb, ltb}
 use Rattle.limits.specs.Limits.{signals, recordLimit, EPERM, ESRCH, EAGAIN, EFAULT, EEXIST, EINVAL, sigSetmask}
 use Rattle.lists.specs.Lists.{any, isSome}
@@ -14,7 +14,7 @@ use Rattle.rules.specs.Types.{sigaction, sigmask, sigpending, look, who,
 use Rattle.rules.specs.Types.{queueing, taking, other, kindOf}
 use Rattle.rules.specs.View.{View, targetQueue, liveProcess, liveThread, theProcess, theThread}
 use Rattle.rules.specs.Store.{Store, view, isFreeProcess, isFreeThread}
-use Rattle.rules.specs.Sound.{goodId, lengthsRight, sound}
+use Rattle.rules.specs.Sound.{goodId, flagsKnown, lengthsRight, sound}
 use Rattle.rules.specs.Sending.{maySignal, generation, needsRecord}
 
 -- the errnos in the table's order
@@ -37,9 +37,14 @@ refusal (r ∷ rs) = cond (r .applies) (r .errno) (refusal rs)
 unfoldable pub overLast : ℕ → Bool
 overLast s = ltb signals s
 
--- "signal over 64, or 0 where an action is asked; a new action for 9 or 19"
+-- "a new action for 9 or 19", or one "with a bit we don't know" (request Six)
+unfoldable pub unstorable : ℕ → Option Action → Bool
+unstorable s none = false
+unstorable s (some a) = isUnmaskable s || not (flagsKnown a)
+
+-- "signal over 64, or 0 where an action is asked"
 unfoldable pub badAction : ℕ → Option Action → Bool
-badAction s new = overLast s || (eqb s 0 || (isSome new && isUnmaskable s))
+badAction s new = overLast s || (eqb s 0 || unstorable s new)
 
 -- "with a set given, a way other than 0, 1, 2"
 unfoldable pub badWay : ℕ → Option SigSet → Bool
