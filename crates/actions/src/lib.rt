@@ -29,7 +29,8 @@ fn is_unstorable(signal: u32, new: GivenAction) -> bool
 {
     match new {
         GivenAction::NoAction => false,
-        GivenAction::Action(a) => ((signal == SIGKILL) | (signal == SIGSTOP)) | !decide::are_flags_known(a.flags),
+        GivenAction::Action(a) => ((signal == SIGKILL) | (signal == SIGSTOP))
+            | !decide::are_flags_known(a.flags),
     }
 }
 
