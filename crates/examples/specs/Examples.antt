@@ -31,9 +31,9 @@ called x = x .0
 abbrev answered : Call × Answer → Answer
 answered x = x .1
 
--- the story down the page
-abbrev story : List (Call × Answer)
-story =
+-- the page's lines down to the look's example
+abbrev toTheLook : List (Call × Answer)
+toTheLook =
     -- clear → done
     (clear, done)
     -- add_process id=1 real=0 effective=0 saved=0 session=1 thread=2 mask=0 → done
@@ -106,8 +106,22 @@ story =
     ∷ (sigqueue 1 100 0 2 9, absorbed)
     -- queue by=1 to=100 thread=0 signal=65 value=9 → refused 22
     ∷ (sigqueue 1 100 0 65 9, refused 22)
-    -- action process=100 signal=40 handler=5000 flags=5 mask=2304 → old action handler=0 flags=0 mask=0
-    ∷ (sigaction 100 40 (some (record { handler = 5000; flags = 5; mask = bits 2304 })), oldAction defaultAction)
+    -- action process=100 signal=40 handler=5000 flags=3489660932 mask=0 → old action handler=0 flags=0 mask=0
+    ∷ (
+      sigaction 100 40 (some (record { handler = 5000; flags = 3489660932; mask = empty })),
+      oldAction defaultAction,
+    )
+    -- action process=100 signal=40 handler=5000 flags=4 mask=2304 → old action handler=5000 flags=3489660932 mask=0
+    ∷ (
+      sigaction 100 40 (some (record { handler = 5000; flags = 4; mask = bits 2304 })),
+      oldAction (record { handler = 5000; flags = 3489660932; mask = empty }),
+    )
+    -- action process=100 signal=40 handler=6000 flags=8 mask=0 → refused 22
+    ∷ (sigaction 100 40 (some (record { handler = 6000; flags = 8; mask = empty })), refused 22)
+    -- action process=999 signal=40 handler=6000 flags=8 mask=0 → refused 22
+    ∷ (sigaction 999 40 (some (record { handler = 6000; flags = 8; mask = empty })), refused 22)
+    -- action process=100 signal=40 handler=6000 flags=9223372036854775808 mask=0 → refused 22
+    ∷ (sigaction 100 40 (some (record { handler = 6000; flags = 9223372036854775808; mask = empty })), refused 22)
     -- action process=100 signal=40 → old action handler=5000 flags=4 mask=2048
     ∷ (sigaction 100 40 none, oldAction (record { handler = 5000; flags = 4; mask = bits 2048 }))
     -- action process=100 signal=2 handler=1 flags=0 mask=0 → old action handler=0 flags=0 mask=0
@@ -128,8 +142,13 @@ story =
     ∷ (sigpending 200, pendingSet (bits 549755813888))
     -- pending thread=201 → pending set 0
     ∷ (sigpending 201, pendingSet empty)
+    ∷ []
+
+-- from the look's example on
+abbrev fromTheLook : List (Call × Answer)
+fromTheLook =
     -- look thread=200 → looked mark of 18 in queue 100 0
-    ∷ (look 200, lookedMark 100 0 18)
+    (look 200, lookedMark 100 0 18)
     -- take thread=200 → no action 18
     ∷ (take 200, noAction 18)
     -- look thread=200 → looked nothing
@@ -206,6 +225,10 @@ story =
     ∷ (take 200, refused 3)
     ∷ []
 
+-- the story down the page
+abbrev story : List (Call × Answer)
+story = toTheLook ++ fromTheLook
+
 -- lines of the page as a case
 abbrev lines : List (Call × Answer) → Case
 lines l = record { calls = map called l; expected = map answered l }
@@ -214,15 +237,14 @@ pub told : Holds (lines story)
 unfolding computing quickComputing
 told = holds (lines story) refl refl
 
--- the look itself, before each line of the look's example
+-- the look itself, after so many lines of the look's example
 pub record Look : Type 0 where
   pub lines : ℕ
   pub thread : ℕ
   pub part : Part
 
--- the first lines of the story
 abbrev linesBefore : Look → List Call
-linesBefore x = map called (firsts (x .lines) story)
+linesBefore x = map called (toTheLook ++ firsts (x .lines) fromTheLook)
 
 abbrev Finds : Look → Type 0
 Finds x = lookPart (x .thread) (run (linesBefore x) cleared .0) ≡ x .part
@@ -235,16 +257,16 @@ finds x u e =
     ∙ e)
 
 abbrev aMark : Look
-aMark = record { lines = 47; thread = 200; part = emptyPart }
+aMark = record { lines = 0; thread = 200; part = emptyPart }
 
 abbrev nothingNext : Look
-nothingNext = record { lines = 49; thread = 200; part = emptyPart }
+nothingNext = record { lines = 2; thread = 200; part = emptyPart }
 
 abbrev aRecord : Look
-aRecord = record { lines = 50; thread = 201; part = processSlot 0 }
+aRecord = record { lines = 3; thread = 201; part = processSlot 0 }
 
 abbrev nobody : Look
-nobody = record { lines = 51; thread = 202; part = emptyPart }
+nobody = record { lines = 4; thread = 202; part = emptyPart }
 
 pub parts : All Finds (aMark ∷ nothingNext ∷ aRecord ∷ nobody ∷ [])
 unfolding computing quickComputing

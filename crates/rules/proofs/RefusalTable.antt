@@ -3,22 +3,25 @@ use Prim.Native.Nat.{ℕ}
 use mathlib.Core.Path.{_≡_, refl, sym, ap, _∙_}
 use mathlib.Core.Bool.{Bool, true, false, not, _&&_, _||_}
 use mathlib.Core.List.{List, [], _∷_, _++_}
+use mathlib.Core.Option.{some}
 use lib.Dec.{eqb, ltb}
 use borrow.Author.Tests.{eqb-true, not-false}
-use Rattle.limits.specs.Limits.{EAGAIN, EFAULT}
+use Rattle.limits.specs.Limits.{EAGAIN, EFAULT, EINVAL}
 use Rattle.sigset.specs.Set.{isUnmaskable}
 use Rattle.sigset.proofs.Laws.{each-unmaskable}
 use Rattle.lists.specs.Lists.{all, any, find, pairs, All}
 use Rattle.lists.proofs.Bools.{split, clash, and-fst, and-snd, or-right, cond-true, cond-false}
 use Rattle.lists.proofs.Lists.{Pass, All-imp, all-All}
+use Rattle.types.specs.declared.Action.{Action}
 use Rattle.rules.specs.Types.{Call, clear, addProcess, addThread, endProcess, endThread, kill, sigqueue}
 use Rattle.rules.specs.Types.{sigaction, sigmask, sigpending, look, who, take, sigreturn, Kind, clearing, adding}
 use Rattle.rules.specs.Types.{queueing, taking, other, kindOf}
 use Rattle.rules.specs.View.{View}
 use Rattle.rules.specs.Store.{Store, view}
-use Rattle.rules.specs.Sound.{lengthsRight, sound}
+use Rattle.rules.specs.Sound.{flagsKnown, lengthsRight, sound}
 use Rattle.rules.specs.Sending.{generation, needsRecord}
 use Rattle.rules.specs.Refusals.{Row, tableOrder, refusal, rows, fault, table, refusalOf, noRoom, clears, isClear}
+use Rattle.rules.specs.Refusals.{overLast, unstorable, badAction, einval}
 use Rattle.rules.proofs.Clauses.{clauses}
 
 abbrev pub Off : Row → Type 0
@@ -193,3 +196,14 @@ queue-has-room st by to t s value u e =
     (given-passes notFull (table st (sigqueue by to t s value)) refl
     ((λ k. refl), ((λ k. refl), ((λ k. refl), ((λ k. refl), ((λ k. clash k (room-for (view st) to t s u)), tt))))))
     (ap notFull e)
+
+-- ---- no silent flags (request Six)
+
+-- a new action with a bit outside the known flags is refused with 22, whatever process and signal are named
+pub unknown-flag : (st : Store) (p s : ℕ) (a : Action) → sound st ≡ true → flagsKnown a ≡ false
+    → refusalOf st (sigaction p s (some a)) ≡ EINVAL
+unfolding table rows badAction unstorable
+unknown-flag st p s a e f =
+    let c = sigaction p s (some a) in
+    first-of-table st c (fault st c ∷ []) (einval (badAction s (some a))) _ refl (no-fault c st e, tt)
+    (or-right (overLast s) (or-right (eqb s 0) (or-right (isUnmaskable s) (ap not f))))
