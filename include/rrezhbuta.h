@@ -57,7 +57,7 @@ extern "C" {
 #define RREZHBUTA_SIGURG UINT32_C(23)
 #define RREZHBUTA_SIGWINCH UINT32_C(28)
 
-/* The two handler numbers that are no handler, and the flags of an action; other flags are dropped on storing. */
+/* The two handler numbers that are no handler, and the flags of an action; one with any other bit is refused. */
 #define RREZHBUTA_SIG_DFL UINT64_C(0)
 #define RREZHBUTA_SIG_IGN UINT64_C(1)
 #define RREZHBUTA_SA_SIGINFO UINT64_C(0x4)
@@ -436,7 +436,8 @@ static inline int rrezhbuta_sigqueue(const struct rrezhbuta_tables *tables, uint
     return refusal;
 }
 
-/* Stores an action, or only asks where `action` is NULL. `old`, which may be NULL, gets the action before. */
+/* Stores an action, or only asks where `action` is NULL. `old`, which may be NULL, gets the action before. An action
+   with an unknown flag is refused with EINVAL, and the old one stays. */
 static inline int rrezhbuta_sigaction(const struct rrezhbuta_tables *tables, uint32_t process, uint32_t signal,
                                       const struct rrezhbuta_action *action, struct rrezhbuta_action *old)
 {

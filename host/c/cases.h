@@ -178,9 +178,10 @@ static inline void process_buffer_short(struct rrezhbuta_tables *tables)
 
 /* ---- Cases */
 
-/* a call with arguments of 32 bits alone, and one with an argument of 64 bits before them */
+/* a call with arguments of 32 bits alone, one with an argument of 64 bits before them, and sigaction with flags */
 #define CALL(name, ...) {RREZHBUTA_CALL_##name, {__VA_ARGS__}, {0}}
 #define WITH(wide, name, ...) {RREZHBUTA_CALL_##name, {__VA_ARGS__}, {wide}}
+#define FLAGGED(flags, ...) {RREZHBUTA_CALL_SIGACTION, {__VA_ARGS__}, {HANDLER, flags}}
 #define SLOT(thread) {LOOK_SLOT, {thread}, {0}}
 #define GIVEN 1
 #define NOBODY 999
@@ -227,6 +228,7 @@ static const struct test_case asking[] = {
     {"sigqueue, signal 0", queued, WITH(7, SIGQUEUE, 1, 100, 0, 0), 0, RREZHBUTA_ANSWER_TESTED},
     {"sigqueue, signal 0, full queue", full_queue, CALL(SIGQUEUE, 1, 100, 200, 0), 0, RREZHBUTA_ANSWER_TESTED},
     {"sigaction, no new action", queued, CALL(SIGACTION, 100, 40), 0, RREZHBUTA_ANSWER_OLD_ACTION},
+    {"sigaction, flags of no action", queued, FLAGGED(UINT64_MAX, 100, 40), 0, RREZHBUTA_ANSWER_OLD_ACTION},
     {"sigaction, KILL asked", two, CALL(SIGACTION, 100, RREZHBUTA_SIGKILL), 0, RREZHBUTA_ANSWER_OLD_ACTION},
     {"sigmask, no set", queued_and_blocked, CALL(SIGMASK, 200, 7), 0, RREZHBUTA_ANSWER_OLD_MASK},
     {"sigpending", queued_and_blocked, CALL(SIGPENDING, 200), 0, RREZHBUTA_ANSWER_PENDING_SET},
@@ -286,6 +288,9 @@ static const struct test_case refused[] = {
     {"sigaction, signal 65", two, CALL(SIGACTION, 100, RREZHBUTA_SIGNALS + 1), RREZHBUTA_EINVAL, 0},
     {"sigaction, KILL handled", two, CALL(SIGACTION, 100, RREZHBUTA_SIGKILL, GIVEN), RREZHBUTA_EINVAL, 0},
     {"sigaction, STOP handled", two, CALL(SIGACTION, 100, RREZHBUTA_SIGSTOP, GIVEN), RREZHBUTA_EINVAL, 0},
+    {"sigaction, an unknown flag", queued, FLAGGED(8, 100, 40, GIVEN), RREZHBUTA_EINVAL, 0},
+    {"sigaction, the largest flag", queued, FLAGGED(UINT64_C(1) << 63, 100, 40, GIVEN), RREZHBUTA_EINVAL, 0},
+    {"sigaction, an unknown flag, no process", two, FLAGGED(8, NOBODY, 40, GIVEN), RREZHBUTA_EINVAL, 0},
     {"sigaction, no process", two, CALL(SIGACTION, NOBODY, 40), RREZHBUTA_ESRCH, 0},
     {"sigaction, no process, a handler", two, CALL(SIGACTION, NOBODY, 40, GIVEN), RREZHBUTA_ESRCH, 0},
     {"sigmask, way 3", two, CALL(SIGMASK, 200, 3, GIVEN), RREZHBUTA_EINVAL, 0},
@@ -313,6 +318,7 @@ static const struct misfit {
 
 #undef CALL
 #undef WITH
+#undef FLAGGED
 #undef SLOT
 
 /* ---- All of them in turn, each with the room that there is for the answer */

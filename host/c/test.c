@@ -250,7 +250,7 @@ static void kill_lands_on_a_full_queue(void)
 static void actions(void)
 {
     struct rrezhbuta_action old = {OLD, OLD, OLD};
-    const struct rrezhbuta_action stored = {HANDLER, ALL_ONES, ALL_ONES};
+    const struct rrezhbuta_action stored = {HANDLER, RREZHBUTA_KNOWN_FLAGS, ALL_ONES};
     start();
     DONE(rrezhbuta_sigaction(&tables, 100, 40, &stored, &old));
     CHECK(old.handler == RREZHBUTA_SIG_DFL && old.flags == 0 && old.mask == 0);
@@ -264,6 +264,41 @@ static void actions(void)
     REFUSED(RREZHBUTA_EINVAL, rrezhbuta_sigaction(&tables, 100, 0, NULL, &old));
     REFUSED(RREZHBUTA_ESRCH, rrezhbuta_sigaction(&tables, 101, 40, NULL, &old));
     CHECK(old.handler == OLD);
+}
+
+/* storing ignore would discard what is pending */
+static void unknown_flags(void)
+{
+    const struct rrezhbuta_action stored = {HANDLER, RREZHBUTA_SA_SIGINFO, 2048};
+    struct rrezhbuta_action unknown = {RREZHBUTA_SIG_IGN, 0, 0}, old = {OLD, OLD, OLD};
+    start();
+    DONE(rrezhbuta_sigaction(&tables, 100, 40, &stored, NULL));
+    sigqueue_sent(0, 40, 7);
+    for (uint64_t flag = 1; flag != 0; flag *= 2) {
+        if ((flag & RREZHBUTA_KNOWN_FLAGS) != 0)
+            continue;
+        unknown.flags = flag;
+        REFUSED(RREZHBUTA_EINVAL, rrezhbuta_sigaction(&tables, 100, 40, &unknown, &old));
+        REFUSED(RREZHBUTA_EINVAL, rrezhbuta_sigaction(&tables, 101, 40, &unknown, &old));
+        unknown.flags |= RREZHBUTA_KNOWN_FLAGS;
+        REFUSED(RREZHBUTA_EINVAL, rrezhbuta_sigaction(&tables, 100, 40, &unknown, &old));
+    }
+    CHECK(old.handler == OLD);
+    DONE(rrezhbuta_sigaction(&tables, 100, 40, NULL, &old));
+    CHECK(memcmp(&old, &stored, sizeof old) == 0);
+}
+
+static void an_enquiry_looks_at_no_flags(void)
+{
+    const uint32_t narrow[6] = {100, 40, 0};
+    const uint64_t wide[3] = {ALL_ONES, ALL_ONES, ALL_ONES};
+    const struct rrezhbuta_answer wanted = {RREZHBUTA_ANSWER_OLD_ACTION, {HANDLER, RREZHBUTA_SA_SIGINFO, 2048}};
+    struct rrezhbuta_answer answer;
+    start();
+    handle(40, RREZHBUTA_SA_SIGINFO, 2048);
+    before = store;
+    DONE(rrezhbuta_serve(&tables, &answer, RREZHBUTA_CALL_SIGACTION, narrow, wide));
+    CHECK(memcmp(&answer, &wanted, sizeof answer) == 0 && memcmp(&store, &before, sizeof store) == 0);
 }
 
 static void ignoring_discards(void)
@@ -583,6 +618,8 @@ int main(void)
     a_full_queue();
     kill_lands_on_a_full_queue();
     actions();
+    unknown_flags();
+    an_enquiry_looks_at_no_flags();
     ignoring_discards();
     masks();
     pending();

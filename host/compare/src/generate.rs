@@ -213,12 +213,18 @@ impl Generator {
         }
     }
 
+    /// Known ones. One word in seven is another: a single bit, that bit beside known ones, or any number; nearly all of
+    /// these are refused.
     fn flags(&mut self) -> u64 {
-        let some = self.random.next_u64() & self.random.next_u64();
-        match self.random.below(4) {
-            0 => 0,
-            1 => some,
-            _ => some & FLAGS,
+        let random = &mut self.random;
+        let known = random.next_u64() & random.next_u64() & FLAGS;
+        let bit = 1 << random.below(64);
+        match random.below(21) {
+            0 => bit,
+            1 => known | bit,
+            2 => random.next_u64(),
+            3..=7 => 0,
+            _ => known,
         }
     }
 

@@ -2,6 +2,8 @@
 
 use crate::image::decode_info;
 use crate::step::Told;
+use rrezhbuta::limits::ANSWER_WORDS;
+use rrezhbuta::raw::{self, Numbers};
 use rrezhbuta::{Next, ProcessId, Sent, SessionId, SigSet, Signal, Tables, Taken};
 use rrezhbuta::{Target, ThreadId, UserId};
 use rrezhbuta_model::{self as model, Action, Answer, Call, NewProcess, Set};
@@ -35,6 +37,18 @@ impl Default for Library {
     }
 }
 
+impl Library {
+    /// An enquiry looks at no action: one of all ones stands where a new one would.
+    fn enquire(&mut self, numbers: Numbers) -> Told {
+        let wide = [u64::MAX; 3];
+        let mut words = [0; ANSWER_WORDS];
+        match raw::call(&mut self.tables, &mut words, &Numbers { wide, ..numbers }) {
+            0 => Ok(from_library(rrezhbuta::Answer::from_words(&words))),
+            errno => Err(errno as u32),
+        }
+    }
+}
+
 impl Layer for Library {
     fn tables(&self) -> &Tables<'static> {
         &self.tables
@@ -45,7 +59,11 @@ impl Layer for Library {
     }
 
     fn call(&mut self, call: &Call) -> Told {
-        let answer = self.tables.call(&to_library(call));
+        let made = to_library(call);
+        if let Call::Sigaction { new: None, .. } = call {
+            return self.enquire(made.numbers());
+        }
+        let answer = self.tables.call(&made);
         answer.map(from_library).map_err(|errno| errno as u32)
     }
 

@@ -11,8 +11,9 @@ use rrezhbuta_compare::run::{replay, run, shrunk, Options};
 use rrezhbuta_compare::shrink::shrink;
 use rrezhbuta_compare::step::{Place, Told};
 use rrezhbuta_ids::Family;
-use rrezhbuta_model::errno::{EAGAIN, EFAULT};
-use rrezhbuta_model::{Answer, Buffer, Call, Model, NewProcess, Unsound};
+use rrezhbuta_model::errno::{EAGAIN, EFAULT, EINVAL};
+use rrezhbuta_model::signal::FLAGS;
+use rrezhbuta_model::{Action, Answer, Buffer, Call, Model, NewProcess, Unsound};
 use rrezhbuta_model::{BUFFER_RECORDS, PROCESS_PLACES, THREAD_PLACES};
 
 const SHORT: Options = Options {
@@ -126,6 +127,17 @@ fn end_thread_writes_nothing(model: &Model, call: &Call) -> Option<Told> {
     };
     let live = model.rows().threads.iter().any(|t| t.id == id as u64);
     live.then_some(Ok(Answer::Done))
+}
+
+/// A store is judged by the lower half of its flags.
+fn upper_flags_are_dropped(model: &Model, call: &Call) -> Option<Told> {
+    let mut cut = *call;
+    let Call::Sigaction { new: Some(new), .. } = &mut cut else {
+        return None;
+    };
+    new.flags &= u32::MAX as u64;
+    let told = model.clone().call(&cut);
+    (cut != *call && told.is_ok()).then_some(told)
 }
 
 /// Calls that the fault does not touch, from the generator.
@@ -255,6 +267,36 @@ fn a_fault_in_a_long_run_is_found_and_every_call_of_the_list_is_needed() {
         let mut fewer = calls.clone();
         fewer.remove(left_out);
         assert_eq!(replay(&mut layer, &fewer), None);
+    }
+}
+
+#[test]
+fn a_flag_that_is_dropped_is_found() {
+    let mut layer = faulty(upper_flags_are_dropped);
+    let failure = run(&mut layer, &SHORT, |_| ()).expect_err("the fault shows");
+    assert_eq!(failure.calls.len(), 2, "{failure}");
+    assert_eq!(failure.difference.expected, Err(EINVAL));
+    assert!(failure.difference.found.is_ok());
+}
+
+/// They are refused, so they are few; a single one is there in either half, alone and beside known ones.
+#[test]
+fn some_stores_have_an_unknown_flag() {
+    let generator = Generator::new(Random::new(5), Style::Mixed, Family::Places);
+    let (calls, _) = generated(generator, 20_000, |call| *call != Call::Clear);
+    let flags = calls.iter().filter_map(|call| match *call {
+        Call::Sigaction { new, .. } => new.map(|Action { flags, .. }| flags),
+        _ => None,
+    });
+    let parts: Vec<_> = flags.map(|flags| (flags & FLAGS, flags & !FLAGS)).collect();
+    let unknown = parts.iter().filter(|(_, unknown)| *unknown != 0);
+    let often = parts.len() / unknown.clone().count();
+    assert!((6..9).contains(&often), "one in {often}");
+    let single = unknown.filter(|(_, unknown)| unknown.is_power_of_two());
+    for wanted in [(false, false), (false, true), (true, false), (true, true)] {
+        let kind = |(known, unknown): &(u64, u64)| (*known != 0, unknown >> 32 != 0);
+        let count = single.clone().filter(|parts| kind(parts) == wanted).count();
+        assert!(count > 10, "{wanted:?}: {count}");
     }
 }
 

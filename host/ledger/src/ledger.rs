@@ -231,9 +231,8 @@ impl Ledger {
 
     fn store(&mut self, process: u32, signal: u32, new: Action) {
         let stored = Action {
-            handler: new.handler,
-            flags: new.flags & KNOWN_FLAGS,
             mask: maskable(new.mask),
+            ..new
         };
         if let Some(process) = self.process_mut(process) {
             process.actions.remove(&signal);

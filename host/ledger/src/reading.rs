@@ -121,6 +121,7 @@ impl Ledger {
             } => first(&[
                 (EINVAL, signal == 0 || signal > SIGNALS),
                 (EINVAL, new.is_some() && matches!(signal, SIGKILL | SIGSTOP)),
+                (EINVAL, new.is_some_and(|new| new.flags & !KNOWN_FLAGS != 0)),
                 (ESRCH, self.process(process).is_none()),
             ]),
             Call::Sigmask { thread, way, set } => first(&[

@@ -385,6 +385,23 @@ fn a_reset_leaves_ill_and_trap() {
 }
 
 #[test]
+fn an_unknown_flag_is_refused_and_the_old_action_stays() {
+    let mut ledger = begin();
+    let store = |process: u32, flags: u64| {
+        format!("action process={process} signal=10 handler=5000 flags={flags} mask=0")
+    };
+    make(&mut ledger, &store(100, 4));
+    for bit in (0..64).filter(|n| ![2, 28, 30, 31].contains(n)) {
+        for process in [100, 999] {
+            let call = store(process, 4 | 1 << bit);
+            assert_eq!(make(&mut ledger, &call), "refused 22", "{call}");
+        }
+    }
+    let answer = make(&mut ledger, "action process=100 signal=10");
+    assert_eq!(answer, "old action handler=5000 flags=4 mask=0");
+}
+
+#[test]
 fn who_may_signal_whom() {
     let mut ledger = begin();
     make_all(

@@ -10,5 +10,5 @@ pub const EAGAIN: u32 = 11;
 pub const EFAULT: u32 = 14;
 /// An added id is live already.
 pub const EEXIST: u32 = 17;
-/// A signal, a way or an id that is none.
+/// A signal, a flag, a way or an id that is none.
 pub const EINVAL: u32 = 22;

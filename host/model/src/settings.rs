@@ -15,15 +15,16 @@ impl Model {
         new: Option<Action>,
     ) -> Result<Answer, u32> {
         let no_signal = signal == 0 || signal > LAST;
-        if no_signal || new.is_some() && (signal == KILL || signal == STOP) {
+        let is_fixed = new.is_some() && (signal == KILL || signal == STOP);
+        let unknown_flag = new.is_some_and(|action| action.flags & !FLAGS != 0);
+        if no_signal || is_fixed || unknown_flag {
             return Err(EINVAL);
         }
         let old = *self.process(process)?.action(signal);
         if let Some(action) = new {
             let stored = Action {
-                handler: action.handler,
-                flags: action.flags & FLAGS,
                 mask: action.mask.less(Set::UNMASKABLE),
+                ..action
             };
             self.store_action(process, signal, stored);
         }

@@ -41,7 +41,7 @@ pub const RESTART: u64 = 0x1000_0000;
 pub const NODEFER: u64 = 0x4000_0000;
 /// The action becomes the default when its handler is answered.
 pub const RESETHAND: u64 = 0x8000_0000;
-/// The flags that are stored.
+/// The known flags; an action with any other bit is refused.
 pub const FLAGS: u64 = SIGINFO | RESTART | NODEFER | RESETHAND;
 
 /// The code of a queued record: -1.

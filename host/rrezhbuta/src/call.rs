@@ -9,7 +9,7 @@ use crate::{ProcessId, SessionId, SigSet, Signal, Target, ThreadId, UserId};
 pub struct Action {
     /// 0 default, 1 ignore, else a handler.
     pub handler: u64,
-    /// SIGINFO, RESTART, NODEFER and RESETHAND; others are dropped on storing.
+    /// SIGINFO, RESTART, NODEFER and RESETHAND; an action with any other bit is refused.
     pub flags: u64,
     /// What is blocked while the handler runs.
     pub mask: SigSet,

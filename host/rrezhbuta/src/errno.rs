@@ -26,7 +26,7 @@ pub enum Errno {
     EFAULT = limits::EFAULT,
     /// An added id is live already.
     EEXIST = limits::EEXIST,
-    /// A signal, a way or an added id that is none.
+    /// A signal, a flag, a way or an added id that is none.
     EINVAL = limits::EINVAL,
 }
 
@@ -55,7 +55,7 @@ impl fmt::Display for Errno {
             Errno::EAGAIN => "no free place, or no room for a record",
             Errno::EFAULT => "the tables are not sound",
             Errno::EEXIST => "the id is live already",
-            Errno::EINVAL => "no such signal, way or id",
+            Errno::EINVAL => "no such signal, flag, way or id",
         };
         write!(f, "{words} ({self:?})")
     }

@@ -124,16 +124,19 @@ impl Tables<'_> {
         self.change_sigaction(process, signal, None)
     }
 
-    /// Stores an action and answers the old one. What is ignored from now on is no longer pending.
+    /// Stores an action and answers the old one. What is ignored from now on is no longer pending. An action with an
+    /// unknown flag is refused with EINVAL, and the old one stays.
     ///
     /// ```
-    /// use rrezhbuta::{Action, NewProcess, ProcessId, SigSet, Signal, Tables, ThreadId};
+    /// use rrezhbuta::{Action, Errno, NewProcess, ProcessId, SigSet, Signal, Tables, ThreadId};
     ///
     /// let process = ProcessId(100);
     /// let mut tables = Tables::new();
     /// tables.add_process(NewProcess { id: process, thread: ThreadId(200), ..NewProcess::default() })?;
     /// let handler = Action { handler: 5000, flags: 4, mask: SigSet(2048) };
     /// assert_eq!(tables.set_sigaction(process, Signal(40), handler)?, Action::default());
+    /// let unknown = Action { flags: 8, ..handler };
+    /// assert_eq!(tables.set_sigaction(process, Signal(40), unknown), Err(Errno::EINVAL));
     /// assert_eq!(tables.sigaction(process, Signal(40))?, handler);
     /// # Ok::<(), rrezhbuta::Errno>(())
     /// ```

@@ -1,7 +1,7 @@
 //! What the calls do beyond document 01's numbers.
 
 use crate::common::*;
-use rrezhbuta_model::signal::{DEFAULT, IGNORE, NODEFER, RESETHAND, RESTART, SIGINFO};
+use rrezhbuta_model::signal::{DEFAULT, FLAGS, IGNORE, NODEFER, RESETHAND, RESTART, SIGINFO};
 use rrezhbuta_model::{
     Action, Answer, Buffer, Call, Model, NewProcess, Next, Process, Record, Set, Slot,
 };
@@ -237,17 +237,29 @@ fn a_standard_signal_is_pending_once_in_a_queue_either_way() {
 }
 
 #[test]
-fn storing_keeps_known_flags_and_discards_what_is_ignored() {
+fn an_action_is_stored_as_given_but_for_9_and_19_in_its_mask() {
     let mut model = one(0);
-    answers(&mut model, &[kill(0, USR1), sigqueue(200, USR1, 1)]);
-    let flags = SIGINFO | RESTART | NODEFER | RESETHAND;
-    answers(&mut model, &[store(USR1, IGNORE, u64::MAX, u64::MAX)]);
-    let stored = Action {
-        handler: IGNORE,
-        flags,
-        mask: Set(u64::MAX).less(Set::UNMASKABLE),
-    };
-    assert_eq!(model.call(&ask(USR1)), Ok(Answer::OldAction(stored)));
+    let each = [SIGINFO, RESTART, NODEFER, RESETHAND];
+    for flags in [0, FLAGS].into_iter().chain(each) {
+        let stored = Action {
+            handler: 5000,
+            flags,
+            mask: Set(u64::MAX).less(Set::UNMASKABLE),
+        };
+        answers(&mut model, &[store(USR1, 5000, flags, u64::MAX)]);
+        assert_eq!(model.call(&ask(USR1)), Ok(Answer::OldAction(stored)));
+    }
+}
+
+#[test]
+fn storing_ignore_discards_the_signal() {
+    let mut model = one(0);
+    let calls = [
+        kill(0, USR1),
+        sigqueue(200, USR1, 1),
+        store(USR1, IGNORE, FLAGS, 0),
+    ];
+    answers(&mut model, &calls);
     assert!(model.rows().thread_records.is_empty());
     assert_eq!(model.rows().processes[0].marks, Set::EMPTY);
 }

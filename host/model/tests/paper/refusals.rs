@@ -2,7 +2,9 @@
 
 use crate::common::*;
 use rrezhbuta_model::errno::{EAGAIN, EEXIST, EINVAL, EPERM, ESRCH};
-use rrezhbuta_model::{Answer, Call, Model, NewProcess, PROCESS_PLACES, THREAD_PLACES};
+use rrezhbuta_model::signal::{IGNORE, NODEFER, RESETHAND, RESTART, SIGINFO};
+use rrezhbuta_model::{Action, Answer, Call, Model, NewProcess, Set};
+use rrezhbuta_model::{PROCESS_PLACES, THREAD_PLACES};
 
 const LARGEST: u32 = 2_147_483_647;
 
@@ -75,6 +77,53 @@ fn einval_comes_first() {
         model.call(&process(LARGEST, 0, LARGEST, 0)),
         Ok(Answer::Done)
     );
+}
+
+/// The bits of a flags word that are none of the four.
+fn unknown_flags() -> impl Iterator<Item = u64> {
+    let known = [2, 28, 30, 31];
+    (0..64).filter(move |n| !known.contains(n)).map(|n| 1 << n)
+}
+
+#[test]
+fn an_unknown_flag_is_einval_and_the_old_action_stays() {
+    let mut model = one(0);
+    let old = Action {
+        handler: 5000,
+        flags: SIGINFO,
+        mask: Set(2048),
+    };
+    let begin = [
+        store(10, 5000, SIGINFO, 2048),
+        kill(0, 10),
+        sigqueue(200, 10, 1),
+    ];
+    assert!(answers(&mut model, &begin).iter().all(Result::is_ok));
+    for flag in unknown_flags() {
+        for known in [0, SIGINFO, SIGINFO | RESTART | NODEFER | RESETHAND] {
+            // this would discard what is pending
+            refused(&mut model, store(10, IGNORE, known | flag, 0), EINVAL);
+        }
+    }
+    refused(&mut model, store(10, IGNORE, u64::MAX, 0), EINVAL);
+    assert_eq!(model.call(&ask(10)), Ok(Answer::OldAction(old)));
+}
+
+#[test]
+fn an_unknown_flag_comes_before_esrch() {
+    let mut model = two();
+    for flags in unknown_flags().chain([u64::MAX]) {
+        let new = Some(Action {
+            flags,
+            ..Action::DEFAULT
+        });
+        let nobodys = Call::Sigaction {
+            process: 999,
+            signal: 10,
+            new,
+        };
+        refused(&mut model, nobodys, EINVAL);
+    }
 }
 
 #[test]

@@ -4,8 +4,8 @@ use crate::common::*;
 use crate::lengths::calls;
 use rrezhbuta::limits::*;
 use rrezhbuta::raw::{call, look_slot, Numbers};
-use rrezhbuta::{Call, NewProcess, ProcessId, Sent, SessionId, SigSet, Signal, Tables};
-use rrezhbuta::{Target, ThreadId, UserId, Way};
+use rrezhbuta::{Answer, Call, NewProcess, ProcessId, Sent, SessionId, SigSet, Signal};
+use rrezhbuta::{Tables, Target, ThreadId, UserId, Way};
 
 const OLD: u64 = 0xA5A5;
 
@@ -75,6 +75,21 @@ fn an_answer_has_zeros_behind_it_and_the_rest_stays() {
     assert_eq!(answer[..4], [ANSWER_OLD_ACTION, HANDLER, 4, 2048]);
     assert_eq!(answer[4..ANSWER_WORDS], [0; ANSWER_WORDS - 4]);
     assert_eq!(answer[ANSWER_WORDS..], [OLD; 3]);
+}
+
+#[test]
+fn an_enquiry_looks_at_no_action() {
+    let ask = Numbers {
+        wide: [u64::MAX; 3],
+        ..numbered(CALL_SIGACTION)
+    };
+    let mut tables = two();
+    let action = handler(SA_SIGINFO, 2048);
+    tables.set_sigaction(PROCESS, USR1, action).unwrap();
+    let (before, mut answer) = (tables.snapshot(), [OLD; ANSWER_WORDS]);
+    assert_eq!(call(&mut tables, &mut answer, &ask), 0);
+    assert_eq!(Answer::from_words(&answer), Answer::OldAction(action));
+    assert!(tables == before);
 }
 
 #[test]

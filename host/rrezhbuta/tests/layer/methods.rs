@@ -85,7 +85,7 @@ fn every_answer_to_a_send() {
 #[test]
 fn actions() {
     let mut tables = two();
-    let first = handler(u64::MAX, u64::MAX);
+    let first = handler(KNOWN_FLAGS, u64::MAX);
     let old = tables.set_sigaction(PROCESS, RT, first);
     assert_eq!(old, Ok(Action::default()));
     let stored = handler(KNOWN_FLAGS, !262_400);

@@ -1,7 +1,7 @@
 //! Each errno by each method that gives it; no table changes by a bit.
 
 use crate::common::*;
-use rrezhbuta::limits::{LARGEST_ID, PROCESS_PLACES, RECORD_LIMIT, THREAD_PLACES};
+use rrezhbuta::limits::{LARGEST_ID, PROCESS_PLACES, RECORD_LIMIT, SA_SIGINFO, THREAD_PLACES};
 use rrezhbuta::{Action, Call, Errno, NewProcess, ProcessId, SigSet, Signal, Tables};
 use rrezhbuta::{Target, ThreadId, Way};
 use std::fmt::Debug;
@@ -39,6 +39,22 @@ fn einval() {
         set: Some(SigSet(1)),
     };
     refused(&mut tables, e, |t| t.call(&way));
+}
+
+#[test]
+fn an_unknown_flag_is_einval_and_the_old_action_stays() {
+    let mut tables = two();
+    let old = handler(SA_SIGINFO, 2048);
+    tables.set_sigaction(PROCESS, USR1, old).unwrap();
+    // process 9 is not live, and EINVAL goes before ESRCH
+    for process in [PROCESS, ProcessId(9)] {
+        for flags in [8, SA_SIGINFO | 1 << 32, 1 << 63, u64::MAX] {
+            refused(&mut tables, Errno::EINVAL, |t| {
+                t.set_sigaction(process, USR1, handler(flags, 0))
+            });
+        }
+    }
+    assert_eq!(tables.sigaction(PROCESS, USR1), Ok(old));
 }
 
 #[test]
@@ -121,6 +137,9 @@ fn efault_for_tables_that_are_not_sound() {
     refused(&mut tables, e, |t| t.kill(ROOT, TO_PROCESS, Signal(65)));
     refused(&mut tables, e, |t| t.add_process(NewProcess::default()));
     refused(&mut tables, e, |t| t.add_thread(NOBODY, ThreadId(0)));
+    refused(&mut tables, e, |t| {
+        t.set_sigaction(PROCESS, USR1, handler(8, 0))
+    });
     refused(&mut tables, e, |t| t.take(THREAD));
     refused(&mut tables, e, |t| t.sigmask(THREAD));
     assert!(tables.look_part(THREAD).is_empty());
