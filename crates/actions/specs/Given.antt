@@ -4,6 +4,6 @@ use Rattle.types.specs.declared.Action as types
 use Rattle.actions.specs.declared.GivenAction.{GivenAction}
 use Rattle.actions.specs.declared.GivenAction.TheVariants as given
 
-unfoldable pub newAction : GivenAction → Option types.Action
-newAction given.NoAction = none
-newAction (given.Action a) = some a
+unfoldable pub new_action : GivenAction → Option types.Action
+new_action given.NoAction = none
+new_action (given.Action a) = some a

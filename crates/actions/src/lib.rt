@@ -2,10 +2,10 @@
 ghost use Rattle.std.specs.Prelude.{◌≡◌};
 ghost use Rattle.rules.specs.Types as call;
 ghost use Rattle.rules.specs.Actions.{stored};
-ghost use Rattle.rules.specs.Refusals.{unstorable, badAction};
+ghost use Rattle.rules.specs.Refusals.{unstorable, bad_action};
 ghost use Rattle.sound.specs.Lent.{before};
-ghost use Rattle.answers.specs.Step.{refusalOn, stepped};
-ghost use Rattle.actions.specs.Given.{newAction};
+ghost use Rattle.answers.specs.Step.{refusal_on, stepped};
+ghost use Rattle.actions.specs.Given.{new_action};
 
 use limits::{EFAULT, EINVAL, ESRCH, SIGKILL, SIGNALS, SIGSTOP};
 use sigset::SigSet;
@@ -20,7 +20,7 @@ pub enum GivenAction {
 
 // No new action is stored for KILL and STOP, and none with an unknown flag.
 fn is_unstorable(signal: u32, new: GivenAction) -> bool
-    ensures { result ≡ unstorable signal (newAction new) }
+    ensures { result ≡ unstorable signal (new_action new) }
 {
     match new {
         GivenAction::NoAction => false,
@@ -30,7 +30,7 @@ fn is_unstorable(signal: u32, new: GivenAction) -> bool
 }
 
 fn is_bad_action(signal: u32, new: GivenAction) -> bool
-    ensures { result ≡ badAction signal (newAction new) }
+    ensures { result ≡ bad_action signal (new_action new) }
 {
     (SIGNALS < signal) | ((signal == 0) | is_unstorable(signal, new))
 }
@@ -55,7 +55,7 @@ fn action_refusal(
     signal: u32,
     new: GivenAction,
 ) -> u32
-    ensures { result ≡ refusalOn (call.sigaction process signal (newAction new)) (before ps ts tb pb) }
+    ensures { result ≡ refusal_on (call.sigaction process signal (new_action new)) (before ps ts tb pb) }
 {
     if !sound::sound(ps, ts, tb, pb) {
         return EFAULT;
@@ -79,7 +79,7 @@ pub fn sigaction(
     signal: u32,
     new: GivenAction,
 ) -> Answer
-    ensures { stepped (call.sigaction process signal (newAction new)) result ps ts tb pb }
+    ensures { stepped (call.sigaction process signal (new_action new)) result ps ts tb pb }
 {
     let n = action_refusal(ps, ts, tb, pb, process, signal, new);
     if n != 0 {

@@ -2,14 +2,14 @@
 ghost use Rattle.std.specs.Prelude.{◌≡◌};
 ghost use Rattle.rules.specs.Types as call;
 ghost use Rattle.sound.specs.Lent.{before};
-ghost use Rattle.answers.specs.Step.{refusalOn, stepped};
+ghost use Rattle.answers.specs.Step.{refusal_on, stepped};
 
 use limits::{EAGAIN, EEXIST, EFAULT, EINVAL, ESRCH};
 use sigset::SigSet;
 use types::{Answer, NewProcess, Reply};
 
 fn add_process_refusal(ps: &[u64], ts: &[u64], tb: &[u8], pb: &[u8], new: NewProcess) -> u32
-    ensures { result ≡ refusalOn (call.addProcess new) (before ps ts tb pb) }
+    ensures { result ≡ refusal_on (call.add_process new) (before ps ts tb pb) }
 {
     let id = new.id;
     let thread = new.thread;
@@ -36,7 +36,7 @@ pub fn add_process(
     pb: &mut [u8],
     new: NewProcess,
 ) -> Answer
-    ensures { stepped (call.addProcess new) result ps ts tb pb }
+    ensures { stepped (call.add_process new) result ps ts tb pb }
 {
     let n = add_process_refusal(ps, ts, tb, pb, new);
     if n != 0 {
@@ -49,7 +49,7 @@ pub fn add_process(
 }
 
 fn add_thread_refusal(ps: &[u64], ts: &[u64], tb: &[u8], pb: &[u8], creator: u32, id: u32) -> u32
-    ensures { result ≡ refusalOn (call.addThread creator id) (before ps ts tb pb) }
+    ensures { result ≡ refusal_on (call.add_thread creator id) (before ps ts tb pb) }
 {
     if !sound::sound(ps, ts, tb, pb) {
         return EFAULT;
@@ -78,7 +78,7 @@ pub fn add_thread(
     creator: u32,
     id: u32,
 ) -> Answer
-    ensures { stepped (call.addThread creator id) result ps ts tb pb }
+    ensures { stepped (call.add_thread creator id) result ps ts tb pb }
 {
     let n = add_thread_refusal(ps, ts, tb, pb, creator, id);
     if n != 0 {

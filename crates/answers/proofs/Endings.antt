@@ -14,131 +14,131 @@ use Rattle.types.specs.declared.Answer.{Answer}
 use Rattle.types.specs.declared.Answer.TheVariants.{Refused, Accepted}
 use Rattle.rules.specs.Types.{Call}
 use Rattle.rules.specs.View.{Change}
-use Rattle.rules.specs.Store.{applyAll}
-use Rattle.rules.specs.Sound.{sound, lengthsRight}
-use Rattle.rules.specs.Refusals.{Row, refusal, rows, isClear, fault, table, refusalOf}
-use Rattle.rules.specs.Calls.{changes, reply, stages, runStages, finish, step, is_refused}
+use Rattle.rules.specs.Store.{apply_all}
+use Rattle.rules.specs.Sound.{sound, lengths_right}
+use Rattle.rules.specs.Refusals.{Row, refusal, rows, is_clear, fault, table, refusal_of}
+use Rattle.rules.specs.Calls.{changes, reply, stages, run_stages, finish, step, is_refused}
 use Rattle.rules.proofs.RefusalTable.{Off, accepted-off, accepted-sound}
 use Rattle.rules.proofs.Refused.{refused-number}
 use Rattle.rules.proofs.ClausesByTable.{lengths-by}
-use Rattle.tables.specs.Tables.{processesOf, threadsOf, processWordsOf, threadWordsOf}
-use Rattle.tables.proofs.Words.{length-processesOf, length-threadsOf, all-actionsLong, words_back, thread-words-back}
-use Rattle.queue.proofs.Buffer.{length-slotsOf, buffer-is}
-use Rattle.sound.specs.Lent.{Lent, lent, decoded, view_of, lengthsAre, soundTables}
+use Rattle.tables.specs.Tables.{processes_of, threads_of, process_words_of, thread_words_of}
+use Rattle.tables.proofs.Words.{length-processes_of, length-threads_of, all-actions_long, words_back, thread-words-back}
+use Rattle.queue.proofs.Buffer.{length-slots_of, buffer-is}
+use Rattle.sound.specs.Lent.{Lent, lent, decoded, view_of, lengths_are, sound_tables}
 use Rattle.sound.proofs.Facts.{AsLong, as_long, right-processes, right-threads, right-thread-buffer}
 use Rattle.sound.proofs.Facts.{right-process-buffer}
-use Rattle.answers.specs.Step.{encoded, refusalOn, rowsOn, committed, stepOn}
+use Rattle.answers.specs.Step.{encoded, refusal_on, rows_on, committed, step_on}
 
 -- ---- words and bytes are determined by what they say
 
-pub words_of : (l : Lent) → lengthsAre l ≡ true → Bytes l.threadBuffer → Bytes l.processBuffer
+pub words_of : (l : Lent) → lengths_are l ≡ true → Bytes l.thread_buffer → Bytes l.process_buffer
     → encoded (decoded l) ≡ l
 unfolding encoded decoded
 words_of l e bt bp =
-    let a : processWordsOf (processesOf l.processes) ≡ l.processes =
+    let a : process_words_of (processes_of l.processes) ≡ l.processes =
     words_back l.processes (right-processes l e) in
-    let b : threadWordsOf (threadsOf l.threads) ≡ l.threads =
+    let b : thread_words_of (threads_of l.threads) ≡ l.threads =
     thread-words-back l.threads (right-threads l e) in
-    let c = buffer-is l.threadBuffer (right-thread-buffer l e) bt in
-    let d = buffer-is l.processBuffer (right-process-buffer l e) bp in
+    let c = buffer-is l.thread_buffer (right-thread-buffer l e) bt in
+    let d = buffer-is l.process_buffer (right-process-buffer l e) bp in
     λ i. lent (a i) (b i) (sym c i) (sym d i)
 
 -- ---- errno 14: the tables' lengths, and the store's soundness but for clearing
 
 -- what the tables say has the right number of places and slots, whatever they hold
-pub places-right : (l : Lent) → lengthsRight (decoded l) ≡ true
+pub places-right : (l : Lent) → lengths_right (decoded l) ≡ true
 unfolding decoded
 places-right l =
     lengths-by (decoded l)
     (record {
-      processes = length-processesOf l.processes;
-      actions = all-actionsLong l.processes;
-      threads = length-threadsOf l.threads;
-      threadSlots = length-slotsOf l.threadBuffer;
-      processSlots = length-slotsOf l.processBuffer;
+      processes = length-processes_of l.processes;
+      actions = all-actions_long l.processes;
+      threads = length-threads_of l.threads;
+      thread_slots = length-slots_of l.thread_buffer;
+      process_slots = length-slots_of l.process_buffer;
     })
 
 -- ---- the rows in order, as code tries them
 
-pub rows-fault : (rs : List Row) (l : Lent) → soundTables l ≡ false → EFAULT ≡ rowsOn rs l
-unfolding rowsOn
+pub rows-fault : (rs : List Row) (l : Lent) → sound_tables l ≡ false → EFAULT ≡ rows_on rs l
+unfolding rows_on
 rows-fault rs l e = rw e
 
-pub rows-sound : (rs : List Row) (l : Lent) → soundTables l ≡ true → (n : ℕ) → n ≡ refusal rs → n ≡ rowsOn rs l
-unfolding rowsOn
+pub rows-sound : (rs : List Row) (l : Lent) → sound_tables l ≡ true → (n : ℕ) → n ≡ refusal rs → n ≡ rows_on rs l
+unfolding rows_on
 rows-sound rs l e n h = rw e h
 
 module _ (c : Call) (l : Lent) where
   -- of a call other than clearing
-  pub rows-given : isClear c ≡ false → refusalOn c l ≡ rowsOn (rows (view_of l) c) l
-  unfolding refusalOn rowsOn soundTables refusalOf table refusal fault
-  rows-given k = split (lengthsAre l) (λ a. rw (a, k) (split (sound (decoded l)) (λ s. rw s) (λ s. rw s))) (λ a. rw a)
+  pub rows-given : is_clear c ≡ false → refusal_on c l ≡ rows_on (rows (view_of l) c) l
+  unfolding refusal_on rows_on sound_tables refusal_of table refusal fault
+  rows-given k = split (lengths_are l) (λ a. rw (a, k) (split (sound (decoded l)) (λ s. rw s) (λ s. rw s))) (λ a. rw a)
 
-  pub accepted-long : refusalOn c l ≡ 0 → lengthsAre l ≡ true
-  unfolding refusalOn
+  pub accepted-long : refusal_on c l ≡ 0 → lengths_are l ≡ true
+  unfolding refusal_on
   accepted-long e =
-      split (lengthsAre l) (λ a. a) (λ a.
-      clash (ap (λ (n : ℕ). eqb n 0) (sym (ap (λ (b : Bool). cond b (refusalOf (decoded l) c) EFAULT) a) ∙ e)) refl)
+      split (lengths_are l) (λ a. a) (λ a.
+      clash (ap (λ (n : ℕ). eqb n 0) (sym (ap (λ (b : Bool). cond b (refusal_of (decoded l) c) EFAULT) a) ∙ e)) refl)
 
-  pub accepted-rules : refusalOn c l ≡ 0 → refusalOf (decoded l) c ≡ 0
-  unfolding refusalOn
-  accepted-rules e = sym (ap (λ (b : Bool). cond b (refusalOf (decoded l) c) EFAULT) (accepted-long e)) ∙ e
+  pub accepted-rules : refusal_on c l ≡ 0 → refusal_of (decoded l) c ≡ 0
+  unfolding refusal_on
+  accepted-rules e = sym (ap (λ (b : Bool). cond b (refusal_of (decoded l) c) EFAULT) (accepted-long e)) ∙ e
 
-  pub accepted-tables-sound : isClear c ≡ false → refusalOn c l ≡ 0 → soundTables l ≡ true
-  unfolding soundTables
+  pub accepted-tables-sound : is_clear c ≡ false → refusal_on c l ≡ 0 → sound_tables l ≡ true
+  unfolding sound_tables
   accepted-tables-sound k e = and_both (accepted-long e) (accepted-sound (decoded l) c k (accepted-rules e))
 
   -- no row below 14 applies
-  pub accepted-rows : refusalOn c l ≡ 0 → All Off (rows (view_of l) c)
+  pub accepted-rows : refusal_on c l ≡ 0 → All Off (rows (view_of l) c)
   unfolding table
   accepted-rows e = (accepted-off (decoded l) c (accepted-rules e)).1
 
   -- ---- refused
 
-  module _ (n : (refusalOn c l ≡ 0 → ⊥)) where
-    refused-step : stepOn c l ≡ (l, Refused (refusalOn c l))
-    unfolding stepOn committed refusalOn is_refused
+  module _ (n : (refusal_on c l ≡ 0 → ⊥)) where
+    refused-step : step_on c l ≡ (l, Refused (refusal_on c l))
+    unfolding step_on committed refusal_on is_refused
     refused-step =
-        split (lengthsAre l)
+        split (lengths_are l)
         (λ a.
-        let r : refusalOn c l ≡ refusalOf (decoded l) c =
-        ap (λ (b : Bool). cond b (refusalOf (decoded l) c) EFAULT) a in
-        let s : (step c (decoded l)).1 ≡ Refused (refusalOf (decoded l) c) = refused-number c (decoded l)
+        let r : refusal_on c l ≡ refusal_of (decoded l) c =
+        ap (λ (b : Bool). cond b (refusal_of (decoded l) c) EFAULT) a in
+        let s : (step c (decoded l)).1 ≡ Refused (refusal_of (decoded l) c) = refused-number c (decoded l)
         (λ z. n (r ∙ z)) in
         rw (a, s))
         (λ a. rw a)
 
-    pub refused-tables : l ≡ (stepOn c l).0
+    pub refused-tables : l ≡ (step_on c l).0
     refused-tables = sym (ap (λ x. x.0) refused-step)
 
-    pub refused-answer : Refused (refusalOn c l) ≡ (stepOn c l).1
+    pub refused-answer : Refused (refusal_on c l) ≡ (step_on c l).1
     refused-answer = sym (ap (λ x. x.1) refused-step)
 
   -- ---- accepted
 
-  module _ (e : refusalOn c l ≡ 0) where
-    step_is : step c (decoded l) ≡ (applyAll (changes (view_of l) c) (decoded l), Accepted (reply (view_of l) c))
-    unfolding step finish stages runStages
+  module _ (e : refusal_on c l ≡ 0) where
+    step_is : step c (decoded l) ≡ (apply_all (changes (view_of l) c) (decoded l), Accepted (reply (view_of l) c))
+    unfolding step finish stages run_stages
     step_is = ap (λ (n : ℕ). finish n c (decoded l)) (accepted-rules e)
 
-    pub accepted-step : stepOn c l
-        ≡ (encoded (applyAll (changes (view_of l) c) (decoded l)), Accepted (reply (view_of l) c))
-    unfolding stepOn committed is_refused
+    pub accepted-step : step_on c l
+        ≡ (encoded (apply_all (changes (view_of l) c) (decoded l)), Accepted (reply (view_of l) c))
+    unfolding step_on committed is_refused
     accepted-step = rw (accepted-long e, step_is)
 
     -- the tables after it, from what they say
-    pub tables_after : (m : Lent) → lengthsAre m ≡ true → Bytes m.threadBuffer → Bytes m.processBuffer
-        → decoded m ≡ applyAll (changes (view_of l) c) (decoded l) → m ≡ (stepOn c l).0
+    pub tables_after : (m : Lent) → lengths_are m ≡ true → Bytes m.thread_buffer → Bytes m.process_buffer
+        → decoded m ≡ apply_all (changes (view_of l) c) (decoded l) → m ≡ (step_on c l).0
     tables_after m a bt bp h = sym (words_of m a bt bp) ∙ ap encoded h ∙ sym (ap (λ x. x.0) accepted-step)
 
     -- a call that changes nothing
-    pub tables-same : Bytes l.threadBuffer → Bytes l.processBuffer → changes (view_of l) c ≡ [] → l ≡ (stepOn c l).0
-    unfolding applyAll
+    pub tables-same : Bytes l.thread_buffer → Bytes l.process_buffer → changes (view_of l) c ≡ [] → l ≡ (step_on c l).0
+    unfolding apply_all
     tables-same bt bp h =
-        tables_after l (accepted-long e) bt bp (sym (ap (λ (cs : List Change). applyAll cs (decoded l)) h))
+        tables_after l (accepted-long e) bt bp (sym (ap (λ (cs : List Change). apply_all cs (decoded l)) h))
 
     -- of a call that only answers, all there is to show
-    pub answer-after : (a : Reply) → a ≡ reply (view_of l) c → Accepted a ≡ (stepOn c l).1
+    pub answer-after : (a : Reply) → a ≡ reply (view_of l) c → Accepted a ≡ (step_on c l).1
     answer-after a h = ap Accepted h ∙ sym (ap (λ x. x.1) accepted-step)
 
 -- ---- both, the tables and the answer
@@ -152,17 +152,17 @@ answer-of e = ap (λ x. x.1) e
 
 module _ (c : Call) (l : Lent) where
   -- by the number that code has of the refusal
-  pub refused-ends : (n : ℕ) → n ≡ refusalOn c l → (n ≡ 0 → ⊥) → (l, Refused n) ≡ stepOn c l
+  pub refused-ends : (n : ℕ) → n ≡ refusal_on c l → (n ≡ 0 → ⊥) → (l, Refused n) ≡ step_on c l
   refused-ends n r z =
-      let k : refusalOn c l ≡ 0 → ⊥ = λ e. z (r ∙ e) in
+      let k : refusal_on c l ≡ 0 → ⊥ = λ e. z (r ∙ e) in
       λ i. (refused-tables c l k i, (ap Refused r ∙ refused-answer c l k) i)
 
-  module _ (e : refusalOn c l ≡ 0) (a : Reply) (h : a ≡ reply (view_of l) c) where
-    pub same_ends : Bytes l.threadBuffer → Bytes l.processBuffer → changes (view_of l) c ≡ []
-        → (l, Accepted a) ≡ stepOn c l
+  module _ (e : refusal_on c l ≡ 0) (a : Reply) (h : a ≡ reply (view_of l) c) where
+    pub same_ends : Bytes l.thread_buffer → Bytes l.process_buffer → changes (view_of l) c ≡ []
+        → (l, Accepted a) ≡ step_on c l
     same_ends bt bp k = λ i. (tables-same c l e bt bp k i, answer-after c l e a h i)
 
-    pub accepted-ends : (m : Lent) → AsLong l m → Bytes m.threadBuffer → Bytes m.processBuffer
-        → decoded m ≡ applyAll (changes (view_of l) c) (decoded l) → (m, Accepted a) ≡ stepOn c l
+    pub accepted-ends : (m : Lent) → AsLong l m → Bytes m.thread_buffer → Bytes m.process_buffer
+        → decoded m ≡ apply_all (changes (view_of l) c) (decoded l) → (m, Accepted a) ≡ step_on c l
     accepted-ends m s bt bp k =
         λ i. (tables_after c l e m (as_long l m s (accepted-long c l e)) bt bp k i, answer-after c l e a h i)

@@ -7,29 +7,29 @@ use native.Mathlib.Omega.{arith}
 use lib.Dec.{ltb}
 use borrow.Author.Tests.{eq-eqb, ne_eqb, ltb-false, not-true}
 use Rattle.lists.proofs.Bools.{and-fst, and-snd, cond-true, cond-false}
-use Rattle.limits.specs.Limits.{callClear, callSigreturn}
-use Rattle.boundary.specs.Boundary.{Arguments, whereGiven, isCall, numbered}
+use Rattle.limits.specs.Limits.{call_clear, call_sigreturn}
+use Rattle.boundary.specs.Boundary.{Arguments, where_given, is_call, numbered}
 
 module _ {A : Type 0} (n : ℕ) (v : A) where
-  pub none-given : n ≡ 0 → none ≡ whereGiven n v
-  unfolding whereGiven
+  pub none-given : n ≡ 0 → none ≡ where_given n v
+  unfolding where_given
   none-given e = sym (cond-true none (some v) (eq-eqb n 0 e))
 
-  pub one-given : (n ≡ 0 → ⊥) → some v ≡ whereGiven n v
-  unfolding whereGiven
+  pub one-given : (n ≡ 0 → ⊥) → some v ≡ where_given n v
+  unfolding where_given
   one-given f = sym (cond-false none (some v) (ne_eqb n 0 f))
 
 -- the call that stands at a number in the list
 pub at-number : (n k : ℕ) (g : Arguments) → n ≡ k → numbered k g ≡ numbered n g
 at-number n k g e = ap (λ (m : ℕ). numbered m g) (sym e)
 
-pub call-bounds : (n : ℕ) → isCall n ≡ true → (callClear ≤ n) × (n ≤ callSigreturn)
-unfolding isCall
+pub call-bounds : (n : ℕ) → is_call n ≡ true → (call_clear ≤ n) × (n ≤ call_sigreturn)
+unfolding is_call
 call-bounds n e =
-    let low : Bool = ltb n callClear in
-    let high : Bool = ltb callSigreturn n in (
-      ltb-false n callClear (not-true low (and-fst (not low) (not high) e)),
-      ltb-false callSigreturn n (not-true high (and-snd (not low) (not high) e)),
+    let low : Bool = ltb n call_clear in
+    let high : Bool = ltb call_sigreturn n in (
+      ltb-false n call_clear (not-true low (and-fst (not low) (not high) e)),
+      ltb-false call_sigreturn n (not-true high (and-snd (not low) (not high) e)),
     )
 
 -- n is none of the first k numbers from 1 on

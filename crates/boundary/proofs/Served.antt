@@ -7,56 +7,56 @@ use native.Mathlib.Omega.{arith}
 use lib.Dec.{ltb}
 use lib.ListN.{length, drop}
 use borrow.Author.Tests.{eq-eqb, ne_eqb, ltb-false, not-true}
-use Rattle.limits.specs.Limits.{EFAULT, EINVAL, callClear, answerWords}
+use Rattle.limits.specs.Limits.{EFAULT, EINVAL, call_clear, answer_words}
 use Rattle.lists.specs.Lists.{padded}
 use Rattle.lists.proofs.Bools.{and-fst, and-snd, cond-true, cond-false}
 use Rattle.types.specs.declared.Answer.{Answer}
 use Rattle.types.specs.declared.Answer.TheVariants.{Refused}
 use Rattle.rules.specs.Types.{Call}
-use Rattle.sound.specs.Lent.{Lent, lengthsAre, soundTables}
-use Rattle.answers.specs.Step.{stepOn}
+use Rattle.sound.specs.Lent.{Lent, lengths_are, sound_tables}
+use Rattle.answers.specs.Step.{step_on}
 use Rattle.answers.proofs.Endings.{tables-of, answer-of}
-use Rattle.boundary.specs.Boundary.{Arguments, isCall, numbered, words_of, errnoOf, written, usable, accepted}
-use Rattle.boundary.specs.Boundary.{serveOn, servedBy, served}
+use Rattle.boundary.specs.Boundary.{Arguments, is_call, numbered, words_of, errno_of, written, usable, accepted}
+use Rattle.boundary.specs.Boundary.{serve_on, served_by, served}
 
 -- ---- errno 14's row
 
 module _ (n : ℕ) (l : Lent) where
   abbrev long : Bool
-  long = lengthsAre l
+  long = lengths_are l
 
   abbrev sound : Bool
-  sound = soundTables l
+  sound = sound_tables l
 
-  pub usable-clear : n ≡ callClear → (r : Bool) → r ≡ long → r ≡ usable n l
+  pub usable-clear : n ≡ call_clear → (r : Bool) → r ≡ long → r ≡ usable n l
   unfolding usable
-  usable-clear e r h = h ∙ sym (cond-true long sound (eq-eqb n callClear e))
+  usable-clear e r h = h ∙ sym (cond-true long sound (eq-eqb n call_clear e))
 
-  pub usable-other : (n ≡ callClear → ⊥) → (r : Bool) → r ≡ sound → r ≡ usable n l
+  pub usable-other : (n ≡ call_clear → ⊥) → (r : Bool) → r ≡ sound → r ≡ usable n l
   unfolding usable
-  usable-other f r h = h ∙ sym (cond-false long sound (ne_eqb n callClear f))
+  usable-other f r h = h ∙ sym (cond-false long sound (ne_eqb n call_clear f))
 
 -- ---- what is accepted
 
 module _ (n room : ℕ) (t : accepted n room ≡ true) where
-  pub accepted-call : isCall n ≡ true
+  pub accepted-call : is_call n ≡ true
   unfolding accepted
-  accepted-call = and-fst (isCall n) (not (ltb room answerWords)) t
+  accepted-call = and-fst (is_call n) (not (ltb room answer_words)) t
 
-  pub accepted-room : answerWords ≤ room
+  pub accepted-room : answer_words ≤ room
   unfolding accepted
   accepted-room =
-      ltb-false room answerWords (not-true (ltb room answerWords) (and-snd (isCall n) (not (ltb room answerWords)) t))
+      ltb-false room answer_words (not-true (ltb room answer_words) (and-snd (is_call n) (not (ltb room answer_words)) t))
 
 -- ---- the end of a call
 
-kept-words : (a : Answer) (out : List ℕ) → (errnoOf a ≡ 0 → ⊥) → out ≡ written a out
+kept-words : (a : Answer) (out : List ℕ) → (errno_of a ≡ 0 → ⊥) → out ≡ written a out
 unfolding written
 kept-words a out f =
-    sym (cond-false (padded 0 answerWords (words_of a) ++ drop answerWords out) out (ne_eqb (errnoOf a) 0 f))
+    sym (cond-false (padded 0 answer_words (words_of a) ++ drop answer_words out) out (ne_eqb (errno_of a) 0 f))
 
-no-errno : (b : Bool) → errnoOf (Refused (cond b EINVAL EFAULT)) ≡ 0 → ⊥
-unfolding errnoOf
+no-errno : (b : Bool) → errno_of (Refused (cond b EINVAL EFAULT)) ≡ 0 → ⊥
+unfolding errno_of
 no-errno true e = omega (arith, e)
 no-errno false e = omega (arith, e)
 
@@ -68,39 +68,39 @@ module _ (n : ℕ) (g : Arguments) (l : Lent) (out : List ℕ) where
   abbrev Ends : ℕ → Lent → List ℕ → Type 0
   Ends r m o = record { tables = m; words = o; errno = r } ≡ served n g out l
 
-  ends : (x : Lent × Answer) → serveOn n g room l ≡ x → (r : ℕ) (m : Lent) (o : List ℕ) → r ≡ errnoOf x.1 → m ≡ x.0
+  ends : (x : Lent × Answer) → serve_on n g room l ≡ x → (r : ℕ) (m : Lent) (o : List ℕ) → r ≡ errno_of x.1 → m ≡ x.0
       → o ≡ written x.1 out → Ends r m o
-  unfolding served servedBy
-  ends x e r m o p q s = (λ i. record { tables = q i; words = s i; errno = p i }) ∙ ap (servedBy out) (sym e)
+  unfolding served served_by
+  ends x e r m o p q s = (λ i. record { tables = q i; words = s i; errno = p i }) ∙ ap (served_by out) (sym e)
 
   pub turned-away : accepted n room ≡ false → (r : ℕ) → r ≡ cond (usable n l) EINVAL EFAULT → Ends r l out
-  unfolding serveOn errnoOf
+  unfolding serve_on errno_of
   turned-away f r e =
       ends (l, Refused (cond (usable n l) EINVAL EFAULT))
-      (cond-false (stepOn (numbered n g) l) (l, Refused (cond (usable n l) EINVAL EFAULT)) f) r l out e refl
+      (cond-false (step_on (numbered n g) l) (l, Refused (cond (usable n l) EINVAL EFAULT)) f) r l out e refl
       (kept-words (Refused (cond (usable n l) EINVAL EFAULT)) out (no-errno (usable n l)))
 
   module _ (t : accepted n room ≡ true) (c : Call) (e : c ≡ numbered n g) (a : Answer) (m : Lent)
-      (h : (m, a) ≡ stepOn c l) where
-    is-step : serveOn n g room l ≡ stepOn c l
-    unfolding serveOn
+      (h : (m, a) ≡ step_on c l) where
+    is-step : serve_on n g room l ≡ step_on c l
+    unfolding serve_on
     is-step =
-        cond-true (stepOn (numbered n g) l) (l, Refused (cond (usable n l) EINVAL EFAULT)) t
-        ∙ ap (λ (x : Call). stepOn x l) (sym e)
+        cond-true (step_on (numbered n g) l) (l, Refused (cond (usable n l) EINVAL EFAULT)) t
+        ∙ ap (λ (x : Call). step_on x l) (sym e)
 
-    pub step-refused : (r : ℕ) → r ≡ errnoOf a → (r ≡ 0 → ⊥) → Ends r m out
+    pub step-refused : (r : ℕ) → r ≡ errno_of a → (r ≡ 0 → ⊥) → Ends r m out
     step-refused r i f =
-        ends (stepOn c l) is-step r m out (i ∙ ap errnoOf (answer-of h)) (tables-of h)
-        (kept-words (stepOn c l).1 out (λ z. f (i ∙ ap errnoOf (answer-of h) ∙ z)))
+        ends (step_on c l) is-step r m out (i ∙ ap errno_of (answer-of h)) (tables-of h)
+        (kept-words (step_on c l).1 out (λ z. f (i ∙ ap errno_of (answer-of h) ∙ z)))
 
-    pub step-answered : (r : ℕ) → r ≡ errnoOf a → r ≡ 0 → (ws o : List ℕ) → ws ≡ padded 0 answerWords (words_of a)
-        → o ≡ ws ++ drop answerWords out → Ends 0 m o
+    pub step-answered : (r : ℕ) → r ≡ errno_of a → r ≡ 0 → (ws o : List ℕ) → ws ≡ padded 0 answer_words (words_of a)
+        → o ≡ ws ++ drop answer_words out → Ends 0 m o
     unfolding written
     step-answered r i z ws o w p =
-        let none : errnoOf (stepOn c l).1 ≡ 0 = ap errnoOf (sym (answer-of h)) ∙ sym i ∙ z in
-        ends (stepOn c l) is-step 0 m o (sym none) (tables-of h)
+        let none : errno_of (step_on c l).1 ≡ 0 = ap errno_of (sym (answer-of h)) ∙ sym i ∙ z in
+        ends (step_on c l) is-step 0 m o (sym none) (tables-of h)
         (p
-        ∙ ap (λ (x : List ℕ). x ++ drop answerWords out)
-        (w ∙ ap (λ (x : Answer). padded 0 answerWords (words_of x)) (answer-of h))
-        ∙ sym (cond-true (padded 0 answerWords (words_of (stepOn c l).1) ++ drop answerWords out) out
-        (eq-eqb (errnoOf (stepOn c l).1) 0 none)))
+        ∙ ap (λ (x : List ℕ). x ++ drop answer_words out)
+        (w ∙ ap (λ (x : Answer). padded 0 answer_words (words_of x)) (answer-of h))
+        ∙ sym (cond-true (padded 0 answer_words (words_of (step_on c l).1) ++ drop answer_words out) out
+        (eq-eqb (errno_of (step_on c l).1) 0 none)))

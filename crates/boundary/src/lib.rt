@@ -1,15 +1,15 @@
 // The C boundary over the word tables: a call by its number, with its arguments as numbers, and its answer as words.
 ghost use Rattle.std.specs.Prelude.{◌≡◌, true, cond, [], ◌∷◌, ◌++◌, ◌≤◌, length, drop};
-ghost use Rattle.limits.specs.Limits.{EFAULT, EINVAL, answerWords};
+ghost use Rattle.limits.specs.Limits.{EFAULT, EINVAL, answer_words};
 ghost use Rattle.lists.specs.Lists.{padded};
 ghost use Rattle.sigset.specs.Set.{bits};
-ghost use Rattle.types.specs.Values.{newOf};
+ghost use Rattle.types.specs.Values.{new_of};
 ghost use Rattle.sound.specs.Lent.{given, before, after};
-ghost use Rattle.actions.specs.Given.{newAction};
-ghost use Rattle.masks.specs.Given.{newSet};
+ghost use Rattle.actions.specs.Given.{new_action};
+ghost use Rattle.masks.specs.Given.{new_set};
 ghost use Rattle.calls.specs.Calls.{call_of};
-ghost use Rattle.boundary.specs.Boundary.{arguments, whereGiven, isCall, numbered, accepted, usable, sentWord};
-ghost use Rattle.boundary.specs.Boundary.{nextWords, takenWords, replyWords, words_of, errnoOf, served};
+ghost use Rattle.boundary.specs.Boundary.{arguments, where_given, is_call, numbered, accepted, usable, sent_word};
+ghost use Rattle.boundary.specs.Boundary.{next_words, taken_words, reply_words, words_of, errno_of, served};
 
 use actions::GivenAction;
 use calls::{Asking, Call, Placing, Sending, Setting};
@@ -30,7 +30,7 @@ use types::{Action, Answer, NewProcess, Next, Reply, Sent, Siginfo, Taken};
 
 // An action or a set is given where the number before it is not 0.
 fn given_action(given: u32, handler: u64, flags: u64, mask: u64) -> GivenAction
-    ensures { newAction result ≡ whereGiven given (record { handler = handler; flags = flags; mask = bits mask }) }
+    ensures { new_action result ≡ where_given given (record { handler = handler; flags = flags; mask = bits mask }) }
 {
     if given == 0 {
         return GivenAction::NoAction;
@@ -43,7 +43,7 @@ fn given_action(given: u32, handler: u64, flags: u64, mask: u64) -> GivenAction
 }
 
 fn given_set(given: u32, set: u64) -> GivenSet
-    ensures { newSet result ≡ whereGiven given (bits set) }
+    ensures { new_set result ≡ where_given given (bits set) }
 {
     if given == 0 {
         return GivenSet::NoSet;
@@ -60,7 +60,7 @@ fn new_process(
     thread: u32,
     mask: u64,
 ) -> NewProcess
-    ensures { result ≡ newOf id real effective saved session thread (bits mask) }
+    ensures { result ≡ new_of id real effective saved session thread (bits mask) }
 {
     NewProcess {
         id,
@@ -86,7 +86,7 @@ fn call_of(
     y: u64,
     z: u64,
 ) -> Call
-    requires { isCall number ≡ true }
+    requires { is_call number ≡ true }
     ensures { call_of result ≡ numbered number (arguments a b c d e f x y z) }
 {
     match number {
@@ -111,7 +111,7 @@ fn call_of(
 
 // What is returned: the errno of a refusal, else 0.
 fn errno_of(answer: Answer) -> u32
-    ensures { result ≡ errnoOf answer }
+    ensures { result ≡ errno_of answer }
 {
     match answer {
         Answer::Refused(n) => n,
@@ -121,14 +121,14 @@ fn errno_of(answer: Answer) -> u32
 
 // A first word, and up to three more.
 fn short(number: u64, a: u64, b: u64, c: u64) -> [u64; ANSWER_WORDS]
-    ensures { result ≡ padded 0 answerWords (number ∷ a ∷ b ∷ c ∷ []) }
+    ensures { result ≡ padded 0 answer_words (number ∷ a ∷ b ∷ c ∷ []) }
 {
     [number, a, b, c, 0, 0, 0, 0, 0, 0, 0, 0]
 }
 
 // What a send answers.
 fn sent_word(sent: Sent) -> u64
-    ensures { result ≡ sentWord sent }
+    ensures { result ≡ sent_word sent }
 {
     match sent {
         Sent::Tested => ANSWER_TESTED,
@@ -142,7 +142,7 @@ fn sent_word(sent: Sent) -> u64
 
 // What a look found.
 fn next_words(next: Next) -> [u64; ANSWER_WORDS]
-    ensures { result ≡ padded 0 answerWords (nextWords next) }
+    ensures { result ≡ padded 0 answer_words (next_words next) }
 {
     match next {
         Next::Nothing => short(ANSWER_NEXT_NOTHING, 0, 0, 0),
@@ -179,7 +179,7 @@ fn handler_words(
     flags: u64,
     saved: SigSet,
 ) -> [u64; ANSWER_WORDS]
-    ensures { result ≡ padded 0 answerWords (takenWords (Taken.Handler handler signal r flags saved)) }
+    ensures { result ≡ padded 0 answer_words (taken_words (Taken.Handler handler signal r flags saved)) }
 {
     [
         ANSWER_HANDLER,
@@ -199,7 +199,7 @@ fn handler_words(
 
 // What a take answers.
 fn taken_words(taken: Taken) -> [u64; ANSWER_WORDS]
-    ensures { result ≡ padded 0 answerWords (takenWords taken) }
+    ensures { result ≡ padded 0 answer_words (taken_words taken) }
 {
     match taken {
         Taken::Nothing => short(ANSWER_NOTHING, 0, 0, 0),
@@ -213,7 +213,7 @@ fn taken_words(taken: Taken) -> [u64; ANSWER_WORDS]
 }
 
 fn reply_words(reply: Reply) -> [u64; ANSWER_WORDS]
-    ensures { result ≡ padded 0 answerWords (replyWords reply) }
+    ensures { result ≡ padded 0 answer_words (reply_words reply) }
 {
     match reply {
         Reply::Done => short(ANSWER_DONE, 0, 0, 0),
@@ -233,7 +233,7 @@ fn reply_words(reply: Reply) -> [u64; ANSWER_WORDS]
 
 // The words of an answer, with zeros behind.
 fn words_of(answer: Answer) -> [u64; ANSWER_WORDS]
-    ensures { result ≡ padded 0 answerWords (words_of answer) }
+    ensures { result ≡ padded 0 answer_words (words_of answer) }
 {
     match answer {
         Answer::Refused(_) => [0; ANSWER_WORDS],
@@ -242,8 +242,8 @@ fn words_of(answer: Answer) -> [u64; ANSWER_WORDS]
 }
 
 fn write(out: &mut [u64], words: [u64; ANSWER_WORDS])
-    requires { answerWords ≤ length out.old }
-    ensures { out.new ≡ words ++ drop answerWords out.old }
+    requires { answer_words ≤ length out.old }
+    ensures { out.new ≡ words ++ drop answer_words out.old }
 {
     let mut i = 0;
     while i < ANSWER_WORDS {

@@ -12,33 +12,33 @@ use Rattle.rules.specs.View.{View}
 use Rattle.rules.specs.Calls.{changes}
 use Rattle.calls.specs.declared.Asking.{Asking}
 use Rattle.calls.specs.declared.Asking.TheVariants.{Sigpending, Look, Who}
-use Rattle.calls.specs.Calls.{askingOf}
+use Rattle.calls.specs.Calls.{asking_of}
 use Rattle.sound.specs.Lent.{Lent, view_of}
-use Rattle.answers.specs.Step.{refusalOn, stepOn}
+use Rattle.answers.specs.Step.{refusal_on, step_on}
 use Rattle.answers.proofs.Endings.{refused-tables, tables-same}
 
 -- by the answer that it gave
-pub asked : (c : Call) (l : Lent) (r : Answer) → r ≡ (stepOn c l).1 → Bytes l.threadBuffer → Bytes l.processBuffer
-    → changes (view_of l) c ≡ [] → (l, r) ≡ stepOn c l
+pub asked : (c : Call) (l : Lent) (r : Answer) → r ≡ (step_on c l).1 → Bytes l.thread_buffer → Bytes l.process_buffer
+    → changes (view_of l) c ≡ [] → (l, r) ≡ step_on c l
 asked c l r a bt bp h = λ i. (same i, a i)
   where
-    same : l ≡ (stepOn c l).0
+    same : l ≡ (step_on c l).0
     same =
-        split (eqb (refusalOn c l) 0)
-        (λ e. tables-same c l (eqb-true (refusalOn c l) 0 e) bt bp h)
-        (λ e. refused-tables c l (eqb-false (refusalOn c l) 0 e))
+        split (eqb (refusal_on c l) 0)
+        (λ e. tables-same c l (eqb-true (refusal_on c l) 0 e) bt bp h)
+        (λ e. refused-tables c l (eqb-false (refusal_on c l) 0 e))
 
 -- a call of the family that asks changes nothing
-pub nothing-changed : (v : View) (c : Asking) → changes v (askingOf c) ≡ []
-unfolding askingOf changes
+pub nothing-changed : (v : View) (c : Asking) → changes v (asking_of c) ≡ []
+unfolding asking_of changes
 nothing-changed v (Sigpending t) = refl
 nothing-changed v (Look t) = refl
 nothing-changed v (Who p) = refl
 
 -- the value is this case of its enum, whose rules' call is of c
 module _ {A : Type 0} (of : A → Call) (c k : A) (e : c ≡ k) (l : Lent) (r : Answer) where
-  pub answer-case : r ≡ (stepOn (of k) l).1 → r ≡ (stepOn (of c) l).1
-  answer-case a = a ∙ ap (λ (x : A). (stepOn (of x) l).1) (sym e)
+  pub answer-case : r ≡ (step_on (of k) l).1 → r ≡ (step_on (of c) l).1
+  answer-case a = a ∙ ap (λ (x : A). (step_on (of x) l).1) (sym e)
 
-  pub by-case : (m : Lent) → (m, r) ≡ stepOn (of k) l → (m, r) ≡ stepOn (of c) l
-  by-case m h = h ∙ ap (λ (x : A). stepOn (of x) l) (sym e)
+  pub by-case : (m : Lent) → (m, r) ≡ step_on (of k) l → (m, r) ≡ step_on (of c) l
+  by-case m h = h ∙ ap (λ (x : A). step_on (of x) l) (sym e)

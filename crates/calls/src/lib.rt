@@ -1,8 +1,8 @@
 // Every call by its value: what a host hands in, and what the layer answers.
 ghost use Rattle.std.specs.Prelude.{◌≡◌};
 ghost use Rattle.sound.specs.Lent.{before};
-ghost use Rattle.answers.specs.Step.{stepOn, stepped};
-ghost use Rattle.calls.specs.Calls.{placingOf, sendingOf, setting_of, askingOf, call_of};
+ghost use Rattle.answers.specs.Step.{step_on, stepped};
+ghost use Rattle.calls.specs.Calls.{placing_of, sending_of, setting_of, asking_of, call_of};
 
 use actions::GivenAction;
 use masks::GivenSet;
@@ -63,7 +63,7 @@ pub enum Call {
 // ---- a call of each family
 
 fn place(ps: &mut [u64], ts: &mut [u64], tb: &mut [u8], pb: &mut [u8], c: Placing) -> Answer
-    ensures { stepped (placingOf c) result ps ts tb pb }
+    ensures { stepped (placing_of c) result ps ts tb pb }
 {
     match c {
         Placing::AddProcess(new) => adding::add_process(ps, ts, tb, pb, new),
@@ -74,7 +74,7 @@ fn place(ps: &mut [u64], ts: &mut [u64], tb: &mut [u8], pb: &mut [u8], c: Placin
 }
 
 fn send(ps: &mut [u64], ts: &mut [u64], tb: &mut [u8], pb: &mut [u8], c: Sending) -> Answer
-    ensures { stepped (sendingOf c) result ps ts tb pb }
+    ensures { stepped (sending_of c) result ps ts tb pb }
 {
     match c {
         Sending::Kill(by, to, thread, s) => sending::kill(ps, ts, tb, pb, by, to, thread, s),
@@ -95,7 +95,7 @@ fn set(ps: &mut [u64], ts: &mut [u64], tb: &mut [u8], pb: &mut [u8], c: Setting)
 }
 
 fn ask(ps: &[u64], ts: &[u64], tb: &[u8], pb: &[u8], c: Asking) -> Answer
-    ensures { result ≡ (stepOn (askingOf c) (before ps ts tb pb)).1 }
+    ensures { result ≡ (step_on (asking_of c) (before ps ts tb pb)).1 }
 {
     match c {
         Asking::Sigpending(thread) => masks::sigpending(ps, ts, tb, pb, thread),

@@ -1,14 +1,14 @@
 // Clearing the store.
 ghost use Rattle.std.specs.Prelude.{◌≡◌};
 ghost use Rattle.rules.specs.Types as call;
-ghost use Rattle.sound.specs.Lent.{lengthsAre, before};
+ghost use Rattle.sound.specs.Lent.{lengths_are, before};
 ghost use Rattle.answers.specs.Step.{stepped};
 
 use limits::{BUFFER_BYTES, EFAULT, PROCESS_TABLE, THREAD_TABLE};
 use types::{Answer, Reply};
 
 pub fn lengths_are(ps: &[u64], ts: &[u64], tb: &[u8], pb: &[u8]) -> bool
-    ensures { result ≡ lengthsAre (before ps ts tb pb) }
+    ensures { result ≡ lengths_are (before ps ts tb pb) }
 {
     let buffers = (tb.len() == BUFFER_BYTES) & (pb.len() == BUFFER_BYTES);
     (ps.len() == PROCESS_TABLE) & ((ts.len() == THREAD_TABLE) & buffers)

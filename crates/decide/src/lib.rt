@@ -1,9 +1,9 @@
 // Tests on single values: what a signal, an action, a set or an id is.
 ghost use Rattle.std.specs.Prelude.{◌≡◌, eqb};
 ghost use Rattle.std.specs.Int.Bits.{bit_and};
-ghost use Rattle.limits.specs.Limits.{knownFlags};
-ghost use Rattle.rules.specs.Signals.{isSignal, standard, ignoring, ignored};
-ghost use Rattle.rules.specs.Sound.{goodId, goodUser, is_default, unmasked, nameable};
+ghost use Rattle.limits.specs.Limits.{known_flags};
+ghost use Rattle.rules.specs.Signals.{is_signal, standard, ignoring, ignored};
+ghost use Rattle.rules.specs.Sound.{good_id, good_user, is_default, unmasked, nameable};
 
 use limits::{
     KNOWN_FLAGS, LARGEST_ID, LARGEST_USER, LAST_STANDARD, SIG_DFL, SIG_IGN, SIGCHLD, SIGKILL,
@@ -15,7 +15,7 @@ use types::Action;
 // ---- signals
 
 pub fn is_signal(s: u32) -> bool
-    ensures { result ≡ isSignal s }
+    ensures { result ≡ is_signal s }
 {
     (1 <= s) & (s <= SIGNALS)
 }
@@ -58,7 +58,7 @@ pub fn is_default(a: Action) -> bool
 
 // Has the word no flag but the known ones?
 pub fn are_flags_known(flags: u64) -> bool
-    ensures { result ≡ eqb (bit_and flags knownFlags) flags }
+    ensures { result ≡ eqb (bit_and flags known_flags) flags }
 {
     flags & KNOWN_FLAGS == flags
 }
@@ -73,13 +73,13 @@ pub fn is_unmasked(m: SigSet) -> bool
 }
 
 pub fn is_id(n: u64) -> bool
-    ensures { result ≡ goodId n }
+    ensures { result ≡ good_id n }
 {
     (1 <= n) & (n <= LARGEST_ID as u64)
 }
 
 pub fn is_user(n: u64) -> bool
-    ensures { result ≡ goodUser n }
+    ensures { result ≡ good_user n }
 {
     n <= LARGEST_USER as u64
 }

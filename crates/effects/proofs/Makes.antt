@@ -20,13 +20,13 @@ fits_one {ch} {l} r = chain.first_fits ch [] (decoded l) r.fit
 -- it is enough that the tables keep their lengths and say the right thing
 pub makes : {ch : Change} {l l' : Lent} → Ready (ch ∷ []) l
     → length l'.processes ≡ length l.processes → length l'.threads ≡ length l.threads
-    → length l'.threadBuffer ≡ length l.threadBuffer → length l'.processBuffer ≡ length l.processBuffer
+    → length l'.thread_buffer ≡ length l.thread_buffer → length l'.process_buffer ≡ length l.process_buffer
     → decoded l' ≡ apply ch (decoded l) → Changed (ch ∷ []) l l'
 makes {ch} {l} {l'} r p t b q k = record {
   store = chain.one-made ch (decoded l) (decoded l') k;
   sound =
       sound-after ch l l' r.sound (fits_one r)
-      (record { processes = p; threads = t; threadBuffer = b; processBuffer = q }) k;
+      (record { processes = p; threads = t; thread_buffer = b; process_buffer = q }) k;
 }
 
 -- ---- by a list that they equal

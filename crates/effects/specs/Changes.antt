@@ -2,17 +2,17 @@
 -- other; after it they say what the rules make of what they said, and are sound still.
 use Rattle.std.specs.Prelude.{◌≡◌, true, List}
 use Rattle.rules.specs.View.{Change}
-use Rattle.rules.specs.Store.{applyAll}
-use Rattle.rules.specs.Fitting.{fitsAll}
-use Rattle.sound.specs.Lent.{Lent, decoded, soundTables, Slice, Slices, given, before, after}
+use Rattle.rules.specs.Store.{apply_all}
+use Rattle.rules.specs.Fitting.{fits_all}
+use Rattle.sound.specs.Lent.{Lent, decoded, sound_tables, Slice, Slices, given, before, after}
 
 pub record Ready (cs : List Change) (l : Lent) : Type 0 where
-  pub sound : soundTables l ≡ true
-  pub fit : fitsAll cs (decoded l) ≡ true
+  pub sound : sound_tables l ≡ true
+  pub fit : fits_all cs (decoded l) ≡ true
 
 pub record Changed (cs : List Change) (l l' : Lent) : Type 0 where
-  pub store : decoded l' ≡ applyAll cs (decoded l)
-  pub sound : soundTables l' ≡ true
+  pub store : decoded l' ≡ apply_all cs (decoded l)
+  pub sound : sound_tables l' ≡ true
 
 -- of the lent slices
 abbrev pub ready : List Change → (ps ts tb pb : Slice) → Type 0

@@ -7,18 +7,18 @@ use Rattle.rules.specs.Store.{Place}
 use Rattle.effects.specs.declared.Marking.{Marking}
 use Rattle.effects.specs.declared.Marking.TheVariants.{Adding, Removing}
 
-unfoldable pub markedBy : Marking → SigSet → SigSet
-markedBy (Adding s) m = union m s
-markedBy (Removing s) m = without m s
+unfoldable pub marked_by : Marking → SigSet → SigSet
+marked_by (Adding s) m = union m s
+marked_by (Removing s) m = without m s
 
 -- a place with its marks changed
-unfoldable pub withMarking : {A : Type 0} → Marking → Place A → Place A
-withMarking how x = record { holds = x.holds; marks = markedBy how x.marks }
+unfoldable pub with_marking : {A : Type 0} → Marking → Place A → Place A
+with_marking how x = record { holds = x.holds; marks = marked_by how x.marks }
 
 -- where it is a thread of the process
-unfoldable pub withMarkingOf : (process : ℕ) → Marking → Place Thread → Place Thread
-withMarkingOf p how x = cond (eqb x.holds.process p) (withMarking how x) x
+unfoldable pub with_marking_of : (process : ℕ) → Marking → Place Thread → Place Thread
+with_marking_of p how x = cond (eqb x.holds.process p) (with_marking how x) x
 
 -- a thread with these fields
-abbrev pub threadOf : (id process : ℕ) → SigSet → Thread
-threadOf id process mask = record { id = id; process = process; mask = mask }
+abbrev pub thread_of : (id process : ℕ) → SigSet → Thread
+thread_of id process mask = record { id = id; process = process; mask = mask }

@@ -2,17 +2,17 @@
 // what they say after it is what the rules' `apply` makes of what they said before, and sound tables stay sound.
 // A table that a change does not touch is lent to it for reading: soundness is of all four.
 ghost use Rattle.std.specs.Prelude.{◌≡◌, true, [], ◌∷◌, map, length, set};
-ghost use Rattle.limits.specs.Limits.{threadTable, processTable};
+ghost use Rattle.limits.specs.Limits.{thread_table, process_table};
 ghost use Rattle.lists.specs.Lists.{any, find};
-ghost use Rattle.rules.specs.View.{isProcess, isThread, belongsTo, targetQueue, forget, removeProcess, removeThread};
-ghost use Rattle.rules.specs.View.{setStopped, setAction, setMask, setMark, clearMark, append, dropOldest, discard};
-ghost use Rattle.rules.specs.Store.{freeThread, isFreeProcess, isFreeThread, vacate, fill, apply};
-ghost use Rattle.rules.specs.Actions.{storeChanges};
-ghost use Rattle.rules.specs.Adding.{addedProcess};
-ghost use Rattle.tables.specs.Tables.{processesOf, threadsOf, heldProcesses, heldThreads, processAt, threadAt};
-ghost use Rattle.sound.specs.Lent.{decoded, lengthsAre, given, before, after};
+ghost use Rattle.rules.specs.View.{is_process, is_thread, belongs_to, target_queue, forget, remove_process, remove_thread};
+ghost use Rattle.rules.specs.View.{set_stopped, set_action, set_mask, set_mark, clear_mark, append, drop_oldest, discard};
+ghost use Rattle.rules.specs.Store.{free_thread, is_free_process, is_free_thread, vacate, fill, apply};
+ghost use Rattle.rules.specs.Actions.{store_changes};
+ghost use Rattle.rules.specs.Adding.{added_process};
+ghost use Rattle.tables.specs.Tables.{processes_of, threads_of, held_processes, held_threads, process_at, thread_at};
+ghost use Rattle.sound.specs.Lent.{decoded, lengths_are, given, before, after};
 ghost use Rattle.effects.specs.Changes.{ready, changed};
-ghost use Rattle.effects.specs.Effects.{markedBy, withMarking, withMarkingOf, threadOf};
+ghost use Rattle.effects.specs.Effects.{marked_by, with_marking, with_marking_of, thread_of};
 
 use limits::{
     PROCESS_MARKS, PROCESS_STOPPED, THREAD_MARKS, THREAD_MASK, THREAD_PLACES, THREAD_PROCESS,
@@ -31,7 +31,7 @@ enum Marking {
 // ---- marks
 
 fn marked(m: SigSet, how: Marking) -> SigSet
-    ensures { result ≡ markedBy how m }
+    ensures { result ≡ marked_by how m }
 {
     match how {
         Marking::Adding(s) => SigSet::union(m, s),
@@ -41,11 +41,11 @@ fn marked(m: SigSet, how: Marking) -> SigSet
 
 // The marks of a live process.
 fn change_process_marks(ps: &mut [u64], process: u32, how: Marking)
-    requires ps_len { length ps.old ≡ processTable }
-    requires ps_value { any (isProcess process) (heldProcesses ps.old) ≡ true }
-    ensures { processesOf ps.new
-        ≡ set (processesOf ps.old) (find (isProcess process) (heldProcesses ps.old))
-        (withMarking how (processAt ps.old (find (isProcess process) (heldProcesses ps.old)))) }
+    requires ps_len { length ps.old ≡ process_table }
+    requires ps_value { any (is_process process) (held_processes ps.old) ≡ true }
+    ensures { processes_of ps.new
+        ≡ set (processes_of ps.old) (find (is_process process) (held_processes ps.old))
+        (with_marking how (process_at ps.old (find (is_process process) (held_processes ps.old)))) }
 {
     let place = tables::find_process(ps, process as u64);
     let m = marked(SigSet(tables::field_at(ps, place, PROCESS_MARKS)), how);
@@ -54,11 +54,11 @@ fn change_process_marks(ps: &mut [u64], process: u32, how: Marking)
 
 // The marks of a live thread.
 fn change_thread_marks(ts: &mut [u64], thread: u32, how: Marking)
-    requires ts_len { length ts.old ≡ threadTable }
-    requires ts_value { any (isThread thread) (heldThreads ts.old) ≡ true }
-    ensures { threadsOf ts.new
-        ≡ set (threadsOf ts.old) (find (isThread thread) (heldThreads ts.old))
-        (withMarking how (threadAt ts.old (find (isThread thread) (heldThreads ts.old)))) }
+    requires ts_len { length ts.old ≡ thread_table }
+    requires ts_value { any (is_thread thread) (held_threads ts.old) ≡ true }
+    ensures { threads_of ts.new
+        ≡ set (threads_of ts.old) (find (is_thread thread) (held_threads ts.old))
+        (with_marking how (thread_at ts.old (find (is_thread thread) (held_threads ts.old)))) }
 {
     let place = tables::find_thread(ts, thread as u64);
     let m = marked(
@@ -70,8 +70,8 @@ fn change_thread_marks(ts: &mut [u64], thread: u32, how: Marking)
 
 // The marks of every thread of a process.
 fn change_threads_marks(ts: &mut [u64], process: u32, how: Marking)
-    requires { length ts.old ≡ threadTable }
-    ensures { threadsOf ts.new ≡ map (withMarkingOf process how) (threadsOf ts.old) }
+    requires { length ts.old ≡ thread_table }
+    ensures { threads_of ts.new ≡ map (with_marking_of process how) (threads_of ts.old) }
 {
     let mut i = 0;
     while i < THREAD_PLACES {
@@ -93,8 +93,8 @@ pub fn set_mark(
     thread: u32,
     signal: u32,
 )
-    requires { ready (setMark (targetQueue process thread) signal ∷ []) ps ts tb pb }
-    ensures { changed (setMark (targetQueue process thread) signal ∷ []) ps ts tb pb }
+    requires { ready (set_mark (target_queue process thread) signal ∷ []) ps ts tb pb }
+    ensures { changed (set_mark (target_queue process thread) signal ∷ []) ps ts tb pb }
 {
     let how = Marking::Adding(SigSet::of_signal(signal));
     if thread == 0 {
@@ -114,8 +114,8 @@ pub fn clear_mark(
     thread: u32,
     signal: u32,
 )
-    requires { ready (clearMark (targetQueue process thread) signal ∷ []) ps ts tb pb }
-    ensures { changed (clearMark (targetQueue process thread) signal ∷ []) ps ts tb pb }
+    requires { ready (clear_mark (target_queue process thread) signal ∷ []) ps ts tb pb }
+    ensures { changed (clear_mark (target_queue process thread) signal ∷ []) ps ts tb pb }
 {
     let how = Marking::Removing(SigSet::of_signal(signal));
     if thread == 0 {
@@ -149,8 +149,8 @@ pub fn drop_oldest(
     thread: u32,
     signal: u32,
 )
-    requires { ready (dropOldest (targetQueue process thread) signal ∷ []) ps ts tb pb }
-    ensures { changed (dropOldest (targetQueue process thread) signal ∷ []) ps ts tb pb }
+    requires { ready (drop_oldest (target_queue process thread) signal ∷ []) ps ts tb pb }
+    ensures { changed (drop_oldest (target_queue process thread) signal ∷ []) ps ts tb pb }
 {
     if thread == 0 {
         let k = queue::first_of(pb, process, thread, signal);
@@ -183,8 +183,8 @@ pub fn discard(
 
 // 1 stops a process, 0 lets it run.
 pub fn set_stopped(ps: &mut [u64], ts: &[u64], tb: &[u8], pb: &[u8], process: u32, stopped: u64)
-    requires { ready (setStopped process stopped ∷ []) ps ts tb pb }
-    ensures { changed (setStopped process stopped ∷ []) ps ts tb pb }
+    requires { ready (set_stopped process stopped ∷ []) ps ts tb pb }
+    ensures { changed (set_stopped process stopped ∷ []) ps ts tb pb }
 {
     let place = tables::find_process(ps, process as u64);
     tables::put_field(ps, place, PROCESS_STOPPED, stopped);
@@ -200,8 +200,8 @@ pub fn set_action(
     signal: u32,
     a: Action,
 )
-    requires { ready (setAction process signal a ∷ []) ps ts tb pb }
-    ensures { changed (setAction process signal a ∷ []) ps ts tb pb }
+    requires { ready (set_action process signal a ∷ []) ps ts tb pb }
+    ensures { changed (set_action process signal a ∷ []) ps ts tb pb }
 {
     let place = tables::find_process(ps, process as u64);
     tables::put_action(ps, place, signal, a);
@@ -217,8 +217,8 @@ pub fn store_action(
     signal: u32,
     a: Action,
 )
-    requires { ready (storeChanges process signal a) ps ts tb pb }
-    ensures { changed (storeChanges process signal a) ps ts tb pb }
+    requires { ready (store_changes process signal a) ps ts tb pb }
+    ensures { changed (store_changes process signal a) ps ts tb pb }
 {
     if decide::is_ignored(a, signal) {
         discard(ps, ts, tb, pb, process, SigSet::of_signal(signal));
@@ -230,8 +230,8 @@ pub fn store_action(
 
 // The mask of a thread.
 pub fn set_mask(ps: &[u64], ts: &mut [u64], tb: &[u8], pb: &[u8], thread: u32, mask: SigSet)
-    requires { ready (setMask thread mask ∷ []) ps ts tb pb }
-    ensures { changed (setMask thread mask ∷ []) ps ts tb pb }
+    requires { ready (set_mask thread mask ∷ []) ps ts tb pb }
+    ensures { changed (set_mask thread mask ∷ []) ps ts tb pb }
 {
     let place = tables::find_thread(ts, thread as u64);
     tables::put_thread_field(ts, place, THREAD_MASK, mask.0);
@@ -241,10 +241,10 @@ pub fn set_mask(ps: &[u64], ts: &mut [u64], tb: &[u8], pb: &[u8], thread: u32, m
 
 // A new process into the lowest free place.
 pub fn new_process(ps: &mut [u64], new: NewProcess)
-    requires ps_len { length ps.old ≡ processTable }
-    requires ps_value { any isFreeProcess (heldProcesses ps.old) ≡ true }
-    ensures { processesOf ps.new
-        ≡ fill isFreeProcess (addedProcess new) (processesOf ps.old) }
+    requires ps_len { length ps.old ≡ process_table }
+    requires ps_value { any is_free_process (held_processes ps.old) ≡ true }
+    ensures { processes_of ps.new
+        ≡ fill is_free_process (added_process new) (processes_of ps.old) }
 {
     let place = tables::free_process(ps);
     tables::fill_process(ps, place, new);
@@ -252,10 +252,10 @@ pub fn new_process(ps: &mut [u64], new: NewProcess)
 
 // A new thread into the lowest free place.
 pub fn new_thread(ts: &mut [u64], id: u32, process: u32, mask: SigSet)
-    requires ts_len { length ts.old ≡ threadTable }
-    requires ts_value { any isFreeThread (heldThreads ts.old) ≡ true }
-    ensures { threadsOf ts.new
-        ≡ fill isFreeThread (threadOf id process mask) (threadsOf ts.old) }
+    requires ts_len { length ts.old ≡ thread_table }
+    requires ts_value { any is_free_thread (held_threads ts.old) ≡ true }
+    ensures { threads_of ts.new
+        ≡ fill is_free_thread (thread_of id process mask) (threads_of ts.old) }
 {
     let place = tables::free_thread(ts);
     tables::fill_thread(ts, place, id, process, mask);
@@ -263,9 +263,9 @@ pub fn new_thread(ts: &mut [u64], id: u32, process: u32, mask: SigSet)
 
 // The places of all threads of a process become free.
 fn vacate_threads(ts: &mut [u64], process: u32)
-    requires { length ts.old ≡ threadTable }
-    ensures { threadsOf ts.new
-        ≡ vacate freeThread (belongsTo process) (threadsOf ts.old) }
+    requires { length ts.old ≡ thread_table }
+    ensures { threads_of ts.new
+        ≡ vacate free_thread (belongs_to process) (threads_of ts.old) }
 {
     let mut i = 0;
     while i < THREAD_PLACES {
@@ -278,8 +278,8 @@ fn vacate_threads(ts: &mut [u64], process: u32)
 
 // A process goes, with its threads and all that is pending for it and for them.
 pub fn remove_process(ps: &mut [u64], ts: &mut [u64], tb: &mut [u8], pb: &mut [u8], process: u32)
-    requires { ready (removeProcess process ∷ []) ps ts tb pb }
-    ensures { changed (removeProcess process ∷ []) ps ts tb pb }
+    requires { ready (remove_process process ∷ []) ps ts tb pb }
+    ensures { changed (remove_process process ∷ []) ps ts tb pb }
 {
     let place = tables::find_process(ps, process as u64);
     tables::clear_process(ps, place);
@@ -290,8 +290,8 @@ pub fn remove_process(ps: &mut [u64], ts: &mut [u64], tb: &mut [u8], pb: &mut [u
 
 // A thread goes, with all that is pending for it.
 pub fn remove_thread(ps: &[u64], ts: &mut [u64], tb: &mut [u8], pb: &mut [u8], thread: u32)
-    requires { ready (removeThread thread ∷ []) ps ts tb pb }
-    ensures { changed (removeThread thread ∷ []) ps ts tb pb }
+    requires { ready (remove_thread thread ∷ []) ps ts tb pb }
+    ensures { changed (remove_thread thread ∷ []) ps ts tb pb }
 {
     let place = tables::find_thread(ts, thread as u64);
     tables::clear_thread(ts, place);
@@ -301,7 +301,7 @@ pub fn remove_thread(ps: &[u64], ts: &mut [u64], tb: &mut [u8], pb: &mut [u8], t
 
 // All of the store is cleared, whatever it held.
 pub fn forget(ps: &mut [u64], ts: &mut [u64], tb: &mut [u8], pb: &mut [u8])
-    requires { lengthsAre (given ps ts tb pb) ≡ true }
+    requires { lengths_are (given ps ts tb pb) ≡ true }
     ensures { decoded (after ps ts tb pb) ≡ apply forget (decoded (before ps ts tb pb)) }
 {
     tables::clear_processes(ps);

@@ -6,117 +6,117 @@ use mathlib.Core.List.{[], ◌∷◌}
 use Rattle.lists.specs.Lists.{any}
 use Rattle.siginfo.specs.Bytes.{Bytes}
 use Rattle.lists.proofs.Bools.{and_both}
-use Rattle.rules.specs.Types.{Thread, endProcess, endThread}
-use Rattle.rules.specs.View.{removeProcess, removeThread, liveThread, theThread}
+use Rattle.rules.specs.Types.{Thread, end_process, end_thread}
+use Rattle.rules.specs.View.{remove_process, remove_thread, live_thread, the_thread}
 use Rattle.rules.specs.Store.{Store, view}
-use Rattle.rules.specs.Adding.{otherThread, endThreadChanges}
-use Rattle.rules.specs.Refusals.{rows, isClear, esrch, noProcessLive, noThreadLive}
+use Rattle.rules.specs.Adding.{other_thread, end_thread_changes}
+use Rattle.rules.specs.Refusals.{rows, is_clear, esrch, no_process_live, no_thread_live}
 use Rattle.rules.specs.Calls.{changes, reply}
-use Rattle.rules.specs.Fitting.{fits, fitsAll}
+use Rattle.rules.specs.Fitting.{fits, fits_all}
 use Rattle.rules.proofs.Marks.{the-thread-id}
 use Rattle.rules.proofs.TakeFits.{end-thread-fits}
-use Rattle.tables.specs.Tables.{heldThreads}
-use Rattle.sound.specs.Lent.{Lent, decoded, view_of, soundTables, WithThread}
+use Rattle.tables.specs.Tables.{held_threads}
+use Rattle.sound.specs.Lent.{Lent, decoded, view_of, sound_tables, WithThread}
 use Rattle.sound.proofs.Facts.{AsLong, store-sound}
 use Rattle.effects.specs.Changes.{Ready, Changed}
 use Rattle.effects.proofs.Makes.{ready-as, made_as}
-use Rattle.view.specs.Named.{threadNamed}
+use Rattle.view.specs.Named.{thread_named}
 use Rattle.types.specs.declared.Reply.TheVariants.{Done}
 use Rattle.types.specs.declared.Answer.TheVariants.{Refused, Accepted}
-use Rattle.answers.specs.Step.{refusalOn, rowsOn, stepOn}
+use Rattle.answers.specs.Step.{refusal_on, rows_on, step_on}
 use Rattle.answers.proofs.Endings.{rows-given, refused-ends, accepted-ends}
 use Rattle.answers.proofs.Rows.{live-process, live-thread}
 use Rattle.view.proofs.Live.{owner-is}
-use Rattle.ending.specs.Others.{isOther}
+use Rattle.ending.specs.Others.{is_other}
 use Rattle.ending.proofs.Others.{others-are}
 
 -- ---- a process
 
-module _ (l : Lent) (id n : ℕ) (r : n ≡ rowsOn (esrch (noProcessLive (view_of l) id) ∷ []) l) where
-  process-number : n ≡ refusalOn (endProcess id) l
-  unfolding rows isClear
-  process-number = r ∙ sym (rows-given (endProcess id) l refl)
+module _ (l : Lent) (id n : ℕ) (r : n ≡ rows_on (esrch (no_process_live (view_of l) id) ∷ []) l) where
+  process-number : n ≡ refusal_on (end_process id) l
+  unfolding rows is_clear
+  process-number = r ∙ sym (rows-given (end_process id) l refl)
 
   pub process-kept : (n ≡ 0 → ⊥)
-      → (l, Refused n) ≡ stepOn (endProcess id) l
-  process-kept = refused-ends (endProcess id) l n process-number
+      → (l, Refused n) ≡ step_on (end_process id) l
+  process-kept = refused-ends (end_process id) l n process-number
 
   module _ (z : n ≡ 0) where
-    pub process-can-end : Ready (removeProcess id ∷ []) l
-    unfolding fits fitsAll
+    pub process-can-end : Ready (remove_process id ∷ []) l
+    unfolding fits fits_all
     process-can-end =
         let h = live-process l id n r z in
         record { sound = h.sound; fit = and_both h.live refl }
 
-    pub process-ended : (m : Lent) → AsLong l m → Bytes m.threadBuffer → Bytes m.processBuffer
-        → Changed (removeProcess id ∷ []) l m → (m, Accepted Done) ≡ stepOn (endProcess id) l
+    pub process-ended : (m : Lent) → AsLong l m → Bytes m.thread_buffer → Bytes m.process_buffer
+        → Changed (remove_process id ∷ []) l m → (m, Accepted Done) ≡ step_on (end_process id) l
     unfolding reply changes
     process-ended m k bt bp d =
-        accepted-ends (endProcess id) l (sym process-number ∙ z) Done refl m k bt bp d.store
+        accepted-ends (end_process id) l (sym process-number ∙ z) Done refl m k bt bp d.store
 
 -- ---- a thread
 
-module _ (l : Lent) (e : soundTables l ≡ true) (thread : ℕ) (live : liveThread (view_of l) thread ≡ true) where
+module _ (l : Lent) (e : sound_tables l ≡ true) (thread : ℕ) (live : live_thread (view_of l) thread ≡ true) where
   abbrev st : Store
   st = decoded l
 
   abbrev it : Thread
-  it = theThread (view st) thread
+  it = the_thread (view st) thread
 
-  module _ (process : ℕ) (o : process ≡ (threadNamed l.threads thread).process) (b : Bool)
-      (h : b ≡ any (isOther process thread) (heldThreads l.threads)) where
+  module _ (process : ℕ) (o : process ≡ (thread_named l.threads thread).process) (b : Bool)
+      (h : b ≡ any (is_other process thread) (held_threads l.threads)) where
     owner : process ≡ it.process
     owner = sym (owner-is l thread process o)
 
     its-id : thread ≡ it.id
     its-id = sym (the-thread-id st thread live)
 
-    another : b ≡ any (otherThread (view st) it) (view st).threads
+    another : b ≡ any (other_thread (view st) it) (view st).threads
     unfolding view decoded
-    another = h ∙ others-are (view st) it process thread owner its-id (heldThreads l.threads)
+    another = h ∙ others-are (view st) it process thread owner its-id (held_threads l.threads)
 
     -- the one change
     removal : (x : Bool) → b ≡ x
-        → endThreadChanges (view st) it ≡ (cond x (removeThread thread) (removeProcess process) ∷ [])
-    unfolding endThreadChanges
+        → end_thread_changes (view st) it ≡ (cond x (remove_thread thread) (remove_process process) ∷ [])
+    unfolding end_thread_changes
     removal x k =
-        ap (λ (y : Bool). cond y (removeThread it.id) (removeProcess it.process) ∷ []) (sym another ∙ k)
-        ∙ ap (λ (m : ℕ). cond x (removeThread m) (removeProcess it.process) ∷ []) (sym its-id)
-        ∙ ap (λ (m : ℕ). cond x (removeThread thread) (removeProcess m) ∷ []) (sym owner)
+        ap (λ (y : Bool). cond y (remove_thread it.id) (remove_process it.process) ∷ []) (sym another ∙ k)
+        ∙ ap (λ (m : ℕ). cond x (remove_thread m) (remove_process it.process) ∷ []) (sym its-id)
+        ∙ ap (λ (m : ℕ). cond x (remove_thread thread) (remove_process m) ∷ []) (sym owner)
 
-    ending : Ready (endThreadChanges (view st) it) l
+    ending : Ready (end_thread_changes (view st) it) l
     ending = record { sound = e; fit = end-thread-fits st (store-sound l e) thread live }
 
-    pub thread-ready : b ≡ true → Ready (removeThread thread ∷ []) l
+    pub thread-ready : b ≡ true → Ready (remove_thread thread ∷ []) l
     thread-ready k = ready-as ending (removal true k)
 
-    pub process-ready : b ≡ false → Ready (removeProcess process ∷ []) l
+    pub process-ready : b ≡ false → Ready (remove_process process ∷ []) l
     process-ready k = ready-as ending (removal false k)
 
-    pub thread-removed : b ≡ true → {m : Lent} → Changed (removeThread thread ∷ []) l m
-        → Changed (endThreadChanges (view st) it) l m
+    pub thread-removed : b ≡ true → {m : Lent} → Changed (remove_thread thread ∷ []) l m
+        → Changed (end_thread_changes (view st) it) l m
     thread-removed k d = made_as d (removal true k)
 
-    pub process-removed : b ≡ false → {m : Lent} → Changed (removeProcess process ∷ []) l m
-        → Changed (endThreadChanges (view st) it) l m
+    pub process-removed : b ≡ false → {m : Lent} → Changed (remove_process process ∷ []) l m
+        → Changed (end_thread_changes (view st) it) l m
     process-removed k d = made_as d (removal false k)
 
-module _ (l : Lent) (id n : ℕ) (r : n ≡ rowsOn (esrch (noThreadLive (view_of l) id) ∷ []) l) where
-  thread-number : n ≡ refusalOn (endThread id) l
-  unfolding rows isClear
-  thread-number = r ∙ sym (rows-given (endThread id) l refl)
+module _ (l : Lent) (id n : ℕ) (r : n ≡ rows_on (esrch (no_thread_live (view_of l) id) ∷ []) l) where
+  thread-number : n ≡ refusal_on (end_thread id) l
+  unfolding rows is_clear
+  thread-number = r ∙ sym (rows-given (end_thread id) l refl)
 
   pub thread-kept : (n ≡ 0 → ⊥)
-      → (l, Refused n) ≡ stepOn (endThread id) l
-  thread-kept = refused-ends (endThread id) l n thread-number
+      → (l, Refused n) ≡ step_on (end_thread id) l
+  thread-kept = refused-ends (end_thread id) l n thread-number
 
   module _ (z : n ≡ 0) where
     pub thread-can-end : WithThread id l
     thread-can-end = live-thread l id n r z
 
-    pub thread-ended : (m : Lent) → AsLong l m → Bytes m.threadBuffer → Bytes m.processBuffer
-        → Changed (endThreadChanges (view_of l) (theThread (view_of l) id)) l m
-        → (m, Accepted Done) ≡ stepOn (endThread id) l
+    pub thread-ended : (m : Lent) → AsLong l m → Bytes m.thread_buffer → Bytes m.process_buffer
+        → Changed (end_thread_changes (view_of l) (the_thread (view_of l) id)) l m
+        → (m, Accepted Done) ≡ step_on (end_thread id) l
     unfolding reply changes
     thread-ended m k bt bp d =
-        accepted-ends (endThread id) l (sym thread-number ∙ z) Done refl m k bt bp d.store
+        accepted-ends (end_thread id) l (sym thread-number ∙ z) Done refl m k bt bp d.store

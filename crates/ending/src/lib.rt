@@ -1,23 +1,23 @@
 // Ending processes and threads.
 ghost use Rattle.std.specs.Prelude.{◌≡◌, ◌<◌, length, get_or};
-ghost use Rattle.limits.specs.Limits.{threadTable, threadPlaces};
+ghost use Rattle.limits.specs.Limits.{thread_table, thread_places};
 ghost use Rattle.lists.specs.Lists.{any};
 ghost use Rattle.rules.specs.Types as call;
-ghost use Rattle.rules.specs.Types.{noThread};
-ghost use Rattle.rules.specs.View.{theThread};
-ghost use Rattle.rules.specs.Adding.{endThreadChanges};
-ghost use Rattle.tables.specs.Tables.{heldThreads};
+ghost use Rattle.rules.specs.Types.{no_thread};
+ghost use Rattle.rules.specs.View.{the_thread};
+ghost use Rattle.rules.specs.Adding.{end_thread_changes};
+ghost use Rattle.tables.specs.Tables.{held_threads};
 ghost use Rattle.sound.specs.Lent.{view_of, given, before, WithThread};
 ghost use Rattle.effects.specs.Changes.{changed};
 ghost use Rattle.answers.specs.Step.{stepped};
-ghost use Rattle.ending.specs.Others.{isOther};
+ghost use Rattle.ending.specs.Others.{is_other};
 
 use limits::{THREAD_ID, THREAD_PLACES, THREAD_PROCESS};
 use types::{Answer, Reply};
 
 // Ends a process, as KILL does.
 pub fn end_process(ps: &mut [u64], ts: &mut [u64], tb: &mut [u8], pb: &mut [u8], id: u32) -> Answer
-    ensures { stepped (call.endProcess id) result ps ts tb pb }
+    ensures { stepped (call.end_process id) result ps ts tb pb }
 {
     let n = view::process_refusal(ps, ts, tb, pb, id);
     if n != 0 {
@@ -29,8 +29,8 @@ pub fn end_process(ps: &mut [u64], ts: &mut [u64], tb: &mut [u8], pb: &mut [u8],
 
 // Is the thread in a place one of the process, and another one?
 fn is_other(ts: &[u64], place: usize, process: u32, thread: u32) -> bool
-    requires { (length ts.now ≡ threadTable) × (place < threadPlaces) }
-    ensures { result ≡ isOther process thread (get_or (heldThreads ts.now) place noThread) }
+    requires { (length ts.now ≡ thread_table) × (place < thread_places) }
+    ensures { result ≡ is_other process thread (get_or (held_threads ts.now) place no_thread) }
 {
     let owner = tables::thread_field_at(ts, place, THREAD_PROCESS);
     let id = tables::thread_field_at(ts, place, THREAD_ID);
@@ -39,8 +39,8 @@ fn is_other(ts: &[u64], place: usize, process: u32, thread: u32) -> bool
 
 // Has the process another thread?
 fn has_other(ts: &[u64], process: u32, thread: u32) -> bool
-    requires { length ts.now ≡ threadTable }
-    ensures { result ≡ any (isOther process thread) (heldThreads ts.now) }
+    requires { length ts.now ≡ thread_table }
+    ensures { result ≡ any (is_other process thread) (held_threads ts.now) }
 {
     let mut i = 0;
     while i < THREAD_PLACES {
@@ -56,7 +56,7 @@ fn has_other(ts: &[u64], process: u32, thread: u32) -> bool
 fn remove(ps: &mut [u64], ts: &mut [u64], tb: &mut [u8], pb: &mut [u8], thread: u32)
     requires { WithThread thread (given ps ts tb pb) }
     ensures { changed
-        (endThreadChanges (view_of (before ps ts tb pb)) (theThread (view_of (before ps ts tb pb)) thread)) ps
+        (end_thread_changes (view_of (before ps ts tb pb)) (the_thread (view_of (before ps ts tb pb)) thread)) ps
         ts tb pb }
 {
     let process = view::process_of(ts, thread);
@@ -69,7 +69,7 @@ fn remove(ps: &mut [u64], ts: &mut [u64], tb: &mut [u8], pb: &mut [u8], thread: 
 
 // Ends a thread; the last one of a process ends the process.
 pub fn end_thread(ps: &mut [u64], ts: &mut [u64], tb: &mut [u8], pb: &mut [u8], id: u32) -> Answer
-    ensures { stepped (call.endThread id) result ps ts tb pb }
+    ensures { stepped (call.end_thread id) result ps ts tb pb }
 {
     let n = view::thread_refusal(ps, ts, tb, pb, id);
     if n != 0 {

@@ -9,27 +9,27 @@ use mathlib.Core.List.{List, [], ◌∷◌, ◌++◌, map}
 use Rattle.std.proofs.Math.Option.{Option, get_or}
 use Rattle.std.proofs.Math.Dec.{eqb}
 use Rattle.std.proofs.lemmas.List.{drop-append-le}
-use Rattle.limits.specs.Limits.{processPlaces, threadPlaces, bufferRecords, recordLimit, siQueue}
-use Rattle.lists.specs.Lists.{all, any, first, pairsWhere, count, padded}
+use Rattle.limits.specs.Limits.{process_places, thread_places, buffer_records, record_limit, si_queue}
+use Rattle.lists.specs.Lists.{all, any, first, pairs_where, count, padded}
 use Rattle.lists.proofs.Bools.{and-fst, and-snd, and_same}
 use Rattle.lists.proofs.Lists.{all_same, leading-behind, length-padded}
-use Rattle.lists.proofs.Padded.{all-behind, all-padded, any-padded, first-padded, pairsWhere-padded, map-padded}
+use Rattle.lists.proofs.Padded.{all-behind, all-padded, any-padded, first-padded, pairs_where-padded, map-padded}
 use Rattle.types.specs.declared.Siginfo.{Siginfo}
-use Rattle.types.specs.Values.{noSiginfo}
-use Rattle.rules.specs.Types.{Process, Thread, Queue, noProcess, noThread}
-use Rattle.rules.specs.View.{View, isProcess, isThread, belongsTo, liveProcess, liveThread, theProcess, theThread}
-use Rattle.rules.specs.View.{queueOf, actionOf, threadAction}
-use Rattle.rules.specs.Store.{Place, Store, held, freeProcess, freeThread, inUse, used, processMark, threadMark, markIn}
-use Rattle.rules.specs.Store.{queuedIn, ofProcess, view}
-use Rattle.rules.specs.Signals.{isSignal, ignored}
-use Rattle.rules.specs.Sound.{implies, ifLive, ifFree, isLive, apart, processId, threadId, actionsLong, lengthsRight}
-use Rattle.rules.specs.Sound.{zeroProcess, zeroThread, freeZero}
-use Rattle.rules.specs.Sound.{goodProcessId, goodThreadId, idsInRange, idsDistinct, fieldsFit, fieldsInRange, belongs}
-use Rattle.rules.specs.Sound.{hasThread, threadsOwned, processesHaveThreads, processUnmasked, threadUnmasked}
-use Rattle.rules.specs.Sound.{nothingUnmaskable, killStopDefault, unmaskableDefault, processFlagsKnown, allFlagsKnown}
-use Rattle.rules.specs.Sound.{is_zero, restZero, nameable, namesLive, aimedAtThread, aimedAtProcess, recordsLaidOut}
-use Rattle.rules.specs.Sound.{withinLimit, limitKept, isStandard, notTwice, notMarkedToo, pendingOnce, recordNotIgnored}
-use Rattle.rules.specs.Sound.{marksNotIgnored, processNotIgnored, threadNotIgnored, nothingIgnored}
+use Rattle.types.specs.Values.{no_siginfo}
+use Rattle.rules.specs.Types.{Process, Thread, Queue, no_process, no_thread}
+use Rattle.rules.specs.View.{View, is_process, is_thread, belongs_to, live_process, live_thread, the_process, the_thread}
+use Rattle.rules.specs.View.{queue_of, action_of, thread_action}
+use Rattle.rules.specs.Store.{Place, Store, held, free_process, free_thread, in_use, used, process_mark, thread_mark, mark_in}
+use Rattle.rules.specs.Store.{queued_in, of_process, view}
+use Rattle.rules.specs.Signals.{is_signal, ignored}
+use Rattle.rules.specs.Sound.{implies, if_live, if_free, is_live, apart, process_id, thread_id, actions_long, lengths_right}
+use Rattle.rules.specs.Sound.{zero_process, zero_thread, free_zero}
+use Rattle.rules.specs.Sound.{good_process_id, good_thread_id, ids_in_range, ids_distinct, fields_fit, fields_in_range, belongs}
+use Rattle.rules.specs.Sound.{has_thread, threads_owned, processes_have_threads, process_unmasked, thread_unmasked}
+use Rattle.rules.specs.Sound.{nothing_unmaskable, kill_stop_default, unmaskable_default, process_flags_known, all_flags_known}
+use Rattle.rules.specs.Sound.{is_zero, rest_zero, nameable, names_live, aimed_at_thread, aimed_at_process, records_laid_out}
+use Rattle.rules.specs.Sound.{within_limit, limit_kept, is_standard, not_twice, not_marked_too, pending_once, record_not_ignored}
+use Rattle.rules.specs.Sound.{marks_not_ignored, process_not_ignored, thread_not_ignored, nothing_ignored}
 use Rattle.rules.proofs.ClausesByPlace.{own-free-process, own-free-thread}
 use Rattle.rules.proofs.Cleared.{no-id}
 use Rattle.rules.proofs.Slots.{length-used}
@@ -39,27 +39,27 @@ use Rattle.rules.proofs.Vacated.{free-process-unmarked, free-thread-unmarked}
 pub record Room : Type 0 where
   pub processes : ℕ
   pub threads : ℕ
-  pub threadSlots : ℕ
-  pub processSlots : ℕ
+  pub thread_slots : ℕ
+  pub process_slots : ℕ
 
 -- the store with all that room: what is not there is free or unused
-unfoldable pub inRoom : Room → Store → Store
-inRoom n st =
+unfoldable pub in_room : Room → Store → Store
+in_room n st =
     record {
-      processes = padded freeProcess n.processes st.processes;
-      threads = padded freeThread n.threads st.threads;
-      threadBuffer = padded noSiginfo n.threadSlots st.threadBuffer;
-      processBuffer = padded noSiginfo n.processSlots st.processBuffer;
+      processes = padded free_process n.processes st.processes;
+      threads = padded free_thread n.threads st.threads;
+      thread_buffer = padded no_siginfo n.thread_slots st.thread_buffer;
+      process_buffer = padded no_siginfo n.process_slots st.process_buffer;
     }
 
 -- the room that errno 14 asks for
-abbrev pub wholeRoom : Room
-wholeRoom =
+abbrev pub whole_room : Room
+whole_room =
     record {
-      processes = processPlaces;
-      threads = threadPlaces;
-      threadSlots = bufferRecords;
-      processSlots = bufferRecords;
+      processes = process_places;
+      threads = thread_places;
+      thread_slots = buffer_records;
+      process_slots = buffer_records;
     }
 
 -- what is there has room
@@ -67,22 +67,22 @@ unfoldable pub fits : Room → Store → Bool
 fits n st =
     leb (length st.processes) n.processes
     && (leb (length st.threads) n.threads
-    && (leb (length st.threadBuffer) n.threadSlots && leb (length st.processBuffer) n.processSlots))
+    && (leb (length st.thread_buffer) n.thread_slots && leb (length st.process_buffer) n.process_slots))
 
 -- the clause of the lengths, of a store in that room
-unfoldable pub lengthsIn : Room → Store → Bool
-lengthsIn n st =
-    eqb n.processes processPlaces
-    && (all actionsLong st.processes
-    && (eqb n.threads threadPlaces
-    && (eqb n.threadSlots bufferRecords && eqb n.processSlots bufferRecords)))
+unfoldable pub lengths_in : Room → Store → Bool
+lengths_in n st =
+    eqb n.processes process_places
+    && (all actions_long st.processes
+    && (eqb n.threads thread_places
+    && (eqb n.thread_slots buffer_records && eqb n.process_slots buffer_records)))
 
 -- what each of the other clauses says, in the order of `sound`
 unfoldable pub contents : Store → List Bool
 contents st =
-    freeZero st ∷ idsInRange st ∷ idsDistinct st ∷ fieldsInRange st ∷ threadsOwned st ∷ processesHaveThreads st
-    ∷ nothingUnmaskable st ∷ unmaskableDefault st ∷ allFlagsKnown st ∷ recordsLaidOut st ∷ limitKept st
-    ∷ pendingOnce st ∷ nothingIgnored st ∷ []
+    free_zero st ∷ ids_in_range st ∷ ids_distinct st ∷ fields_in_range st ∷ threads_owned st ∷ processes_have_threads st
+    ∷ nothing_unmaskable st ∷ unmaskable_default st ∷ all_flags_known st ∷ records_laid_out st ∷ limit_kept st
+    ∷ pending_once st ∷ nothing_ignored st ∷ []
 
 -- ---- what is found in a table
 
@@ -95,53 +95,53 @@ module _ {A : Type 0} (free : Place A) (n : ℕ) (xs : List (Place A)) (p : A �
 
 module _ (n : Room) (st : Store) where
   abbrev roomy : View
-  roomy = view (inRoom n st)
+  roomy = view (in_room n st)
 
-  same-process : (k : ℕ) → liveProcess roomy k ≡ liveProcess (view st) k
-  unfolding liveProcess isProcess view inRoom
-  same-process k = any_held freeProcess n.processes st.processes (isProcess k) (no-id k)
+  same-process : (k : ℕ) → live_process roomy k ≡ live_process (view st) k
+  unfolding live_process is_process view in_room
+  same-process k = any_held free_process n.processes st.processes (is_process k) (no-id k)
 
-  same-thread : (k : ℕ) → liveThread roomy k ≡ liveThread (view st) k
-  unfolding liveThread isThread view inRoom
-  same-thread k = any_held freeThread n.threads st.threads (isThread k) (no-id k)
+  same-thread : (k : ℕ) → live_thread roomy k ≡ live_thread (view st) k
+  unfolding live_thread is_thread view in_room
+  same-thread k = any_held free_thread n.threads st.threads (is_thread k) (no-id k)
 
-  same-threads-of : (k : ℕ) → any (belongsTo k) roomy.threads ≡ any (belongsTo k) (view st).threads
-  unfolding belongsTo view inRoom
-  same-threads-of k = any_held freeThread n.threads st.threads (belongsTo k) (no-id k)
+  same-threads-of : (k : ℕ) → any (belongs_to k) roomy.threads ≡ any (belongs_to k) (view st).threads
+  unfolding belongs_to view in_room
+  same-threads-of k = any_held free_thread n.threads st.threads (belongs_to k) (no-id k)
 
-  same-theProcess : (k : ℕ) → theProcess roomy k ≡ theProcess (view st) k
-  unfolding theProcess isProcess view inRoom
-  same-theProcess k =
-      ap (λ (o : Option Process). get_or o noProcess)
-      (first-held freeProcess n.processes st.processes (isProcess k) (no-id k))
+  same-the_process : (k : ℕ) → the_process roomy k ≡ the_process (view st) k
+  unfolding the_process is_process view in_room
+  same-the_process k =
+      ap (λ (o : Option Process). get_or o no_process)
+      (first-held free_process n.processes st.processes (is_process k) (no-id k))
 
-  same-theThread : (k : ℕ) → theThread roomy k ≡ theThread (view st) k
-  unfolding theThread isThread view inRoom
-  same-theThread k =
-      ap (λ (o : Option Thread). get_or o noThread)
-      (first-held freeThread n.threads st.threads (isThread k) (no-id k))
+  same-the_thread : (k : ℕ) → the_thread roomy k ≡ the_thread (view st) k
+  unfolding the_thread is_thread view in_room
+  same-the_thread k =
+      ap (λ (o : Option Thread). get_or o no_thread)
+      (first-held free_thread n.threads st.threads (is_thread k) (no-id k))
 
-  same-mark : (q : Queue) (s : ℕ) → markIn (inRoom n st) q s ≡ markIn st q s
-  unfolding markIn inRoom
+  same-mark : (q : Queue) (s : ℕ) → mark_in (in_room n st) q s ≡ mark_in st q s
+  unfolding mark_in in_room
   same-mark q s =
-      ap₂ (λ (a b : Bool). isSignal s && (a || b))
-      (any-padded freeProcess n.processes st.processes (processMark q s) (free-process-unmarked q s))
-      (any-padded freeThread n.threads st.threads (threadMark q s) (free-thread-unmarked q s))
+      ap₂ (λ (a b : Bool). is_signal s && (a || b))
+      (any-padded free_process n.processes st.processes (process_mark q s) (free-process-unmarked q s))
+      (any-padded free_thread n.threads st.threads (thread_mark q s) (free-thread-unmarked q s))
 
 -- ---- the slots
 
-same-used : (k : ℕ) (slots : List Siginfo) → used (padded noSiginfo k slots) ≡ used slots
-unfolding used padded inUse
-same-used k slots = leading-behind inUse noSiginfo refl (k - length slots) slots
+same-used : (k : ℕ) (slots : List Siginfo) → used (padded no_siginfo k slots) ≡ used slots
+unfolding used padded in_use
+same-used k slots = leading-behind in_use no_siginfo refl (k - length slots) slots
 
-same_rest : (k : ℕ) (slots : List Siginfo) → restZero (padded noSiginfo k slots) ≡ restZero slots
-unfolding restZero is_zero padded
+same_rest : (k : ℕ) (slots : List Siginfo) → rest_zero (padded no_siginfo k slots) ≡ rest_zero slots
+unfolding rest_zero is_zero padded
 same_rest k slots =
     let m : ℕ = k - length slots in
-    let more : List Siginfo = replicate m noSiginfo in
+    let more : List Siginfo = replicate m no_siginfo in
     ap (λ (rs : List Siginfo). all is_zero (drop (length rs) (slots ++ more))) (same-used k slots)
     ∙ ap (all is_zero) (drop-append-le (length (used slots)) slots more (length-used slots))
-    ∙ all-behind noSiginfo m is_zero refl (drop (length (used slots)) slots)
+    ∙ all-behind no_siginfo m is_zero refl (drop (length (used slots)) slots)
 
 -- ---- the clauses
 
@@ -151,163 +151,163 @@ long d n xs k f = ap (λ (m : ℕ). eqb m k) (length-padded d n xs (leb-true (le
 
 module _ (n : Room) (st : Store) where
   abbrev st' : Store
-  st' = inRoom n st
+  st' = in_room n st
 
-  all-processes : (p : Place Process → Bool) → p freeProcess ≡ true → all p st'.processes ≡ all p st.processes
-  unfolding inRoom
-  all-processes p z = all-padded freeProcess n.processes st.processes p z
+  all-processes : (p : Place Process → Bool) → p free_process ≡ true → all p st'.processes ≡ all p st.processes
+  unfolding in_room
+  all-processes p z = all-padded free_process n.processes st.processes p z
 
-  all-threads : (p : Place Thread → Bool) → p freeThread ≡ true → all p st'.threads ≡ all p st.threads
-  unfolding inRoom
-  all-threads p z = all-padded freeThread n.threads st.threads p z
+  all-threads : (p : Place Thread → Bool) → p free_thread ≡ true → all p st'.threads ≡ all p st.threads
+  unfolding in_room
+  all-threads p z = all-padded free_thread n.threads st.threads p z
 
-  pub same-lengths : fits n st ≡ true → lengthsRight st' ≡ lengthsIn n st
-  unfolding lengthsRight lengthsIn inRoom fits
+  pub same-lengths : fits n st ≡ true → lengths_right st' ≡ lengths_in n st
+  unfolding lengths_right lengths_in in_room fits
   same-lengths f =
       let f₁ = and-snd (leb (length st.processes) n.processes) _ f in
       let f₂ = and-snd (leb (length st.threads) n.threads) _ f₁ in
-      and_same (long freeProcess n.processes st.processes processPlaces (and-fst _ _ f))
-      (and_same (all-processes actionsLong own-free-process.long)
-      (and_same (long freeThread n.threads st.threads threadPlaces (and-fst _ _ f₁))
-      (and_same (long noSiginfo n.threadSlots st.threadBuffer bufferRecords (and-fst _ _ f₂))
-      (long noSiginfo n.processSlots st.processBuffer bufferRecords
-      (and-snd (leb (length st.threadBuffer) n.threadSlots) _ f₂)))))
+      and_same (long free_process n.processes st.processes process_places (and-fst _ _ f))
+      (and_same (all-processes actions_long own-free-process.long)
+      (and_same (long free_thread n.threads st.threads thread_places (and-fst _ _ f₁))
+      (and_same (long no_siginfo n.thread_slots st.thread_buffer buffer_records (and-fst _ _ f₂))
+      (long no_siginfo n.process_slots st.process_buffer buffer_records
+      (and-snd (leb (length st.thread_buffer) n.thread_slots) _ f₂)))))
 
-  same-free : freeZero st' ≡ freeZero st
-  unfolding freeZero
+  same-free : free_zero st' ≡ free_zero st
+  unfolding free_zero
   same-free =
-      and_same (all-processes (ifFree processId zeroProcess) own-free-process.free)
-      (all-threads (ifFree threadId zeroThread) own-free-thread.free)
+      and_same (all-processes (if_free process_id zero_process) own-free-process.free)
+      (all-threads (if_free thread_id zero_thread) own-free-thread.free)
 
-  same-range : idsInRange st' ≡ idsInRange st
-  unfolding idsInRange
+  same-range : ids_in_range st' ≡ ids_in_range st
+  unfolding ids_in_range
   same-range =
-      and_same (all-processes (ifLive processId goodProcessId) own-free-process.ids)
-      (all-threads (ifLive threadId goodThreadId) own-free-thread.ids)
+      and_same (all-processes (if_live process_id good_process_id) own-free-process.ids)
+      (all-threads (if_live thread_id good_thread_id) own-free-thread.ids)
 
-  same-distinct : idsDistinct st' ≡ idsDistinct st
-  unfolding idsDistinct inRoom
+  same-distinct : ids_distinct st' ≡ ids_distinct st
+  unfolding ids_distinct in_room
   same-distinct =
       and_same
-      (pairsWhere-padded freeProcess n.processes st.processes (isLive processId) refl (apart processId)
+      (pairs_where-padded free_process n.processes st.processes (is_live process_id) refl (apart process_id)
       (λ x e. e))
-      (pairsWhere-padded freeThread n.threads st.threads (isLive threadId) refl (apart threadId) (λ x e. e))
+      (pairs_where-padded free_thread n.threads st.threads (is_live thread_id) refl (apart thread_id) (λ x e. e))
 
-  same-fields : fieldsInRange st' ≡ fieldsInRange st
-  unfolding fieldsInRange
-  same-fields = all-processes fieldsFit own-free-process.fields
+  same-fields : fields_in_range st' ≡ fields_in_range st
+  unfolding fields_in_range
+  same-fields = all-processes fields_fit own-free-process.fields
 
-  same-owned : threadsOwned st' ≡ threadsOwned st
-  unfolding threadsOwned belongs
+  same-owned : threads_owned st' ≡ threads_owned st
+  unfolding threads_owned belongs
   same-owned =
-      all-threads (ifLive threadId (belongs (view st'))) refl
-      ∙ all_same (ifLive threadId (belongs (view st'))) (ifLive threadId (belongs (view st))) st.threads
-      (λ x. ap (implies (isLive threadId x)) (same-process n st x.holds.process))
+      all-threads (if_live thread_id (belongs (view st'))) refl
+      ∙ all_same (if_live thread_id (belongs (view st'))) (if_live thread_id (belongs (view st))) st.threads
+      (λ x. ap (implies (is_live thread_id x)) (same-process n st x.holds.process))
 
-  same-have-threads : processesHaveThreads st' ≡ processesHaveThreads st
-  unfolding processesHaveThreads hasThread
+  same-have-threads : processes_have_threads st' ≡ processes_have_threads st
+  unfolding processes_have_threads has_thread
   same-have-threads =
-      all-processes (ifLive processId (hasThread (view st'))) refl
-      ∙ all_same (ifLive processId (hasThread (view st'))) (ifLive processId (hasThread (view st))) st.processes
-      (λ x. ap (implies (isLive processId x)) (same-threads-of n st x.holds.id))
+      all-processes (if_live process_id (has_thread (view st'))) refl
+      ∙ all_same (if_live process_id (has_thread (view st'))) (if_live process_id (has_thread (view st))) st.processes
+      (λ x. ap (implies (is_live process_id x)) (same-threads-of n st x.holds.id))
 
-  same-unmasked : nothingUnmaskable st' ≡ nothingUnmaskable st
-  unfolding nothingUnmaskable
+  same-unmasked : nothing_unmaskable st' ≡ nothing_unmaskable st
+  unfolding nothing_unmaskable
   same-unmasked =
-      and_same (all-processes processUnmasked own-free-process.sets)
-      (all-threads threadUnmasked own-free-thread.sets)
+      and_same (all-processes process_unmasked own-free-process.sets)
+      (all-threads thread_unmasked own-free-thread.sets)
 
-  same-defaults : unmaskableDefault st' ≡ unmaskableDefault st
-  unfolding unmaskableDefault
-  same-defaults = all-processes killStopDefault own-free-process.defaults
+  same-defaults : unmaskable_default st' ≡ unmaskable_default st
+  unfolding unmaskable_default
+  same-defaults = all-processes kill_stop_default own-free-process.defaults
 
-  same_flags : allFlagsKnown st' ≡ allFlagsKnown st
-  unfolding allFlagsKnown
-  same_flags = all-processes processFlagsKnown own-free-process.flags
+  same_flags : all_flags_known st' ≡ all_flags_known st
+  unfolding all_flags_known
+  same_flags = all-processes process_flags_known own-free-process.flags
 
-  used-threads : used st'.threadBuffer ≡ used st.threadBuffer
-  unfolding inRoom
-  used-threads = same-used n.threadSlots st.threadBuffer
+  used-threads : used st'.thread_buffer ≡ used st.thread_buffer
+  unfolding in_room
+  used-threads = same-used n.thread_slots st.thread_buffer
 
-  used-processes : used st'.processBuffer ≡ used st.processBuffer
-  unfolding inRoom
-  used-processes = same-used n.processSlots st.processBuffer
+  used-processes : used st'.process_buffer ≡ used st.process_buffer
+  unfolding in_room
+  used-processes = same-used n.process_slots st.process_buffer
 
   -- two tests that are one, on the records of either buffer
   module _ (p q : Siginfo → Bool) (h : (r : Siginfo) → p r ≡ q r) where
-    all-thread-records : all p (used st'.threadBuffer) ≡ all q (used st.threadBuffer)
-    all-thread-records = ap (all p) used-threads ∙ all_same p q (used st.threadBuffer) h
+    all-thread-records : all p (used st'.thread_buffer) ≡ all q (used st.thread_buffer)
+    all-thread-records = ap (all p) used-threads ∙ all_same p q (used st.thread_buffer) h
 
-    all-process-records : all p (used st'.processBuffer) ≡ all q (used st.processBuffer)
-    all-process-records = ap (all p) used-processes ∙ all_same p q (used st.processBuffer) h
+    all-process-records : all p (used st'.process_buffer) ≡ all q (used st.process_buffer)
+    all-process-records = ap (all p) used-processes ∙ all_same p q (used st.process_buffer) h
 
-  same_names : (r : Siginfo) → namesLive (view st') r ≡ namesLive (view st) r
-  unfolding namesLive
+  same_names : (r : Siginfo) → names_live (view st') r ≡ names_live (view st) r
+  unfolding names_live
   same_names r =
-      ap (λ (b : Bool). eqb r.code siQueue && (nameable r.signal && b)) (same-process n st r.process)
+      ap (λ (b : Bool). eqb r.code si_queue && (nameable r.signal && b)) (same-process n st r.process)
 
-  same-aimedAtThread : (r : Siginfo) → aimedAtThread (view st') r ≡ aimedAtThread (view st) r
-  unfolding aimedAtThread
-  same-aimedAtThread r =
+  same-aimed_at_thread : (r : Siginfo) → aimed_at_thread (view st') r ≡ aimed_at_thread (view st) r
+  unfolding aimed_at_thread
+  same-aimed_at_thread r =
       and_same (same_names r)
       (ap₂ (λ (b : Bool) (t : Thread). b && eqb t.process r.process) (same-thread n st r.thread)
-      (same-theThread n st r.thread))
+      (same-the_thread n st r.thread))
 
-  same-aimedAtProcess : (r : Siginfo) → aimedAtProcess (view st') r ≡ aimedAtProcess (view st) r
-  unfolding aimedAtProcess
-  same-aimedAtProcess r = ap (λ (b : Bool). b && eqb r.thread 0) (same_names r)
+  same-aimed_at_process : (r : Siginfo) → aimed_at_process (view st') r ≡ aimed_at_process (view st) r
+  unfolding aimed_at_process
+  same-aimed_at_process r = ap (λ (b : Bool). b && eqb r.thread 0) (same_names r)
 
-  same-laid-out : recordsLaidOut st' ≡ recordsLaidOut st
-  unfolding recordsLaidOut inRoom
+  same-laid-out : records_laid_out st' ≡ records_laid_out st
+  unfolding records_laid_out in_room
   same-laid-out =
-      and_same (same_rest n.threadSlots st.threadBuffer)
-      (and_same (same_rest n.processSlots st.processBuffer)
-      (and_same (all-thread-records (aimedAtThread (view st')) (aimedAtThread (view st)) same-aimedAtThread)
-      (all-process-records (aimedAtProcess (view st')) (aimedAtProcess (view st)) same-aimedAtProcess)))
+      and_same (same_rest n.thread_slots st.thread_buffer)
+      (and_same (same_rest n.process_slots st.process_buffer)
+      (and_same (all-thread-records (aimed_at_thread (view st')) (aimed_at_thread (view st)) same-aimed_at_thread)
+      (all-process-records (aimed_at_process (view st')) (aimed_at_process (view st)) same-aimed_at_process)))
 
-  same-queued : (p : ℕ) → queuedIn st' p ≡ queuedIn st p
-  unfolding queuedIn
+  same-queued : (p : ℕ) → queued_in st' p ≡ queued_in st p
+  unfolding queued_in
   same-queued p =
-      ap₂ (λ (a b : List Siginfo). count (ofProcess p) a + count (ofProcess p) b) used-threads used-processes
+      ap₂ (λ (a b : List Siginfo). count (of_process p) a + count (of_process p) b) used-threads used-processes
 
-  same-limit : limitKept st' ≡ limitKept st
-  unfolding limitKept
+  same-limit : limit_kept st' ≡ limit_kept st
+  unfolding limit_kept
   same-limit =
-      all-processes (ifLive processId (withinLimit st')) refl
-      ∙ all_same (ifLive processId (withinLimit st')) (ifLive processId (withinLimit st)) st.processes
-      (λ x. ap (λ (k : ℕ). implies (isLive processId x) (leb k recordLimit)) (same-queued x.holds.id))
+      all-processes (if_live process_id (within_limit st')) refl
+      ∙ all_same (if_live process_id (within_limit st')) (if_live process_id (within_limit st)) st.processes
+      (λ x. ap (λ (k : ℕ). implies (is_live process_id x) (leb k record_limit)) (same-queued x.holds.id))
 
-  same-marked-too : (r : Siginfo) → notMarkedToo st' r ≡ notMarkedToo st r
-  unfolding notMarkedToo
-  same-marked-too r = ap (λ (b : Bool). implies (isStandard r) (not b)) (same-mark n st (queueOf r) r.signal)
+  same-marked-too : (r : Siginfo) → not_marked_too st' r ≡ not_marked_too st r
+  unfolding not_marked_too
+  same-marked-too r = ap (λ (b : Bool). implies (is_standard r) (not b)) (same-mark n st (queue_of r) r.signal)
 
-  same_once : pendingOnce st' ≡ pendingOnce st
-  unfolding pendingOnce
+  same_once : pending_once st' ≡ pending_once st
+  unfolding pending_once
   same_once =
-      and_same (ap (pairsWhere isStandard notTwice) used-threads)
-      (and_same (ap (pairsWhere isStandard notTwice) used-processes)
-      (and_same (all-thread-records (notMarkedToo st') (notMarkedToo st) same-marked-too)
-      (all-process-records (notMarkedToo st') (notMarkedToo st) same-marked-too)))
+      and_same (ap (pairs_where is_standard not_twice) used-threads)
+      (and_same (ap (pairs_where is_standard not_twice) used-processes)
+      (and_same (all-thread-records (not_marked_too st') (not_marked_too st) same-marked-too)
+      (all-process-records (not_marked_too st') (not_marked_too st) same-marked-too)))
 
-  same-record-ignored : (r : Siginfo) → recordNotIgnored (view st') r ≡ recordNotIgnored (view st) r
-  unfolding recordNotIgnored
+  same-record-ignored : (r : Siginfo) → record_not_ignored (view st') r ≡ record_not_ignored (view st) r
+  unfolding record_not_ignored
   same-record-ignored r =
-      ap (λ (p : Process). not (ignored (actionOf p r.signal) r.signal)) (same-theProcess n st r.process)
+      ap (λ (p : Process). not (ignored (action_of p r.signal) r.signal)) (same-the_process n st r.process)
 
-  same-thread-ignored : (x : Place Thread) → threadNotIgnored (view st') x ≡ threadNotIgnored (view st) x
-  unfolding threadAction
+  same-thread-ignored : (x : Place Thread) → thread_not_ignored (view st') x ≡ thread_not_ignored (view st) x
+  unfolding thread_action
   same-thread-ignored x =
-      ap (λ (p : Process). marksNotIgnored x.marks (actionOf p)) (same-theProcess n st x.holds.process)
+      ap (λ (p : Process). marks_not_ignored x.marks (action_of p)) (same-the_process n st x.holds.process)
 
-  same-ignored : nothingIgnored st' ≡ nothingIgnored st
-  unfolding nothingIgnored
+  same-ignored : nothing_ignored st' ≡ nothing_ignored st
+  unfolding nothing_ignored
   same-ignored =
-      and_same (all-processes (ifLive processId processNotIgnored) own-free-process.not-ignored)
-      (and_same (all-threads (ifLive threadId (threadNotIgnored (view st'))) refl
-      ∙ all_same (ifLive threadId (threadNotIgnored (view st'))) (ifLive threadId (threadNotIgnored (view st)))
-      st.threads (λ x. ap (implies (isLive threadId x)) (same-thread-ignored x)))
-      (and_same (all-thread-records (recordNotIgnored (view st')) (recordNotIgnored (view st)) same-record-ignored)
-      (all-process-records (recordNotIgnored (view st')) (recordNotIgnored (view st)) same-record-ignored)))
+      and_same (all-processes (if_live process_id process_not_ignored) own-free-process.not-ignored)
+      (and_same (all-threads (if_live thread_id (thread_not_ignored (view st'))) refl
+      ∙ all_same (if_live thread_id (thread_not_ignored (view st'))) (if_live thread_id (thread_not_ignored (view st)))
+      st.threads (λ x. ap (implies (is_live thread_id x)) (same-thread-ignored x)))
+      (and_same (all-thread-records (record_not_ignored (view st')) (record_not_ignored (view st)) same-record-ignored)
+      (all-process-records (record_not_ignored (view st')) (record_not_ignored (view st)) same-record-ignored)))
 
   pub same-contents : contents st' ≡ contents st
   unfolding contents

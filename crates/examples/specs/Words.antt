@@ -11,11 +11,11 @@ use Rattle.types.specs.declared.Reply.TheVariants.{Done, Sent, OldAction, OldMas
 use Rattle.types.specs.declared.Reply.TheVariants.{NoneCan, Taken}
 use Rattle.types.specs.declared.Answer.{Answer}
 use Rattle.types.specs.declared.Answer.TheVariants.{Refused, Accepted}
-use Rattle.types.specs.Values.{newOf}
-use Rattle.rules.specs.Types.{Call, addProcess}
+use Rattle.types.specs.Values.{new_of}
+use Rattle.rules.specs.Types.{Call, add_process}
 
 abbrev pub adds : (id real effective saved session thread : ℕ) → SigSet → Call
-adds id real effective saved session thread mask = addProcess (newOf id real effective saved session thread mask)
+adds id real effective saved session thread mask = add_process (new_of id real effective saved session thread mask)
 
 -- ---- the answers
 
@@ -43,29 +43,29 @@ marked = Accepted (Sent sends.Marked)
 abbrev pub kept : Answer
 kept = Accepted (Sent sends.Kept)
 
-abbrev pub oldAction : Action → Answer
-oldAction a = Accepted (OldAction a)
+abbrev pub old_action : Action → Answer
+old_action a = Accepted (OldAction a)
 
-abbrev pub oldMask : SigSet → Answer
-oldMask m = Accepted (OldMask m)
+abbrev pub old_mask : SigSet → Answer
+old_mask m = Accepted (OldMask m)
 
-abbrev pub pendingSet : SigSet → Answer
-pendingSet m = Accepted (PendingSet m)
+abbrev pub pending_set : SigSet → Answer
+pending_set m = Accepted (PendingSet m)
 
-abbrev pub lookedNothing : Answer
-lookedNothing = Accepted (Looked nexts.Nothing)
+abbrev pub looked_nothing : Answer
+looked_nothing = Accepted (Looked nexts.Nothing)
 
-abbrev pub lookedMark : (process thread signal : ℕ) → Answer
-lookedMark p t s = Accepted (Looked (nexts.Mark p t s))
+abbrev pub looked_mark : (process thread signal : ℕ) → Answer
+looked_mark p t s = Accepted (Looked (nexts.Mark p t s))
 
-abbrev pub lookedRecord : Siginfo → Answer
-lookedRecord r = Accepted (Looked (nexts.Record r))
+abbrev pub looked_record : Siginfo → Answer
+looked_record r = Accepted (Looked (nexts.Record r))
 
-abbrev pub canTake : ℕ → Answer
-canTake t = Accepted (CanTake t)
+abbrev pub can_take : ℕ → Answer
+can_take t = Accepted (CanTake t)
 
-abbrev pub noneCan : Answer
-noneCan = Accepted NoneCan
+abbrev pub none_can : Answer
+none_can = Accepted NoneCan
 
 abbrev taken : takes.Taken → Answer
 taken x = Accepted (Taken x)
@@ -82,5 +82,5 @@ end s = taken (End s)
 abbrev pub stop : ℕ → Answer
 stop s = taken (Stop s)
 
-abbrev pub noAction : ℕ → Answer
-noAction s = taken (NoAction s)
+abbrev pub no_action : ℕ → Answer
+no_action s = taken (NoAction s)

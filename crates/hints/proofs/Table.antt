@@ -11,8 +11,8 @@ use lib.Seq.{get_or-set_same, get_or-set_other}
 use borrow.Author.Tests.{eq-eqb, ne_eqb, eqb-true, eqb-false}
 use Rattle.lists.specs.Lists.{find}
 use Rattle.lists.proofs.Bools.{split}
-use Rattle.lists.proofs.Rows.{length-rows, get_d_rows, getD-row}
-use Rattle.hints.specs.Hints.{hintSlots, first_slot, secondSlot, first_word, ids_of, isId, Hinted, seek, noted}
+use Rattle.lists.proofs.Rows.{length-rows, get_d_rows, get_d-row}
+use Rattle.hints.specs.Hints.{hint_slots, first_slot, second_slot, first_word, ids_of, is_id, Hinted, seek, noted}
 use Rattle.hints.proofs.Laws.{first_below, second_below, none-zero, seek-first, seek-second, seek-last}
 use Rattle.hints.proofs.Laws.{seek-absent}
 
@@ -23,25 +23,25 @@ pub in_table : (i places width : ℕ) → i < places → 1 ≤ width → i * wid
 in_table i places width h w = mul-lt-mul_of_pos_right h w
 
 module _ (width places : ℕ) (ws : List ℕ) where
-  pub length-idsOf : length (ids_of width places ws) ≡ places
+  pub length-ids_of : length (ids_of width places ws) ≡ places
   unfolding ids_of
-  length-idsOf = length-rows first_word width places ws
+  length-ids_of = length-rows first_word width places ws
 
   module _ (i : ℕ) (h : i < places) (w : 1 ≤ width) where
     pub id-at : get_or (ids_of width places ws) i 0 ≡ get_or ws (i * width) 0
     unfolding ids_of first_word
     id-at =
-        get_d_rows first_word width places ws i 0 h ∙ getD-row width ws i 0 w
+        get_d_rows first_word width places ws i 0 h ∙ get_d-row width ws i 0 w
         ∙ ap (λ (k : ℕ). get_or ws k 0) (add-zero (i * width))
 
     -- the test as code makes it
-    pub id-test : (id : ℕ) → 1 ≤ id → isId id (get_or (ids_of width places ws) i 0) ≡ eqb (get_or ws (i * width) 0) id
-    unfolding isId
+    pub id-test : (id : ℕ) → 1 ≤ id → is_id id (get_or (ids_of width places ws) i 0) ≡ eqb (get_or ws (i * width) 0) id
+    unfolding is_id
     id-test id k = let z : eqb id 0 ≡ false = ne_eqb id 0 (λ e. omega arith) in rw (z, id-at)
 
 -- ---- its hints
 
-module _ (places : ℕ) (hints : List ℕ) (long : length hints ≡ hintSlots) (all : Hinted places hints) (place : ℕ)
+module _ (places : ℕ) (hints : List ℕ) (long : length hints ≡ hint_slots) (all : Hinted places hints) (place : ℕ)
     (p : place < places) where
   set-hinted : (at : ℕ) → Hinted places (set hints at place)
   set-hinted at slot h =
@@ -54,7 +54,7 @@ module _ (places : ℕ) (hints : List ℕ) (long : length hints ≡ hintSlots) (
   noted_hinted id =
       split (eqb (get_or hints (first_slot id) 0) 0)
       (λ e. rw e (set-hinted (first_slot id)))
-      (λ e. rw e (set-hinted (secondSlot id)))
+      (λ e. rw e (set-hinted (second_slot id)))
 
 pub length-noted : (hints : List ℕ) (id place : ℕ) → length (noted hints id place) ≡ length hints
 unfolding noted
@@ -69,7 +69,7 @@ module _ (hints : List ℕ) (id place slot : ℕ) where
   unfolding noted
   noted-first e f = rw (e, eq-eqb (get_or hints (first_slot id) 0) 0 (rw e at f))
 
-  pub noted-second : (other : ℕ) → slot ≡ first_slot id → other ≡ secondSlot id → (get_or hints slot 0 ≡ 0 → ⊥)
+  pub noted-second : (other : ℕ) → slot ≡ first_slot id → other ≡ second_slot id → (get_or hints slot 0 ≡ 0 → ⊥)
       → set hints other place ≡ noted hints id place
   unfolding noted
   noted-second other e g f = rw (g, ne_eqb (get_or hints (first_slot id) 0) 0 (rw e at f))
@@ -77,7 +77,7 @@ module _ (hints : List ℕ) (id place slot : ℕ) where
 -- ---- hints while they are filled
 
 abbrev pub Filling : ℕ → List ℕ → Type 0
-Filling places hints = (length hints ≡ hintSlots) × Hinted places hints
+Filling places hints = (length hints ≡ hint_slots) × Hinted places hints
 
 pub filling-noted : (places : ℕ) (hints now : List ℕ) (id place : ℕ) → Filling places hints → place < places
     → now ≡ noted hints id place
@@ -91,37 +91,37 @@ module _ (hints ws : List ℕ) (width places : ℕ) (all : Hinted places hints) 
   pub seek-zero : id ≡ 0 → places ≡ seek hints (ids_of width places ws) id
   seek-zero e =
       let ids = ids_of width places ws in
-      let long = length-idsOf width places ws in
+      let long = length-ids_of width places ws in
       sym (seek-absent hints ids id (rw long all) (none-zero id ids e) ∙ long)
 
   module _ (near : ℕ) (n : near ≡ first_slot id) (k : 1 ≤ id) where
     -- the word of the place that a hint names
-    abbrev wordBy : ℕ → ℕ
-    wordBy slot = get_or ws (get_or hints slot 0 * width) 0
+    abbrev word_by : ℕ → ℕ
+    word_by slot = get_or ws (get_or hints slot 0 * width) 0
 
-    by_first : isId id (get_or (ids_of width places ws) (get_or hints (first_slot id) 0) 0) ≡ eqb (wordBy near) id
+    by_first : is_id id (get_or (ids_of width places ws) (get_or hints (first_slot id) 0) 0) ≡ eqb (word_by near) id
     by_first =
         rw (← n) (id-test width places ws (get_or hints near 0) (rw n (all (first_slot id) (first_below id))) w id k)
 
-    pub seek-near : wordBy near ≡ id → get_or hints near 0 ≡ seek hints (ids_of width places ws) id
+    pub seek-near : word_by near ≡ id → get_or hints near 0 ≡ seek hints (ids_of width places ws) id
     seek-near e =
         ap (λ (s : ℕ). get_or hints s 0) n
-        ∙ sym (seek-first hints (ids_of width places ws) id (by_first ∙ eq-eqb (wordBy near) id e))
+        ∙ sym (seek-first hints (ids_of width places ws) id (by_first ∙ eq-eqb (word_by near) id e))
 
-    module _ (no : wordBy near ≡ id → ⊥) (far : ℕ) (f : far ≡ secondSlot id) where
-      by-second : isId id (get_or (ids_of width places ws) (get_or hints (secondSlot id) 0) 0) ≡ eqb (wordBy far) id
+    module _ (no : word_by near ≡ id → ⊥) (far : ℕ) (f : far ≡ second_slot id) where
+      by-second : is_id id (get_or (ids_of width places ws) (get_or hints (second_slot id) 0) 0) ≡ eqb (word_by far) id
       by-second =
-          rw (← f) (id-test width places ws (get_or hints far 0) (rw f (all (secondSlot id) (second_below id))) w id k)
+          rw (← f) (id-test width places ws (get_or hints far 0) (rw f (all (second_slot id) (second_below id))) w id k)
 
-      pub seek-far : wordBy far ≡ id → get_or hints far 0 ≡ seek hints (ids_of width places ws) id
+      pub seek-far : word_by far ≡ id → get_or hints far 0 ≡ seek hints (ids_of width places ws) id
       seek-far e =
           ap (λ (s : ℕ). get_or hints s 0) f
-          ∙ sym (seek-second hints (ids_of width places ws) id (by_first ∙ ne_eqb (wordBy near) id no)
-          (by-second ∙ eq-eqb (wordBy far) id e))
+          ∙ sym (seek-second hints (ids_of width places ws) id (by_first ∙ ne_eqb (word_by near) id no)
+          (by-second ∙ eq-eqb (word_by far) id e))
 
-      pub seek-rest : (wordBy far ≡ id → ⊥) → (r : ℕ) → r ≡ find (isId id) (ids_of width places ws)
+      pub seek-rest : (word_by far ≡ id → ⊥) → (r : ℕ) → r ≡ find (is_id id) (ids_of width places ws)
           → r ≡ seek hints (ids_of width places ws) id
       seek-rest e r g =
           g
-          ∙ sym (seek-last hints (ids_of width places ws) id (by_first ∙ ne_eqb (wordBy near) id no)
-          (by-second ∙ ne_eqb (wordBy far) id e))
+          ∙ sym (seek-last hints (ids_of width places ws) id (by_first ∙ ne_eqb (word_by near) id no)
+          (by-second ∙ ne_eqb (word_by far) id e))

@@ -3,7 +3,7 @@
 // the words are.
 ghost use Rattle.std.specs.Prelude.{◌≡◌, ◌*◌, ◌≤◌, ◌<◌, length};
 ghost use Rattle.lists.specs.Lists.{find};
-ghost use Rattle.hints.specs.Hints.{hintSlots, first_slot, secondSlot, ids_of, isId, Hinted, seek, noted};
+ghost use Rattle.hints.specs.Hints.{hint_slots, first_slot, second_slot, ids_of, is_id, Hinted, seek, noted};
 
 use limits::THREAD_PLACES;
 
@@ -11,14 +11,14 @@ use limits::THREAD_PLACES;
 pub const HINT_SLOTS: usize = 4 * THREAD_PLACES;
 
 fn first_slot(id: u64) -> usize
-    ensures { (result ≡ first_slot id) × (result < hintSlots) }
+    ensures { (result ≡ first_slot id) × (result < hint_slots) }
 {
     id as usize % HINT_SLOTS
 }
 
 // Ids that share the first slot seldom share this one.
 fn second_slot(id: u64) -> usize
-    ensures { (result ≡ secondSlot id) × (result < hintSlots) }
+    ensures { (result ≡ second_slot id) × (result < hint_slots) }
 {
     (id % 2147483648 * 2654435769 / 1048576) as usize % HINT_SLOTS
 }
@@ -26,7 +26,7 @@ fn second_slot(id: u64) -> usize
 // ---- filled
 
 fn note(hints: &mut [u16], id: u64, place: u16)
-    requires { length hints.old ≡ hintSlots }
+    requires { length hints.old ≡ hint_slots }
     ensures { hints.new ≡ noted hints.old id place }
 {
     let slot = first_slot(id);
@@ -40,7 +40,7 @@ fn note(hints: &mut [u16], id: u64, place: u16)
 // Hints for the ids of a table of so many places, the first word of each being its id.
 pub fn fill(ws: &[u64], width: usize, places: usize, hints: &mut [u16])
     requires ws_len { (length ws.now ≡ places * width) × ((1 ≤ width) × (places ≤ 65535)) }
-    requires hints_len { (length hints.old ≡ hintSlots) × Hinted places hints.old }
+    requires hints_len { (length hints.old ≡ hint_slots) × Hinted places hints.old }
     ensures { Hinted places hints.new }
 {
     let mut i = 0;
@@ -59,7 +59,7 @@ pub fn fill(ws: &[u64], width: usize, places: usize, hints: &mut [u16])
 fn search(ws: &[u64], width: usize, places: usize, id: u64) -> usize
     requires ws_len { (length ws.now ≡ places * width) × (1 ≤ width) }
     requires le_id { 1 ≤ id }
-    ensures { result ≡ find (isId id) (ids_of width places ws.now) }
+    ensures { result ≡ find (is_id id) (ids_of width places ws.now) }
 {
     let mut i = 0;
     while i < places {
@@ -74,7 +74,7 @@ fn search(ws: &[u64], width: usize, places: usize, id: u64) -> usize
 // A place with that id, or the number of places.
 pub fn place_of(ws: &[u64], width: usize, places: usize, hints: &[u16], id: u64) -> usize
     requires ws_len { (length ws.now ≡ places * width) × (1 ≤ width) }
-    requires hints_len { (length hints.now ≡ hintSlots) × Hinted places hints.now }
+    requires hints_len { (length hints.now ≡ hint_slots) × Hinted places hints.now }
     ensures { result ≡ seek hints.now (ids_of width places ws.now) id }
 {
     if id == 0 {

@@ -9,7 +9,7 @@ use native.Mathlib.Omega.{arith}
 use lib.Dec.{eqb}
 use lib.ListN.{length, length-map}
 use borrow.Author.Tests.{eqb-true, eqb-false}
-use Rattle.limits.specs.Limits.{EFAULT, EINVAL, threadPlaces, threadWords}
+use Rattle.limits.specs.Limits.{EFAULT, EINVAL, thread_places, thread_words}
 use Rattle.lists.specs.Lists.{all}
 use Rattle.lists.specs.Rows.{flat}
 use Rattle.lists.proofs.Bools.{split, and-fst, and-snd, and_both, cond-true, cond-false}
@@ -20,75 +20,75 @@ use Rattle.types.specs.declared.Action.{Action}
 use Rattle.types.specs.declared.Answer.{Answer}
 use Rattle.types.specs.declared.Answer.TheVariants.{Refused}
 use Rattle.rules.specs.Types.{Thread, Call, clear}
-use Rattle.rules.specs.Store.{Place, held, applyAll}
+use Rattle.rules.specs.Store.{Place, held, apply_all}
 use Rattle.rules.specs.Sound.{sound}
-use Rattle.rules.specs.Machine.{isU32, isU64, machineAction, machineSet, machine}
+use Rattle.rules.specs.Machine.{is_u32, is_u64, machine_action, machine_set, machine}
 use Rattle.rules.specs.Calls.{changes}
 use Rattle.rules.proofs.Steps as steps
 use Rattle.rules.proofs.StaysSound.{accepted-sound-after}
-use Rattle.tables.specs.Tables.{threadTo, threadsOf, threadWordsOf}
+use Rattle.tables.specs.Tables.{thread_to, threads_of, thread_words_of}
 use Rattle.tables.proofs.Words.{thread-words-forth}
-use Rattle.sound.specs.Lent.{Lent, lent, decoded, view_of, lengthsAre}
+use Rattle.sound.specs.Lent.{Lent, lent, decoded, view_of, lengths_are}
 use Rattle.sound.proofs.Facts.{right-threads}
-use Rattle.answers.specs.Step.{encoded, refusalOn, stepOn}
+use Rattle.answers.specs.Step.{encoded, refusal_on, step_on}
 use Rattle.answers.proofs.Endings.{accepted-long, accepted-rules, accepted-step, refused-tables}
-use Rattle.boundary.specs.Boundary.{Arguments, whereGiven, calls_of, numbered, errnoOf, written, usable, accepted}
-use Rattle.boundary.specs.Boundary.{serveOn, servedBy, served}
+use Rattle.boundary.specs.Boundary.{Arguments, where_given, calls_of, numbered, errno_of, written, usable, accepted}
+use Rattle.boundary.specs.Boundary.{serve_on, served_by, served}
 use Rattle.threads.specs.declared.Thread as records
-use Rattle.threads.specs.Records.{recordTo, recordFrom, words_of, recordsOf}
+use Rattle.threads.specs.Records.{record_to, record_from, words_of, records_of}
 use Rattle.threads.proofs.Words.{words-length}
-use Rattle.rrezhbuta.specs.Entry.{Host, lent_by, handedBack, callOn}
-use Rattle.history.specs.History.{machineArguments, rowThread}
+use Rattle.rrezhbuta.specs.Entry.{Host, lent_by, handed_back, call_on}
+use Rattle.history.specs.History.{machine_arguments, row_thread}
 use Rattle.history.proofs.Encoded.{long-encoded}
 
 -- ---- the arguments are machine numbers
 
 -- one by one
 record InRange (g : Arguments) : Type 0 where
-  a : isU32 g.a ≡ true
-  b : isU32 g.b ≡ true
-  c : isU32 g.c ≡ true
-  d : isU32 g.d ≡ true
-  e : isU32 g.e ≡ true
-  f : isU32 g.f ≡ true
-  x : isU64 g.x ≡ true
-  y : isU64 g.y ≡ true
-  z : isU64 g.z ≡ true
+  a : is_u32 g.a ≡ true
+  b : is_u32 g.b ≡ true
+  c : is_u32 g.c ≡ true
+  d : is_u32 g.d ≡ true
+  e : is_u32 g.e ≡ true
+  f : is_u32 g.f ≡ true
+  x : is_u64 g.x ≡ true
+  y : is_u64 g.y ≡ true
+  z : is_u64 g.z ≡ true
 
-in-range : (g : Arguments) → machineArguments g ≡ true → InRange g
-unfolding machineArguments
+in-range : (g : Arguments) → machine_arguments g ≡ true → InRange g
+unfolding machine_arguments
 in-range g u =
-    let u1 = and-snd (isU32 g.a) _ u in
-    let u2 = and-snd (isU32 g.b) _ u1 in
-    let u3 = and-snd (isU32 g.c) _ u2 in
-    let u4 = and-snd (isU32 g.d) _ u3 in
-    let u5 = and-snd (isU32 g.e) _ u4 in
-    let u6 = and-snd (isU32 g.f) _ u5 in
-    let u7 = and-snd (isU64 g.x) _ u6 in
+    let u1 = and-snd (is_u32 g.a) _ u in
+    let u2 = and-snd (is_u32 g.b) _ u1 in
+    let u3 = and-snd (is_u32 g.c) _ u2 in
+    let u4 = and-snd (is_u32 g.d) _ u3 in
+    let u5 = and-snd (is_u32 g.e) _ u4 in
+    let u6 = and-snd (is_u32 g.f) _ u5 in
+    let u7 = and-snd (is_u64 g.x) _ u6 in
     record {
-      a = and-fst (isU32 g.a) _ u;
-      b = and-fst (isU32 g.b) _ u1;
-      c = and-fst (isU32 g.c) _ u2;
-      d = and-fst (isU32 g.d) _ u3;
-      e = and-fst (isU32 g.e) _ u4;
-      f = and-fst (isU32 g.f) _ u5;
-      x = and-fst (isU64 g.x) _ u6;
-      y = and-fst (isU64 g.y) _ u7;
-      z = and-snd (isU64 g.y) _ u7;
+      a = and-fst (is_u32 g.a) _ u;
+      b = and-fst (is_u32 g.b) _ u1;
+      c = and-fst (is_u32 g.c) _ u2;
+      d = and-fst (is_u32 g.d) _ u3;
+      e = and-fst (is_u32 g.e) _ u4;
+      f = and-fst (is_u32 g.f) _ u5;
+      x = and-fst (is_u64 g.x) _ u6;
+      y = and-fst (is_u64 g.y) _ u7;
+      z = and-snd (is_u64 g.y) _ u7;
     }
 
 -- an action or a set that is given where a number is not 0
-given-action : (n : ℕ) (v : Action) → machineAction (some v) ≡ true → machineAction (whereGiven n v) ≡ true
-unfolding whereGiven machineAction
+given-action : (n : ℕ) (v : Action) → machine_action (some v) ≡ true → machine_action (where_given n v) ≡ true
+unfolding where_given machine_action
 given-action n v h = split (eqb n 0) (λ k. rw k) (λ k. rw k h)
 
-given-set : (n : ℕ) (v : SigSet) → machineSet (some v) ≡ true → machineSet (whereGiven n v) ≡ true
-unfolding whereGiven machineSet
+given-set : (n : ℕ) (v : SigSet) → machine_set (some v) ≡ true → machine_set (where_given n v) ≡ true
+unfolding where_given machine_set
 given-set n v h = split (eqb n 0) (λ k. rw k) (λ k. rw k h)
 
 -- so are those of each call of the list
 calls-machine : (g : Arguments) → InRange g → all machine (calls_of g) ≡ true
-unfolding calls_of all machine machineAction machineSet
+unfolding calls_of all machine machine_action machine_set
 calls-machine g w =
     let xyz = and_both w.x (and_both w.y w.z) in
     let new =
@@ -113,58 +113,58 @@ calls-machine g w =
     (and_both (and_both w.a w.x) refl))))))))))))
 
 -- and of the one that a number stands for
-pub numbered-machine : (n : ℕ) (g : Arguments) → machineArguments g ≡ true → machine (numbered n g) ≡ true
+pub numbered-machine : (n : ℕ) (g : Arguments) → machine_arguments g ≡ true → machine (numbered n g) ≡ true
 unfolding numbered machine
 numbered-machine n g u = all_get_d machine (calls_of g) _ clear refl (calls-machine g (in-range g u))
 
 -- ---- a row of records and the words of the thread table
 
 -- the words of one record
-record-of-words : (l : List ℕ) → length l ≡ threadWords → recordTo (recordFrom l) ≡ l
-unfolding recordTo recordFrom
-record-of-words l h = spelled threadWords l h
+record-of-words : (l : List ℕ) → length l ≡ thread_words → record_to (record_from l) ≡ l
+unfolding record_to record_from
+record-of-words l h = spelled thread_words l h
 
 -- words to records and back
-words_back : (n : ℕ) (ws : List ℕ) → length ws ≡ n * threadWords → words_of (recordsOf n ws) ≡ ws
-unfolding words_of recordsOf
-words_back n ws h = flat_rows recordFrom recordTo threadWords record-of-words n ws h
+words_back : (n : ℕ) (ws : List ℕ) → length ws ≡ n * thread_words → words_of (records_of n ws) ≡ ws
+unfolding words_of records_of
+words_back n ws h = flat_rows record_from record_to thread_words record-of-words n ws h
 
 -- a record as a place of the table
 abbrev place_of : records.Thread → Place Thread
-place_of t = record { holds = rowThread t; marks = t.marks }
+place_of t = record { holds = row_thread t; marks = t.marks }
 
 -- the words are the same
-row_words : (ts : List records.Thread) → words_of ts ≡ threadWordsOf (map place_of ts)
-unfolding words_of threadWordsOf flat recordTo threadTo
+row_words : (ts : List records.Thread) → words_of ts ≡ thread_words_of (map place_of ts)
+unfolding words_of thread_words_of flat record_to thread_to
 row_words [] = refl
-row_words (t ∷ ts) = ap (λ ws. recordTo t ++ ws) (row_words ts)
+row_words (t ∷ ts) = ap (λ ws. record_to t ++ ws) (row_words ts)
 
 -- and what the places hold
-row-held : (ts : List records.Thread) → map held (map place_of ts) ≡ map rowThread ts
+row-held : (ts : List records.Thread) → map held (map place_of ts) ≡ map row_thread ts
 row-held [] = refl
-row-held (t ∷ ts) = ap (λ us. rowThread t ∷ us) (row-held ts)
+row-held (t ∷ ts) = ap (λ us. row_thread t ∷ us) (row-held ts)
 
 -- a row as long as the table says what its records hold
-pub row-threads : (h : Host) → length h.threads ≡ threadPlaces
-    → map held (decoded (lent_by h)).threads ≡ map rowThread h.threads
+pub row-threads : (h : Host) → length h.threads ≡ thread_places
+    → map held (decoded (lent_by h)).threads ≡ map row_thread h.threads
 unfolding decoded
 row-threads h e =
     ap (map held)
-    (ap threadsOf (row_words h.threads)
+    (ap threads_of (row_words h.threads)
     ∙ thread-words-forth (map place_of h.threads) (length-map h.threads place_of ∙ e))
     ∙ row-held h.threads
 
 -- lent words of the table's length are those of such a row
-pub row-length : (h : Host) → lengthsAre (lent_by h) ≡ true → length h.threads ≡ threadPlaces
+pub row-length : (h : Host) → lengths_are (lent_by h) ≡ true → length h.threads ≡ thread_places
 row-length h e = omega (arith, words-length h.threads, right-threads (lent_by h) e)
 
 -- ---- the thread table is as long after a call as before it
 
 -- an accepted call leaves a sound store, whose words have the right lengths
-accepted-threads : (c : Call) (l : Lent) → machine c ≡ true → refusalOn c l ≡ 0
-    → length (stepOn c l).0.threads ≡ length l.threads
+accepted-threads : (c : Call) (l : Lent) → machine c ≡ true → refusal_on c l ≡ 0
+    → length (step_on c l).0.threads ≡ length l.threads
 accepted-threads c l u k =
-    let after = applyAll (changes (view_of l) c) (decoded l) in
+    let after = apply_all (changes (view_of l) c) (decoded l) in
     let good : sound after ≡ true =
     ap sound (sym (steps.accepted-step c (decoded l) (accepted-rules c l k)))
     ∙ accepted-sound-after c (decoded l) u (accepted-rules c l k) in
@@ -173,9 +173,9 @@ accepted-threads c l u k =
     ∙ sym (right-threads l (accepted-long c l k))
 
 -- a refused one leaves the tables that it found
-step-threads : (c : Call) (l : Lent) → machine c ≡ true → length (stepOn c l).0.threads ≡ length l.threads
+step-threads : (c : Call) (l : Lent) → machine c ≡ true → length (step_on c l).0.threads ≡ length l.threads
 step-threads c l u =
-    let r = refusalOn c l in
+    let r = refusal_on c l in
     split (eqb r 0)
     (λ k. accepted-threads c l u (eqb-true r 0 k))
     (λ k. ap (λ (m : Lent). length m.threads) (sym (refused-tables c l (eqb-false r 0 k))))
@@ -185,27 +185,27 @@ step-threads c l u =
 module _ (n : ℕ) (g : Arguments) (h : Host) where
   -- what it comes to on the tables that the host lends, with as much room for the answer
   abbrev outcome : Lent × Answer
-  outcome = serveOn n g (length h.answer) (lent_by h)
+  outcome = serve_on n g (length h.answer) (lent_by h)
 
   -- a call by a number that is one, with room for its answer
-  pub served-accepted : accepted n (length h.answer) ≡ true → outcome ≡ stepOn (numbered n g) (lent_by h)
-  unfolding serveOn
+  pub served-accepted : accepted n (length h.answer) ≡ true → outcome ≡ step_on (numbered n g) (lent_by h)
+  unfolding serve_on
   served-accepted e = cond-true _ _ e
 
   -- else 22, after 14
   pub served-not : accepted n (length h.answer) ≡ false
       → outcome ≡ (lent_by h, Refused (cond (usable n (lent_by h)) EINVAL EFAULT))
-  unfolding serveOn
+  unfolding serve_on
   served-not e = cond-false _ _ e
 
   -- what is returned
-  pub entry-returned : (callOn n g h).1 ≡ errnoOf outcome.1
-  unfolding callOn handedBack served servedBy
+  pub entry-returned : (call_on n g h).1 ≡ errno_of outcome.1
+  unfolding call_on handed_back served served_by
   entry-returned = refl
 
   -- the words for the answer
-  pub entry-words : (callOn n g h).0.answer ≡ written outcome.1 h.answer
-  unfolding callOn handedBack served servedBy
+  pub entry-words : (call_on n g h).0.answer ≡ written outcome.1 h.answer
+  unfolding call_on handed_back served served_by
   entry-words = refl
 
   -- the row has as many words as before
@@ -217,9 +217,9 @@ module _ (n : ℕ) (g : Arguments) (h : Host) where
       (λ k. ap long (served-not k))
 
   -- the tables that the host lends after it
-  pub entry-tables : machine (numbered n g) ≡ true → lent_by (callOn n g h).0 ≡ outcome.0
-  unfolding callOn handedBack served servedBy
+  pub entry-tables : machine (numbered n g) ≡ true → lent_by (call_on n g h).0 ≡ outcome.0
+  unfolding call_on handed_back served served_by
   entry-tables u =
       let m = outcome.0 in
-      ap (λ ws. lent m.processes ws m.threadBuffer m.processBuffer)
+      ap (λ ws. lent m.processes ws m.thread_buffer m.process_buffer)
       (words_back (length h.threads) m.threads (served-threads u ∙ words-length h.threads))

@@ -8,45 +8,45 @@ use lib.Dec.{eqb}
 use Rattle.sigset.specs.declared.SigSet.{SigSet}
 use Rattle.sigset.specs.Set.{has}
 use Rattle.rules.specs.Types.{Queue}
-use Rattle.rules.specs.View.{Change, forget, newProcess, newThread, removeProcess, removeThread, setStopped, setAction}
-use Rattle.rules.specs.View.{setMask, setMark, clearMark, append, dropOldest, discard, inQueue}
-use Rattle.history.specs.Ledger.{Ledger, ofProcess, onLines, withTotal, withMark, is_at, place}
-use Rattle.history.specs.Acts.{keepSend, takeSend, emptying}
+use Rattle.rules.specs.View.{Change, forget, new_process, new_thread, remove_process, remove_thread, set_stopped, set_action}
+use Rattle.rules.specs.View.{set_mask, set_mark, clear_mark, append, drop_oldest, discard, in_queue}
+use Rattle.history.specs.Ledger.{Ledger, of_process, on_lines, with_total, with_mark, is_at, place}
+use Rattle.history.specs.Acts.{keep_send, take_send, emptying}
 
 -- all queues and signals; those of a thread; those of a process's signals in a set
 abbrev pub everywhere : Queue → ℕ → Bool
 everywhere q s = true
 
-abbrev pub ofThread : ℕ → Queue → ℕ → Bool
-ofThread n q s = eqb q.thread n
+abbrev pub of_thread : ℕ → Queue → ℕ → Bool
+of_thread n q s = eqb q.thread n
 
-abbrev pub ofSignals : ℕ → SigSet → Queue → ℕ → Bool
-ofSignals n set q s = eqb q.process n && has set s
+abbrev pub of_signals : ℕ → SigSet → Queue → ℕ → Bool
+of_signals n set q s = eqb q.process n && has set s
 
 unfoldable pub note : Change → Ledger → Ledger
 note forget l = place forget (emptying everywhere l)
-note (newProcess p) l = place (newProcess p) l
-note (newThread t) l = place (newThread t) l
-note (removeProcess n) l = place (removeProcess n) (emptying (ofProcess n) l)
-note (removeThread n) l = place (removeThread n) (emptying (ofThread n) l)
-note (setStopped n b) l = place (setStopped n b) l
-note (setAction n s a) l = place (setAction n s a) l
-note (setMask n m) l = place (setMask n m) l
-note (setMark q s) l = onLines (is_at q s) (withMark true) l
-note (clearMark q s) l = onLines (is_at q s) (withMark false) l
+note (new_process p) l = place (new_process p) l
+note (new_thread t) l = place (new_thread t) l
+note (remove_process n) l = place (remove_process n) (emptying (of_process n) l)
+note (remove_thread n) l = place (remove_thread n) (emptying (of_thread n) l)
+note (set_stopped n b) l = place (set_stopped n b) l
+note (set_action n s a) l = place (set_action n s a) l
+note (set_mask n m) l = place (set_mask n m) l
+note (set_mark q s) l = on_lines (is_at q s) (with_mark true) l
+note (clear_mark q s) l = on_lines (is_at q s) (with_mark false) l
 note (append r) l =
-    withTotal (record { kept = l.total.kept + 1; taken = l.total.taken; discarded = l.total.discarded })
-    (onLines (λ q s. inQueue q s r) (keepSend r) l)
-note (dropOldest q s) l =
-    withTotal (record { kept = l.total.kept; taken = l.total.taken + 1; discarded = l.total.discarded })
-    (onLines (is_at q s) takeSend l)
-note (discard n set) l = emptying (ofSignals n set) l
+    with_total (record { kept = l.total.kept + 1; taken = l.total.taken; discarded = l.total.discarded })
+    (on_lines (λ q s. in_queue q s r) (keep_send r) l)
+note (drop_oldest q s) l =
+    with_total (record { kept = l.total.kept; taken = l.total.taken + 1; discarded = l.total.discarded })
+    (on_lines (is_at q s) take_send l)
+note (discard n set) l = emptying (of_signals n set) l
 
-unfoldable pub noteAll : List Change → Ledger → Ledger
-noteAll [] l = l
-noteAll (c ∷ cs) l = noteAll cs (note c l)
+unfoldable pub note_all : List Change → Ledger → Ledger
+note_all [] l = l
+note_all (c ∷ cs) l = note_all cs (note c l)
 
-pub noteAll-append : (xs ys : List Change) (l : Ledger) → noteAll (xs ++ ys) l ≡ noteAll ys (noteAll xs l)
-unfolding noteAll
-noteAll-append [] ys l = refl
-noteAll-append (c ∷ xs) ys l = noteAll-append xs ys (note c l)
+pub note_all-append : (xs ys : List Change) (l : Ledger) → note_all (xs ++ ys) l ≡ note_all ys (note_all xs l)
+unfolding note_all
+note_all-append [] ys l = refl
+note_all-append (c ∷ xs) ys l = note_all-append xs ys (note c l)

@@ -8,13 +8,13 @@ use lib.ListN.{length, length-append, length-drop, drop}
 use Rattle.lists.specs.Lists.{count}
 use Rattle.types.specs.declared.Siginfo.{Siginfo}
 use Rattle.rules.specs.Types.{Queue}
-use Rattle.rules.specs.View.{Change, forget, newProcess, newThread, removeProcess, removeThread, setStopped, setAction}
-use Rattle.rules.specs.View.{setMask, setMark, clearMark, append, dropOldest, discard, inQueue}
-use Rattle.history.specs.Ledger.{Counts, Line, Ledger, emptyLedger, ledgerView, withMark, is_at, place, placeAll}
-use Rattle.history.specs.Acts.{Act, kept, marked, tookSend, tookMark, emptied, empties, keepSend, takeSend}
-use Rattle.history.specs.Acts.{emptyLine, play, playAll, Turn, takeTurn, takeTurns, actsOf}
-use Rattle.history.specs.Tally.{keptSince, takenSince, markSince, discardedAt, keepsWhere, isKeep, keepsAt}
-use Rattle.history.specs.Tally.{takesWhere, isTake, takesAt}
+use Rattle.rules.specs.View.{Change, forget, new_process, new_thread, remove_process, remove_thread, set_stopped, set_action}
+use Rattle.rules.specs.View.{set_mask, set_mark, clear_mark, append, drop_oldest, discard, in_queue}
+use Rattle.history.specs.Ledger.{Counts, Line, Ledger, empty_ledger, ledger_view, with_mark, is_at, place, place_all}
+use Rattle.history.specs.Acts.{Act, kept, marked, took_send, took_mark, emptied, empties, keep_send, take_send}
+use Rattle.history.specs.Acts.{empty_line, play, play_all, Turn, take_turn, take_turns, acts_of}
+use Rattle.history.specs.Tally.{kept_since, taken_since, mark_since, discarded_at, keeps_where, is_keep, keeps_at}
+use Rattle.history.specs.Tally.{takes_where, is_take, takes_at}
 use Rattle.history.specs.History.{onto}
 use Rattle.history.specs.Takes.{Right, RightActs, RightTurns}
 use Rattle.history.proofs.Records.{at-queue, at-signal}
@@ -57,7 +57,7 @@ module _ (x : Line) (n : ℕ) (ks : List Siginfo) (m : Bool) (a b d : ℕ) (h : 
       }
 
   line_kept : (r : Siginfo) (y : Bool)
-      → LineIs (cond y (keepSend r x) x) n (cond y (ks ++ (r ∷ [])) ks) m (cond y 1 0 + a) (0 + b) d
+      → LineIs (cond y (keep_send r x) x) n (cond y (ks ++ (r ∷ [])) ks) m (cond y 1 0 + a) (0 + b) d
   line_kept r true =
       record {
         since = ap (λ (rs : List Siginfo). rs ++ (r ∷ [])) h.since ∙ drop-end n ks r h.few;
@@ -71,7 +71,7 @@ module _ (x : Line) (n : ℕ) (ks : List Siginfo) (m : Bool) (a b d : ℕ) (h : 
 
   -- where it is taken from there is a send
   line_taken : (y : Bool) → (y ≡ true → 1 ≤ length x.sends)
-      → LineIs (cond y (takeSend x) x) (n + cond y 1 0) ks m (0 + a) (cond y 1 0 + b) d
+      → LineIs (cond y (take_send x) x) (n + cond y 1 0) ks m (0 + a) (cond y 1 0 + b) d
   line_taken true o =
       record {
         since = ap tail h.since ∙ drop-one n ks;
@@ -92,7 +92,7 @@ module _ (x : Line) (n : ℕ) (ks : List Siginfo) (m : Bool) (a b d : ℕ) (h : 
         discarded = h.discarded;
       }
 
-  line_marked : (y z : Bool) → LineIs (cond z (withMark y x) x) n ks (cond z y m) (0 + a) (0 + b) d
+  line_marked : (y z : Bool) → LineIs (cond z (with_mark y x) x) n ks (cond z y m) (0 + a) (0 + b) d
   line_marked y true =
       record {
         since = h.since;
@@ -105,7 +105,7 @@ module _ (x : Line) (n : ℕ) (ks : List Siginfo) (m : Bool) (a b d : ℕ) (h : 
   line_marked y false = line_stays
 
   line-emptied : (y : Bool)
-      → LineIs (cond y (emptyLine x) x) (cond y 0 n) (cond y [] ks) (cond y false m) (0 + a) (0 + b)
+      → LineIs (cond y (empty_line x) x) (cond y 0 n) (cond y [] ks) (cond y false m) (0 + a) (0 + b)
       (d + cond y (length (drop n ks)) 0)
   line-emptied true =
       record {
@@ -130,16 +130,16 @@ module _ (x : Line) (n : ℕ) (ks : List Siginfo) (m : Bool) (a b d : ℕ) (h : 
 
 pub record Tallied (lines : Queue → ℕ → Line) (total : Counts) (done : List Act) : Type 0 where
   pub line : (q : Queue) (s : ℕ)
-      → LineIs (lines q s) (takenSince q s done) (keptSince q s done) (markSince q s done)
-      (count (keepsAt q s) done) (count (takesAt q s) done) (discardedAt q s done)
-  pub kept : total.kept ≡ count isKeep done
-  pub taken : total.taken ≡ count isTake done
+      → LineIs (lines q s) (taken_since q s done) (kept_since q s done) (mark_since q s done)
+      (count (keeps_at q s) done) (count (takes_at q s) done) (discarded_at q s done)
+  pub kept : total.kept ≡ count is_keep done
+  pub taken : total.taken ≡ count is_take done
 
 abbrev pub Tallies : Ledger → List Act → Type 0
 Tallies k done = Tallied k.lines k.total done
 
-pub tallies-start : Tallies emptyLedger []
-unfolding emptyLedger keptSince takenSince markSince discardedAt count
+pub tallies-start : Tallies empty_ledger []
+unfolding empty_ledger kept_since taken_since mark_since discarded_at count
 tallies-start =
     record {
       line = λ q s.
@@ -150,10 +150,10 @@ tallies-start =
 
 -- an act that is right
 tallies-play : (a : Act) (k : Ledger) (done : List Act) → Right k a → Tallies k done → Tallies (play a k) (a ∷ done)
-unfolding play keptSince takenSince markSince discardedAt count keepsWhere takesWhere
+unfolding play kept_since taken_since mark_since discarded_at count keeps_where takes_where
 tallies-play (kept r) k done w h =
     record {
-      line = λ q s. line_kept (k.lines q s) _ _ _ _ _ _ (h.line q s) r (inQueue q s r);
+      line = λ q s. line_kept (k.lines q s) _ _ _ _ _ _ (h.line q s) r (in_queue q s r);
       kept = omega (arith, h.kept);
       taken = omega (arith, h.taken);
     }
@@ -163,7 +163,7 @@ tallies-play (marked j n) k done w h =
       kept = omega (arith, h.kept);
       taken = omega (arith, h.taken);
     }
-tallies-play (tookSend t j n r) k done w h =
+tallies-play (took_send t j n r) k done w h =
     record {
       line = λ q s.
           line_taken (k.lines q s) _ _ _ _ _ _ (h.line q s) (is_at j n q s)
@@ -173,7 +173,7 @@ tallies-play (tookSend t j n r) k done w h =
       kept = omega (arith, h.kept);
       taken = omega (arith, h.taken);
     }
-tallies-play (tookMark t j n) k done w h =
+tallies-play (took_mark t j n) k done w h =
     record {
       line = λ q s. line_marked (k.lines q s) _ _ _ _ _ _ (h.line q s) false (is_at j n q s);
       kept = omega (arith, h.kept);
@@ -189,8 +189,8 @@ tallies-play (emptied e) k done w h =
 -- ---- a list of acts, a list of turns
 
 tallies-acts : (xs : List Act) (k : Ledger) (done : List Act) → RightActs xs k → Tallies k done
-    → Tallies (playAll xs k) (onto xs done)
-unfolding playAll onto
+    → Tallies (play_all xs k) (onto xs done)
+unfolding play_all onto
 tallies-acts [] k done w h = h
 tallies-acts (a ∷ xs) k done w h = tallies-acts xs (play a k) (a ∷ done) w.1 (tallies-play a k done w.0 h)
 
@@ -198,21 +198,21 @@ tallies-acts (a ∷ xs) k done w h = tallies-acts xs (play a k) (a ∷ done) w.1
 place-lists : (ch : Change) (k : Ledger) (done : List Act) → Tallies k done → Tallies (place ch k) done
 unfolding place
 place-lists forget k done h = h
-place-lists (newProcess p) k done h = h
-place-lists (newThread t) k done h = h
-place-lists (removeProcess n) k done h = h
-place-lists (removeThread n) k done h = h
-place-lists (setStopped n b) k done h = h
-place-lists (setAction n s a) k done h = h
-place-lists (setMask n m) k done h = h
-place-lists (setMark q s) k done h = h
-place-lists (clearMark q s) k done h = h
+place-lists (new_process p) k done h = h
+place-lists (new_thread t) k done h = h
+place-lists (remove_process n) k done h = h
+place-lists (remove_thread n) k done h = h
+place-lists (set_stopped n b) k done h = h
+place-lists (set_action n s a) k done h = h
+place-lists (set_mask n m) k done h = h
+place-lists (set_mark q s) k done h = h
+place-lists (clear_mark q s) k done h = h
 place-lists (append r) k done h = h
-place-lists (dropOldest q s) k done h = h
+place-lists (drop_oldest q s) k done h = h
 place-lists (discard n x) k done h = h
 
-places-lists : (cs : List Change) (k : Ledger) (done : List Act) → Tallies k done → Tallies (placeAll cs k) done
-unfolding placeAll
+places-lists : (cs : List Change) (k : Ledger) (done : List Act) → Tallies k done → Tallies (place_all cs k) done
+unfolding place_all
 places-lists [] k done h = h
 places-lists (c ∷ cs) k done h = places-lists cs (place c k) done (place-lists c k done h)
 
@@ -222,11 +222,11 @@ onto-append [] ys done = refl
 onto-append (a ∷ xs) ys done = onto-append xs ys (a ∷ done)
 
 pub tallies-turns : (xs : List Turn) (k : Ledger) (done : List Act) → RightTurns xs k → Tallies k done
-    → Tallies (takeTurns xs k) (onto (actsOf xs k) done)
-unfolding takeTurns takeTurn actsOf onto
+    → Tallies (take_turns xs k) (onto (acts_of xs k) done)
+unfolding take_turns take_turn acts_of onto
 tallies-turns [] k done w h = h
 tallies-turns (x ∷ xs) k done w h =
-    let xs₁ : List Act = x.does (ledgerView k) in
-    subst (Tallies (takeTurns xs (takeTurn x k))) (sym (onto-append xs₁ (actsOf xs (takeTurn x k)) done))
-    (tallies-turns xs (takeTurn x k) (onto xs₁ done) w.1
-    (places-lists (x.stage (ledgerView k)) (playAll xs₁ k) (onto xs₁ done) (tallies-acts xs₁ k done w.0 h)))
+    let xs₁ : List Act = x.does (ledger_view k) in
+    subst (Tallies (take_turns xs (take_turn x k))) (sym (onto-append xs₁ (acts_of xs (take_turn x k)) done))
+    (tallies-turns xs (take_turn x k) (onto xs₁ done) w.1
+    (places-lists (x.stage (ledger_view k)) (play_all xs₁ k) (onto xs₁ done) (tallies-acts xs₁ k done w.0 h)))

@@ -13,17 +13,17 @@ use Rattle.lists.proofs.Bools.{and-fst, or-fst-false, or-snd-false}
 use Rattle.types.specs.declared.Siginfo.{Siginfo}
 use Rattle.types.specs.declared.Answer.TheVariants.{Accepted}
 use Rattle.rules.specs.Types.{Call, sigaction, take}
-use Rattle.rules.specs.View.{inQueue, View, liveThread, theThread}
-use Rattle.rules.specs.Store.{recordsFor, Store, view, applyAll}
-use Rattle.rules.specs.Refusals.{overLast, badAction, noThreadLive, rows, table, refusalOf}
+use Rattle.rules.specs.View.{in_queue, View, live_thread, the_thread}
+use Rattle.rules.specs.Store.{records_for, Store, view, apply_all}
+use Rattle.rules.specs.Refusals.{over_last, bad_action, no_thread_live, rows, table, refusal_of}
 use Rattle.rules.specs.Machine.{machine}
 use Rattle.rules.specs.Calls.{changes, reply}
 use Rattle.rules.proofs.Marks.{the-thread-id}
 use Rattle.rules.proofs.RefusalTable.{accepted-off}
-use Rattle.history.specs.Ledger.{Ledger, ledgerView}
-use Rattle.history.specs.Acts.{acts, turns, takeTurn, takeTurns, actsOf}
+use Rattle.history.specs.Ledger.{Ledger, ledger_view}
+use Rattle.history.specs.Acts.{acts, turns, take_turn, take_turns, acts_of}
 use Rattle.history.specs.Takes.{RightTurns, AnswersBy}
-use Rattle.history.proofs.Notes.{noteAll}
+use Rattle.history.proofs.Notes.{note_all}
 use Rattle.history.proofs.Holds.{Holds, same_view, holds-accepted}
 use Rattle.history.proofs.Played.{Storable, played}
 use Rattle.history.proofs.Relation.{Agrees}
@@ -35,47 +35,47 @@ sorted : (st : Store) (k : Ledger) → Agrees st k → Sorted k
 unfolding all
 sorted st k a q s r e =
     of-signal q s r
-    (and-fst (inQueue q s r) _
-    (subst (λ (rs : List Siginfo). all (inQueue q s) rs ≡ true) (a.records q s ∙ e)
-    (all-kept (inQueue q s) (recordsFor q st))))
+    (and-fst (in_queue q s r) _
+    (subst (λ (rs : List Siginfo). all (in_queue q s) rs ≡ true) (a.records q s ∙ e)
+    (all-kept (in_queue q s) (records_for q st))))
 
-module _ (c : Call) (st : Store) (k : Ledger) (e : refusalOf st c ≡ 0) (h : Holds st k) where
+module _ (c : Call) (st : Store) (k : Ledger) (e : refusal_of st c ≡ 0) (h : Holds st k) where
   -- an action is stored for a signal
   storable : Storable c
-  unfolding table rows badAction overLast
+  unfolding table rows bad_action over_last
   storable p s new i =
-      let o = (accepted-off st (sigaction p s new) (ap (refusalOf st) (sym i) ∙ e)).1.0 in
-      let z = or-fst-false (eqb s 0) _ (or-snd-false (overLast s) _ o) in
-      record { low = omega (arith, eqb-false s 0 z); high = ltb-false signals s (or-fst-false (overLast s) _ o) }
+      let o = (accepted-off st (sigaction p s new) (ap (refusal_of st) (sym i) ∙ e)).1.0 in
+      let z = or-fst-false (eqb s 0) _ (or-snd-false (over_last s) _ o) in
+      record { low = omega (arith, eqb-false s 0 z); high = ltb-false signals s (or-fst-false (over_last s) _ o) }
 
   -- a thread that takes is live, and found by its id
   pub taker : (t : ℕ) → c ≡ take t → Taker k t
-  unfolding table rows noThreadLive
+  unfolding table rows no_thread_live
   taker t i =
-      let v : view st ≡ ledgerView k = same_view st k h in
-      let live : liveThread (view st) t ≡ true =
-      not-false (liveThread (view st) t) (accepted-off st (take t) (ap (refusalOf st) (sym i) ∙ e)).1.0 in
+      let v : view st ≡ ledger_view k = same_view st k h in
+      let live : live_thread (view st) t ≡ true =
+      not-false (live_thread (view st) t) (accepted-off st (take t) (ap (refusal_of st) (sym i) ∙ e)).1.0 in
       record {
-        live = ap (λ (x : View). liveThread x t) (sym v) ∙ live;
-        named = ap (λ (x : View). (theThread x t).id) (sym v) ∙ the-thread-id st t live;
+        live = ap (λ (x : View). live_thread x t) (sym v) ∙ live;
+        named = ap (λ (x : View). (the_thread x t).id) (sym v) ∙ the-thread-id st t live;
       }
 
   pub holds-turns : machine c ≡ true
-      → Holds (applyAll (changes (view st) c) st) (takeTurns (turns (ledgerView k) c) k)
-  unfolding turns takeTurns takeTurn
+      → Holds (apply_all (changes (view st) c) st) (take_turns (turns (ledger_view k) c) k)
+  unfolding turns take_turns take_turn
   holds-turns u =
-      subst (Holds (applyAll (changes (view st) c) st))
-      (ap (λ (v : View). noteAll (changes v c) k) (same_view st k h) ∙ sym (played (ledgerView k) k c storable))
+      subst (Holds (apply_all (changes (view st) c) st))
+      (ap (λ (v : View). note_all (changes v c) k) (same_view st k h) ∙ sym (played (ledger_view k) k c storable))
       (holds-accepted c st k u e h)
 
-  pub right-turns : RightTurns (turns (ledgerView k) c) k
+  pub right-turns : RightTurns (turns (ledger_view k) c) k
   unfolding turns
   right-turns = (judged k c taker, tt)
 
-  pub answers-turns : All (AnswersBy (ledgerView k) (Accepted (reply (ledgerView k) c)))
-      (actsOf (turns (ledgerView k) c) k)
-  unfolding turns actsOf
+  pub answers-turns : All (AnswersBy (ledger_view k) (Accepted (reply (ledger_view k) c)))
+      (acts_of (turns (ledger_view k) c) k)
+  unfolding turns acts_of
   answers-turns =
-      subst (All (AnswersBy (ledgerView k) (Accepted (reply (ledgerView k) c))))
-      (sym (append-nil (acts (ledgerView k) c)))
+      subst (All (AnswersBy (ledger_view k) (Accepted (reply (ledger_view k) c))))
+      (sym (append-nil (acts (ledger_view k) c)))
       (answered-by k c taker (sorted st k h.beside.agrees))

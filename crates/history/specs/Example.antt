@@ -1,23 +1,23 @@
 -- A short history by computation: what the ledger has after it, from the calls alone.
 use Rattle.std.specs.Prelude.{ℕ, ◌≡◌, refl, true, false, List, [], ◌∷◌, ◌++◌, map}
 use Rattle.std.proofs.Math.Option.{some}
-use Rattle.limits.specs.Limits.{sigIgn, siQueue}
+use Rattle.limits.specs.Limits.{sig_ign, si_queue}
 use Rattle.sigset.specs.Set.{empty}
 use Rattle.types.specs.declared.Siginfo.{Siginfo}
-use Rattle.types.specs.Values.{newOf}
-use Rattle.rules.specs.Types.{Call, clear, addProcess, sigqueue, sigaction, take, sigreturn}
-use Rattle.rules.specs.View.{processQueue}
+use Rattle.types.specs.Values.{new_of}
+use Rattle.rules.specs.Types.{Call, clear, add_process, sigqueue, sigaction, take, sigreturn}
+use Rattle.rules.specs.View.{process_queue}
 use Rattle.rules.specs.Computing.{computing}
-use Rattle.history.specs.Ledger.{Line, queues, pendingWhere, ledgerView, place, placeAll, emptyLedger}
-use Rattle.history.specs.Acts.{empties, play, playAll, sent, isDropped, isAbsorbed, said, arrival, jobEvents}
-use Rattle.history.specs.Acts.{sendActs, storeActs, endActs, endsProcess, resetToIgnore, setsOff, takeActs, acts}
-use Rattle.history.specs.Acts.{turns, takeTurn, takeTurns, kept, tookSend, emptied, allCleared, nowIgnored}
-use Rattle.history.specs.Acts.{actsOf}
-use Rattle.history.specs.History.{Entry, Book, emptyBook, onto, entered, enter}
+use Rattle.history.specs.Ledger.{Line, queues, pending_where, ledger_view, place, place_all, empty_ledger}
+use Rattle.history.specs.Acts.{empties, play, play_all, sent, is_dropped, is_absorbed, said, arrival, job_events}
+use Rattle.history.specs.Acts.{send_acts, store_acts, end_acts, ends_process, reset_to_ignore, sets_off, take_acts, acts}
+use Rattle.history.specs.Acts.{turns, take_turn, take_turns, kept, took_send, emptied, all_cleared, now_ignored}
+use Rattle.history.specs.Acts.{acts_of}
+use Rattle.history.specs.History.{Entry, Book, empty_book, onto, entered, enter}
 
-enterAll : List Entry → Book → Book
-enterAll [] b = b
-enterAll (e ∷ es) b = enterAll es (enter e b)
+enter_all : List Entry → Book → Book
+enter_all [] b = b
+enter_all (e ∷ es) b = enter_all es (enter e b)
 
 accepted : Call → Entry
 accepted c = record { call = c; refused = false }
@@ -29,7 +29,7 @@ refused c = record { call = c; refused = true }
 sends : List Entry
 sends =
     accepted clear
-    ∷ accepted (addProcess (newOf 100 1000 1000 1000 7 200 empty))
+    ∷ accepted (add_process (new_of 100 1000 1000 1000 7 200 empty))
     ∷ accepted (sigaction 100 40 (some (record { handler = 5000; flags = 0; mask = empty })))
     ∷ accepted (sigqueue 100 100 0 40 1)
     ∷ accepted (sigqueue 100 100 0 40 2)
@@ -41,28 +41,28 @@ sends =
 
 -- then 40 is ignored
 ignored : List Entry
-ignored = sends ++ (accepted (sigaction 100 40 (some (record { handler = sigIgn; flags = 0; mask = empty }))) ∷ [])
+ignored = sends ++ (accepted (sigaction 100 40 (some (record { handler = sig_ign; flags = 0; mask = empty }))) ∷ [])
 
-lineAfter : List Entry → Line
-lineAfter es = (enterAll es emptyBook).ledger.lines (processQueue 100) 40
+line_after : List Entry → Line
+line_after es = (enter_all es empty_book).ledger.lines (process_queue 100) 40
 
 -- the values of the sends that are pending
-pendingAfter : List Entry → List ℕ
-pendingAfter es = map (λ (r : Siginfo). r.value) (lineAfter es).sends
+pending_after : List Entry → List ℕ
+pending_after es = map (λ (r : Siginfo). r.value) (line_after es).sends
 
 -- the record of the send with this value
 valued : ℕ → Siginfo
-valued n = record { process = 100; thread = 0; signal = 40; code = siQueue; sender = 100; uid = 1000; value = n }
+valued n = record { process = 100; thread = 0; signal = 40; code = si_queue; sender = 100; uid = 1000; value = n }
 
 -- two are pending after the take; both are discarded when 40 is ignored
-example : (pendingAfter sends ≡ 2 ∷ 3 ∷ [])
-    × (((lineAfter sends).counts ≡ record { kept = 3; taken = 1; discarded = 0 })
-    × ((pendingAfter ignored ≡ [])
-    × (((enterAll ignored emptyBook).ledger.total ≡ record { kept = 3; taken = 1; discarded = 2 })
-    × ((enterAll ignored emptyBook).acts
-    ≡ emptied (nowIgnored 100 40) ∷ tookSend 200 (processQueue 100) 40 (valued 1) ∷ kept (valued 3) ∷ kept (valued 2)
-    ∷ kept (valued 1) ∷ emptied allCleared ∷ []))))
-unfolding computing queues pendingWhere ledgerView place placeAll emptyLedger empties play playAll sent isDropped
-    isAbsorbed said arrival jobEvents sendActs storeActs endActs endsProcess resetToIgnore setsOff takeActs acts turns
-    takeTurn takeTurns actsOf onto entered enter enterAll accepted refused sends ignored lineAfter pendingAfter valued
+example : (pending_after sends ≡ 2 ∷ 3 ∷ [])
+    × (((line_after sends).counts ≡ record { kept = 3; taken = 1; discarded = 0 })
+    × ((pending_after ignored ≡ [])
+    × (((enter_all ignored empty_book).ledger.total ≡ record { kept = 3; taken = 1; discarded = 2 })
+    × ((enter_all ignored empty_book).acts
+    ≡ emptied (now_ignored 100 40) ∷ took_send 200 (process_queue 100) 40 (valued 1) ∷ kept (valued 3) ∷ kept (valued 2)
+    ∷ kept (valued 1) ∷ emptied all_cleared ∷ []))))
+unfolding computing queues pending_where ledger_view place place_all empty_ledger empties play play_all sent is_dropped
+    is_absorbed said arrival job_events send_acts store_acts end_acts ends_process reset_to_ignore sets_off take_acts acts turns
+    take_turn take_turns acts_of onto entered enter enter_all accepted refused sends ignored line_after pending_after valued
 example = (refl, (refl, (refl, (refl, refl))))

@@ -4,34 +4,34 @@ use Rattle.std.specs.Prelude.{ℕ, ◌+◌, ◌*◌}
 -- ---- capacities
 
 -- Places of the process table and of the thread table; records of each buffer.
-abbrev pub processPlaces : ℕ
-processPlaces = 16
+abbrev pub process_places : ℕ
+process_places = 16
 
-abbrev pub threadPlaces : ℕ
-threadPlaces = 64
+abbrev pub thread_places : ℕ
+thread_places = 64
 
-abbrev pub bufferRecords : ℕ
-bufferRecords = 512
+abbrev pub buffer_records : ℕ
+buffer_records = 512
 
 -- The records that one process may have pending, its threads' queues counted in.
-abbrev pub recordLimit : ℕ
-recordLimit = 32
+abbrev pub record_limit : ℕ
+record_limit = 32
 
 -- The largest process or thread id.
-abbrev pub largestId : ℕ
-largestId = 2147483647
+abbrev pub largest_id : ℕ
+largest_id = 2147483647
 
 -- The largest user id and session id: 32 bits.
-abbrev pub largestUser : ℕ
-largestUser = 4294967295
+abbrev pub largest_user : ℕ
+largest_user = 4294967295
 
--- ---- signals: 1 to lastStandard are standard, the rest to signals realtime
+-- ---- signals: 1 to last_standard are standard, the rest to signals realtime
 
 abbrev pub signals : ℕ
 signals = 64
 
-abbrev pub lastStandard : ℕ
-lastStandard = 31
+abbrev pub last_standard : ℕ
+last_standard = 31
 
 abbrev pub SIGILL : ℕ
 SIGILL = 4
@@ -68,42 +68,42 @@ SIGWINCH = 28
 
 -- ---- actions: the two handler numbers that are no handler, and the flags
 
-abbrev pub sigDfl : ℕ
-sigDfl = 0
+abbrev pub sig_dfl : ℕ
+sig_dfl = 0
 
-abbrev pub sigIgn : ℕ
-sigIgn = 1
+abbrev pub sig_ign : ℕ
+sig_ign = 1
 
-abbrev pub saSiginfo : ℕ
-saSiginfo = 0x4
+abbrev pub sa_siginfo : ℕ
+sa_siginfo = 0x4
 
-abbrev pub saRestart : ℕ
-saRestart = 0x10000000
+abbrev pub sa_restart : ℕ
+sa_restart = 0x10000000
 
-abbrev pub saNodefer : ℕ
-saNodefer = 0x40000000
+abbrev pub sa_nodefer : ℕ
+sa_nodefer = 0x40000000
 
-abbrev pub saResethand : ℕ
-saResethand = 0x80000000
+abbrev pub sa_resethand : ℕ
+sa_resethand = 0x80000000
 
-abbrev pub knownFlags : ℕ
-knownFlags = saSiginfo + saRestart + saNodefer + saResethand
+abbrev pub known_flags : ℕ
+known_flags = sa_siginfo + sa_restart + sa_nodefer + sa_resethand
 
 -- ---- masks: the three ways to change one
 
-abbrev pub sigBlock : ℕ
-sigBlock = 0
+abbrev pub sig_block : ℕ
+sig_block = 0
 
-abbrev pub sigUnblock : ℕ
-sigUnblock = 1
+abbrev pub sig_unblock : ℕ
+sig_unblock = 1
 
-abbrev pub sigSetmask : ℕ
-sigSetmask = 2
+abbrev pub sig_setmask : ℕ
+sig_setmask = 2
 
 -- ---- the code of a queued record, -1 in 32 bits
 
-abbrev pub siQueue : ℕ
-siQueue = 0xffffffff
+abbrev pub si_queue : ℕ
+si_queue = 0xffffffff
 
 -- ---- refusals
 
@@ -127,200 +127,200 @@ EINVAL = 22
 
 -- ---- words of the tables: the head fields of a process, the fields of an action, the fields of a thread
 
-abbrev pub processId : ℕ
-processId = 0
+abbrev pub process_id : ℕ
+process_id = 0
 
-abbrev pub processReal : ℕ
-processReal = 1
+abbrev pub process_real : ℕ
+process_real = 1
 
-abbrev pub processEffective : ℕ
-processEffective = 2
+abbrev pub process_effective : ℕ
+process_effective = 2
 
-abbrev pub processSaved : ℕ
-processSaved = 3
+abbrev pub process_saved : ℕ
+process_saved = 3
 
-abbrev pub processSession : ℕ
-processSession = 4
+abbrev pub process_session : ℕ
+process_session = 4
 
-abbrev pub processStopped : ℕ
-processStopped = 5
+abbrev pub process_stopped : ℕ
+process_stopped = 5
 
-abbrev pub processMarks : ℕ
-processMarks = 6
+abbrev pub process_marks : ℕ
+process_marks = 6
 
-abbrev pub headWords : ℕ
-headWords = 7
+abbrev pub head_words : ℕ
+head_words = 7
 
-abbrev pub actionHandler : ℕ
-actionHandler = 0
+abbrev pub action_handler : ℕ
+action_handler = 0
 
-abbrev pub actionFlags : ℕ
-actionFlags = 1
+abbrev pub action_flags : ℕ
+action_flags = 1
 
-abbrev pub actionMask : ℕ
-actionMask = 2
+abbrev pub action_mask : ℕ
+action_mask = 2
 
-abbrev pub actionWords : ℕ
-actionWords = 3
+abbrev pub action_words : ℕ
+action_words = 3
 
-abbrev pub threadId : ℕ
-threadId = 0
+abbrev pub thread_id : ℕ
+thread_id = 0
 
-abbrev pub threadProcess : ℕ
-threadProcess = 1
+abbrev pub thread_process : ℕ
+thread_process = 1
 
-abbrev pub threadMask : ℕ
-threadMask = 2
+abbrev pub thread_mask : ℕ
+thread_mask = 2
 
-abbrev pub threadMarks : ℕ
-threadMarks = 3
+abbrev pub thread_marks : ℕ
+thread_marks = 3
 
-abbrev pub threadWords : ℕ
-threadWords = 4
+abbrev pub thread_words : ℕ
+thread_words = 4
 
-abbrev pub processWords : ℕ
-processWords = headWords + signals * actionWords
+abbrev pub process_words : ℕ
+process_words = head_words + signals * action_words
 
-abbrev pub processTable : ℕ
-processTable = processPlaces * processWords
+abbrev pub process_table : ℕ
+process_table = process_places * process_words
 
-abbrev pub threadTable : ℕ
-threadTable = threadPlaces * threadWords
+abbrev pub thread_table : ℕ
+thread_table = thread_places * thread_words
 
 -- ---- bytes of a record
 
-abbrev pub recordProcess : ℕ
-recordProcess = 0
+abbrev pub record_process : ℕ
+record_process = 0
 
-abbrev pub recordThread : ℕ
-recordThread = 4
+abbrev pub record_thread : ℕ
+record_thread = 4
 
-abbrev pub recordSignal : ℕ
-recordSignal = 8
+abbrev pub record_signal : ℕ
+record_signal = 8
 
-abbrev pub recordCode : ℕ
-recordCode = 12
+abbrev pub record_code : ℕ
+record_code = 12
 
-abbrev pub recordSender : ℕ
-recordSender = 16
+abbrev pub record_sender : ℕ
+record_sender = 16
 
-abbrev pub recordUid : ℕ
-recordUid = 20
+abbrev pub record_uid : ℕ
+record_uid = 20
 
-abbrev pub recordValue : ℕ
-recordValue = 24
+abbrev pub record_value : ℕ
+record_value = 24
 
-abbrev pub recordBytes : ℕ
-recordBytes = 32
+abbrev pub record_bytes : ℕ
+record_bytes = 32
 
-abbrev pub bufferBytes : ℕ
-bufferBytes = bufferRecords * recordBytes
+abbrev pub buffer_bytes : ℕ
+buffer_bytes = buffer_records * record_bytes
 
 -- ---- the C boundary: the calls in their documented order, from 1 on, so that a number left at 0 is no call
 
-abbrev pub callClear : ℕ
-callClear = 1
+abbrev pub call_clear : ℕ
+call_clear = 1
 
-abbrev pub callAddProcess : ℕ
-callAddProcess = 2
+abbrev pub call_add_process : ℕ
+call_add_process = 2
 
-abbrev pub callAddThread : ℕ
-callAddThread = 3
+abbrev pub call_add_thread : ℕ
+call_add_thread = 3
 
-abbrev pub callEndProcess : ℕ
-callEndProcess = 4
+abbrev pub call_end_process : ℕ
+call_end_process = 4
 
-abbrev pub callEndThread : ℕ
-callEndThread = 5
+abbrev pub call_end_thread : ℕ
+call_end_thread = 5
 
-abbrev pub callKill : ℕ
-callKill = 6
+abbrev pub call_kill : ℕ
+call_kill = 6
 
-abbrev pub callSigqueue : ℕ
-callSigqueue = 7
+abbrev pub call_sigqueue : ℕ
+call_sigqueue = 7
 
-abbrev pub callSigaction : ℕ
-callSigaction = 8
+abbrev pub call_sigaction : ℕ
+call_sigaction = 8
 
-abbrev pub callSigmask : ℕ
-callSigmask = 9
+abbrev pub call_sigmask : ℕ
+call_sigmask = 9
 
-abbrev pub callSigpending : ℕ
-callSigpending = 10
+abbrev pub call_sigpending : ℕ
+call_sigpending = 10
 
-abbrev pub callLook : ℕ
-callLook = 11
+abbrev pub call_look : ℕ
+call_look = 11
 
-abbrev pub callWho : ℕ
-callWho = 12
+abbrev pub call_who : ℕ
+call_who = 12
 
-abbrev pub callTake : ℕ
-callTake = 13
+abbrev pub call_take : ℕ
+call_take = 13
 
-abbrev pub callSigreturn : ℕ
-callSigreturn = 14
+abbrev pub call_sigreturn : ℕ
+call_sigreturn = 14
 
 -- ---- the answers there: the first word of each, and the words of the longest
 
-abbrev pub answerDone : ℕ
-answerDone = 1
+abbrev pub answer_done : ℕ
+answer_done = 1
 
-abbrev pub answerTested : ℕ
-answerTested = 2
+abbrev pub answer_tested : ℕ
+answer_tested = 2
 
-abbrev pub answerActed : ℕ
-answerActed = 3
+abbrev pub answer_acted : ℕ
+answer_acted = 3
 
-abbrev pub answerDropped : ℕ
-answerDropped = 4
+abbrev pub answer_dropped : ℕ
+answer_dropped = 4
 
-abbrev pub answerAbsorbed : ℕ
-answerAbsorbed = 5
+abbrev pub answer_absorbed : ℕ
+answer_absorbed = 5
 
-abbrev pub answerMarked : ℕ
-answerMarked = 6
+abbrev pub answer_marked : ℕ
+answer_marked = 6
 
-abbrev pub answerKept : ℕ
-answerKept = 7
+abbrev pub answer_kept : ℕ
+answer_kept = 7
 
-abbrev pub answerOldAction : ℕ
-answerOldAction = 8
+abbrev pub answer_old_action : ℕ
+answer_old_action = 8
 
-abbrev pub answerOldMask : ℕ
-answerOldMask = 9
+abbrev pub answer_old_mask : ℕ
+answer_old_mask = 9
 
-abbrev pub answerPendingSet : ℕ
-answerPendingSet = 10
+abbrev pub answer_pending_set : ℕ
+answer_pending_set = 10
 
-abbrev pub answerNextNothing : ℕ
-answerNextNothing = 11
+abbrev pub answer_next_nothing : ℕ
+answer_next_nothing = 11
 
-abbrev pub answerNextMark : ℕ
-answerNextMark = 12
+abbrev pub answer_next_mark : ℕ
+answer_next_mark = 12
 
-abbrev pub answerNextRecord : ℕ
-answerNextRecord = 13
+abbrev pub answer_next_record : ℕ
+answer_next_record = 13
 
-abbrev pub answerCanTake : ℕ
-answerCanTake = 14
+abbrev pub answer_can_take : ℕ
+answer_can_take = 14
 
-abbrev pub answerNoneCan : ℕ
-answerNoneCan = 15
+abbrev pub answer_none_can : ℕ
+answer_none_can = 15
 
-abbrev pub answerNothing : ℕ
-answerNothing = 16
+abbrev pub answer_nothing : ℕ
+answer_nothing = 16
 
-abbrev pub answerHandler : ℕ
-answerHandler = 17
+abbrev pub answer_handler : ℕ
+answer_handler = 17
 
-abbrev pub answerEnd : ℕ
-answerEnd = 18
+abbrev pub answer_end : ℕ
+answer_end = 18
 
-abbrev pub answerStop : ℕ
-answerStop = 19
+abbrev pub answer_stop : ℕ
+answer_stop = 19
 
-abbrev pub answerNoAction : ℕ
-answerNoAction = 20
+abbrev pub answer_no_action : ℕ
+answer_no_action = 20
 
-abbrev pub answerWords : ℕ
-answerWords = 12
+abbrev pub answer_words : ℕ
+answer_words = 12

@@ -3,9 +3,9 @@ use mathlib.Core.Path.{◌≡◌, refl, sym, ap, ◌∙◌}
 use mathlib.Core.Bool.{Bool, true, false, cond}
 use mathlib.Core.List.{List, [], ◌∷◌}
 use mathlib.Core.Option.{get_or}
-use Rattle.lists.specs.Lists.{all, any, first, change, replaceFirst, pairs, All}
+use Rattle.lists.specs.Lists.{all, any, first, change, replace_first, pairs, All}
 use Rattle.lists.proofs.Bools.{split, clash, and-fst, and-snd, and_both}
-use Rattle.lists.proofs.Lists.{Pass, All-imp, All-all, any-no, all-replaceFirst, change-map, pairs-map}
+use Rattle.lists.proofs.Lists.{Pass, All-imp, All-all, any-no, all-replace_first, change-map, pairs-map}
 use Rattle.lists.proofs.Lists.{pairs-imp}
 
 module _ {A : Type 0} where
@@ -52,8 +52,8 @@ module _ {A : Type 0} where
 
   -- one that fails takes the place of one that fails
   pub first-filled : (p t : A → Bool) (a : A) → p a ≡ false → (l : List A) → All (λ x. t x ≡ true → p x ≡ false) l
-      → first p (replaceFirst t a l) ≡ first p l
-  unfolding first replaceFirst
+      → first p (replace_first t a l) ≡ first p l
+  unfolding first replace_first
   first-filled p t a f [] c = refl
   first-filled p t a f (x ∷ xs) c =
       split (t x)
@@ -71,13 +71,13 @@ module _ {A : Type 0} where
 
   pub pairs-filled : (r : A → A → Bool) (t : A → Bool) (a : A) (l : List A)
       → All (λ x. (r x a ≡ true) × (r a x ≡ true)) l → pairs r l ≡ true
-      → pairs r (replaceFirst t a l) ≡ true
-  unfolding pairs replaceFirst
+      → pairs r (replace_first t a l) ≡ true
+  unfolding pairs replace_first
   pairs-filled r t a [] c e = refl
   pairs-filled r t a (x ∷ xs) c e =
       let i = and-snd (all (r x) xs) (pairs r xs) e in
       split (t x)
       (λ f. rw f (and_both
       (All-all (r a) xs (All-imp (λ y. (r y a ≡ true) × (r a y ≡ true)) (Pass (r a)) (λ y h. h.1) xs c.1)) i))
-      (λ f. rw f (and_both (all-replaceFirst (r x) t a c.0.0 xs (and-fst (all (r x) xs) (pairs r xs) e))
+      (λ f. rw f (and_both (all-replace_first (r x) t a c.0.0 xs (and-fst (all (r x) xs) (pairs r xs) e))
       (pairs-filled r t a xs c.1 i)))

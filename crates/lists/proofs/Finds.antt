@@ -32,10 +32,10 @@ module _ {A : Type 0} (f : A → Bool) (d : A) where
       (λ k. omega (arith, find-no f x xs k, find-below xs i (le_of_suc-le-suc h) e))
 
   -- found or not
-  pub getD-find : (xs : List A) → Option.get_or (first f xs) d ≡ get_or xs (find f xs) d
+  pub get_d-find : (xs : List A) → Option.get_or (first f xs) d ≡ get_or xs (find f xs) d
   unfolding first find
-  getD-find [] = refl
-  getD-find (x ∷ xs) = split (f x) (λ e. rw e) (λ e. rw e (getD-find xs))
+  get_d-find [] = refl
+  get_d-find (x ∷ xs) = split (f x) (λ e. rw e) (λ e. rw e (get_d-find xs))
 
 pub find-map : {A B : Type 0} (p : B → Bool) (f : A → B) (xs : List A) → find p (map f xs) ≡ find (λ x. p (f x)) xs
 unfolding find

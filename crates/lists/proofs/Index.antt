@@ -15,11 +15,11 @@ use Rattle.lists.proofs.Loops.{any_here, All-range, All-range-at}
 -- ---- by index
 
 module _ {A : Type 0} where
-  pub getD-mapped : {B : Type 0} (f : A → B) (xs : List A) (i : ℕ) (d : A) (e : B) → i < length xs
+  pub get_d-mapped : {B : Type 0} (f : A → B) (xs : List A) (i : ℕ) (d : A) (e : B) → i < length xs
       → get_or (map f xs) i e ≡ f (get_or xs i d)
-  getD-mapped f [] i d e h = absurd (not-suc-le-zero h)
-  getD-mapped f (x ∷ xs) zero d e h = refl
-  getD-mapped f (x ∷ xs) (suc i) d e h = getD-mapped f xs i d e (le_of_suc-le-suc h)
+  get_d-mapped f [] i d e h = absurd (not-suc-le-zero h)
+  get_d-mapped f (x ∷ xs) zero d e h = refl
+  get_d-mapped f (x ∷ xs) (suc i) d e h = get_d-mapped f xs i d e (le_of_suc-le-suc h)
 
   pub map-set : {B : Type 0} (f : A → B) (xs : List A) (i : ℕ) (a : A) → map f (set xs i a) ≡ set (map f xs) i (f a)
   map-set f [] i a = refl
@@ -27,11 +27,11 @@ module _ {A : Type 0} where
   map-set f (x ∷ xs) (suc i) a = ap (λ l. f x ∷ l) (map-set f xs i a)
 
   -- what holds of the default and of every value holds at every index
-  pub getD-map-has : {B : Type 0} (P : B → Type 0) (f : A → B) (e : B) → P e → ((x : A) → P (f x))
+  pub get_d-map-has : {B : Type 0} (P : B → Type 0) (f : A → B) (e : B) → P e → ((x : A) → P (f x))
       → (xs : List A) (i : ℕ) → P (get_or (map f xs) i e)
-  getD-map-has P f e z h [] i = z
-  getD-map-has P f e z h (x ∷ xs) zero = h x
-  getD-map-has P f e z h (x ∷ xs) (suc i) = getD-map-has P f e z h xs i
+  get_d-map-has P f e z h [] i = z
+  get_d-map-has P f e z h (x ∷ xs) zero = h x
+  get_d-map-has P f e z h (x ∷ xs) (suc i) = get_d-map-has P f e z h xs i
 
   pub all-each : (p : A → Bool) (d : A) (xs : List A) → ((i : ℕ) → i < length xs → p (get_or xs i d) ≡ true)
       → all p xs ≡ true

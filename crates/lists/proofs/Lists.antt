@@ -11,8 +11,8 @@ use native.Mathlib.Omega.{arith}
 use lib.ListN.{length, get_or, take, drop, set, replicate, length-append, length-replicate, length-map}
 use lib.Seq.{append_snoc, set-append_seam, take-append-le, get_or-take, drop-append_seam}
 use borrow.Author.Tests.{not-true}
-use Rattle.lists.specs.Lists.{all, any, count, find, first, keep, leading, dropFirst, change, replaceFirst}
-use Rattle.lists.specs.Lists.{is_some, pairs, pairsWhere, padded, All, consIf}
+use Rattle.lists.specs.Lists.{all, any, count, find, first, keep, leading, drop_first, change, replace_first}
+use Rattle.lists.specs.Lists.{is_some, pairs, pairs_where, padded, All, cons_if}
 use Rattle.lists.proofs.Bools.{split, clash, same_test, and-fst, and-snd, and_both, and_left, and_right, or_left}
 use Rattle.lists.proofs.Bools.{or_right, or-both, or-fst-false, or-snd-false, or_cases, not-or, cond_map}
 use Rattle.lists.proofs.Bools.{cond-kept, cond_same}
@@ -158,12 +158,12 @@ module _ {A : Type 0} where
       → All P (change t g l)
   All-change P t g h = All-changed P P t g h (λ x _ c. c)
 
-  pub All-replaceFirst : (P : A → Type 0) (t : A → Bool) (a : A) → P a → (l : List A) → All P l
-      → All P (replaceFirst t a l)
-  unfolding replaceFirst
-  All-replaceFirst P t a h [] c = tt
-  All-replaceFirst P t a h (x ∷ xs) c =
-      split (t x) (λ e. rw e (h, c.1)) (λ e. rw e (c.0, All-replaceFirst P t a h xs c.1))
+  pub All-replace_first : (P : A → Type 0) (t : A → Bool) (a : A) → P a → (l : List A) → All P l
+      → All P (replace_first t a l)
+  unfolding replace_first
+  All-replace_first P t a h [] c = tt
+  All-replace_first P t a h (x ∷ xs) c =
+      split (t x) (λ e. rw e (h, c.1)) (λ e. rw e (c.0, All-replace_first P t a h xs c.1))
 
   pub All-padded : (P : A → Type 0) (d : A) → P d → (n : ℕ) (l : List A) → All P l → All P (padded d n l)
   unfolding padded
@@ -241,9 +241,9 @@ module _ {A : Type 0} (p : A → Bool) where
   pub all_replicate : (a : A) → p a ≡ true → (n : ℕ) → all p (replicate n a) ≡ true
   all_replicate a h n = All-all (replicate n a) (All-replicate (Pass p) a h n)
 
-  pub all-replaceFirst : (t : A → Bool) (a : A) → p a ≡ true → (l : List A) → all p l ≡ true
-      → all p (replaceFirst t a l) ≡ true
-  all-replaceFirst t a h l e = All-all (replaceFirst t a l) (All-replaceFirst (Pass p) t a h l (all-All l e))
+  pub all-replace_first : (t : A → Bool) (a : A) → p a ≡ true → (l : List A) → all p l ≡ true
+      → all p (replace_first t a l) ≡ true
+  all-replace_first t a h l e = All-all (replace_first t a l) (All-replace_first (Pass p) t a h l (all-All l e))
 
   -- a change that the test survives
   pub all-change-keeps : (t : A → Bool) (g : A → A) → ((x : A) → t x ≡ true → p x ≡ true → p (g x) ≡ true)
@@ -271,18 +271,18 @@ module _ {A : Type 0} (p : A → Bool) where
       All-all (keep p l) (All-imp (λ x. Unit {0} × (p x ≡ true)) (Pass p) (λ x c. c.1) (keep p l)
       (All-keep (λ _. Unit {0}) p l (All-every (λ _. Unit {0}) (λ _. tt) l)))
 
-  pub any-replaceFirst : (t : A → Bool) (a : A) (l : List A) → p a ≡ false → All (λ x. t x ≡ true → p x ≡ false) l
-      → any p (replaceFirst t a l) ≡ any p l
-  unfolding any replaceFirst
-  any-replaceFirst t a [] h c = refl
-  any-replaceFirst t a (x ∷ xs) h c =
+  pub any-replace_first : (t : A → Bool) (a : A) (l : List A) → p a ≡ false → All (λ x. t x ≡ true → p x ≡ false) l
+      → any p (replace_first t a l) ≡ any p l
+  unfolding any replace_first
+  any-replace_first t a [] h c = refl
+  any-replace_first t a (x ∷ xs) h c =
       split (t x) (λ e. rw e (ap (λ b. b || any p xs) (h ∙ sym (c.0 e))))
-      (λ e. rw e (ap (λ b. p x || b) (any-replaceFirst t a xs h c.1)))
+      (λ e. rw e (ap (λ b. p x || b) (any-replace_first t a xs h c.1)))
 
   -- the new one stands in the list, if one was replaced
   pub any-replaced : (t : A → Bool) (a : A) (l : List A) → any t l ≡ true → p a ≡ true
-      → any p (replaceFirst t a l) ≡ true
-  unfolding any replaceFirst
+      → any p (replace_first t a l) ≡ true
+  unfolding any replace_first
   any-replaced t a [] e h = e
   any-replaced t a (x ∷ xs) e h =
       split (t x) (λ f. rw f (or_left (any p xs) h))
@@ -337,26 +337,26 @@ module _ {A : Type 0} (p q : A → Bool) where
 -- ---- those that pass
 
 module _ {A : Type 0} where
-  consIf-append : (b : Bool) (x : A) (xs ys : List A) → consIf b x (xs ++ ys) ≡ consIf b x xs ++ ys
-  consIf-append true x xs ys = refl
-  consIf-append false x xs ys = refl
+  cons_if-append : (b : Bool) (x : A) (xs ys : List A) → cons_if b x (xs ++ ys) ≡ cons_if b x xs ++ ys
+  cons_if-append true x xs ys = refl
+  cons_if-append false x xs ys = refl
 
-  consIf-map : {B : Type 0} (f : B → A) (b : Bool) (x : B) (xs : List B)
-      → consIf b (f x) (map f xs) ≡ map f (consIf b x xs)
-  consIf-map f true x xs = refl
-  consIf-map f false x xs = refl
+  cons_if-map : {B : Type 0} (f : B → A) (b : Bool) (x : B) (xs : List B)
+      → cons_if b (f x) (map f xs) ≡ map f (cons_if b x xs)
+  cons_if-map f true x xs = refl
+  cons_if-map f false x xs = refl
 
   module _ (p : A → Bool) where
     pub keep_append : (xs ys : List A) → keep p (xs ++ ys) ≡ keep p xs ++ keep p ys
     unfolding keep
     keep_append [] ys = refl
-    keep_append (x ∷ xs) ys = ap (consIf (p x) x) (keep_append xs ys) ∙ consIf-append (p x) x (keep p xs) (keep p ys)
+    keep_append (x ∷ xs) ys = ap (cons_if (p x) x) (keep_append xs ys) ∙ cons_if-append (p x) x (keep p xs) (keep p ys)
 
     pub keep-map : {B : Type 0} (f : B → A) (l : List B) → keep p (map f l) ≡ map f (keep (λ x. p (f x)) l)
     unfolding keep
     keep-map f [] = refl
     keep-map f (x ∷ xs) =
-        ap (consIf (p (f x)) (f x)) (keep-map f xs) ∙ consIf-map f (p (f x)) x (keep (λ x. p (f x)) xs)
+        ap (cons_if (p (f x)) (f x)) (keep-map f xs) ∙ cons_if-map f (p (f x)) x (keep (λ x. p (f x)) xs)
 
     pub keep-whole : (l : List A) → All (Pass p) l → keep p l ≡ l
     unfolding keep
@@ -374,10 +374,10 @@ module _ {A : Type 0} where
     first-keep [] = refl
     first-keep (x ∷ xs) = split (p x) (λ e. rw e) (λ e. rw e (first-keep xs))
 
-    pub keep-dropFirst : (l : List A) → keep p (dropFirst p l) ≡ tail (keep p l)
-    unfolding keep dropFirst
-    keep-dropFirst [] = refl
-    keep-dropFirst (x ∷ xs) = split (p x) (λ e. rw e) (λ e. rw e (keep-no p x (dropFirst p xs) e ∙ keep-dropFirst xs))
+    pub keep-drop_first : (l : List A) → keep p (drop_first p l) ≡ tail (keep p l)
+    unfolding keep drop_first
+    keep-drop_first [] = refl
+    keep-drop_first (x ∷ xs) = split (p x) (λ e. rw e) (λ e. rw e (keep-no p x (drop_first p xs) e ∙ keep-drop_first xs))
 
   module _ (p q : A → Bool) where
     pub keep_same : (l : List A) → ((x : A) → p x ≡ q x) → keep p l ≡ keep q l
@@ -386,18 +386,18 @@ module _ {A : Type 0} where
     pub keep-same-in : (l : List A) → All (λ x. p x ≡ q x) l → keep p l ≡ keep q l
     unfolding keep
     keep-same-in [] h = refl
-    keep-same-in (x ∷ xs) h = ap₂ (λ b l. consIf b x l) h.0 (keep-same-in xs h.1)
+    keep-same-in (x ∷ xs) h = ap₂ (λ b l. cons_if b x l) h.0 (keep-same-in xs h.1)
 
     pub keep-keep : (l : List A) → keep p (keep q l) ≡ keep (λ x. q x && p x) l
     unfolding keep
     keep-keep [] = refl
-    keep-keep (x ∷ xs) = split (q x) (λ e. rw e (ap (consIf (p x) x) (keep-keep xs))) (λ e. rw e (keep-keep xs))
+    keep-keep (x ∷ xs) = split (q x) (λ e. rw e (ap (cons_if (p x) x) (keep-keep xs))) (λ e. rw e (keep-keep xs))
 
-    pub keep-dropFirst-other : ((x : A) → p x ≡ true → q x ≡ false) → (l : List A) → keep q (dropFirst p l) ≡ keep q l
-    unfolding keep dropFirst
-    keep-dropFirst-other h [] = refl
-    keep-dropFirst-other h (x ∷ xs) =
-        split (p x) (λ e. rw (e, h x e)) (λ e. rw e (ap (consIf (q x) x) (keep-dropFirst-other h xs)))
+    pub keep-drop_first-other : ((x : A) → p x ≡ true → q x ≡ false) → (l : List A) → keep q (drop_first p l) ≡ keep q l
+    unfolding keep drop_first
+    keep-drop_first-other h [] = refl
+    keep-drop_first-other h (x ∷ xs) =
+        split (p x) (λ e. rw (e, h x e)) (λ e. rw e (ap (cons_if (q x) x) (keep-drop_first-other h xs)))
 
   -- what is kept by `p` is kept by `n` too: `n` takes nothing from it
   pub keep_all : (p n : A → Bool) → ((x : A) → p x ≡ true → n x ≡ true) → (l : List A) → keep p (keep n l) ≡ keep p l
@@ -417,23 +417,23 @@ module _ {A : Type 0} where
 -- ---- the first that passes
 
 module _ {A : Type 0} where
-  pub isSome-no : (o : Option A) → is_some o ≡ false → o ≡ none
-  isSome-no none e = refl
-  isSome-no (some a) e = clash refl e
+  pub is_some-no : (o : Option A) → is_some o ≡ false → o ≡ none
+  is_some-no none e = refl
+  is_some-no (some a) e = clash refl e
 
-  pub isSome-first : (p : A → Bool) (l : List A) → is_some (first p l) ≡ any p l
+  pub is_some-first : (p : A → Bool) (l : List A) → is_some (first p l) ≡ any p l
   unfolding first any
-  isSome-first p [] = refl
-  isSome-first p (x ∷ xs) = split (p x) (λ e. rw e) (λ e. rw e (isSome-first p xs))
+  is_some-first p [] = refl
+  is_some-first p (x ∷ xs) = split (p x) (λ e. rw e) (λ e. rw e (is_some-first p xs))
 
   pub any-first : (p : A → Bool) (xs ys : List A) → first p xs ≡ first p ys → any p xs ≡ any p ys
-  any-first p xs ys e = sym (isSome-first p xs) ∙ ap is_some e ∙ isSome-first p ys
+  any-first p xs ys e = sym (is_some-first p xs) ∙ ap is_some e ∙ is_some-first p ys
 
   pub first-none : (p : A → Bool) (l : List A) → any p l ≡ false → first p l ≡ none
-  first-none p l e = isSome-no (first p l) (isSome-first p l ∙ e)
+  first-none p l e = is_some-no (first p l) (is_some-first p l ∙ e)
 
   pub some_first : (p : A → Bool) (l : List A) (a : A) → first p l ≡ some a → any p l ≡ true
-  some_first p l a e = sym (isSome-first p l) ∙ ap is_some e
+  some_first p l a e = sym (is_some-first p l) ∙ ap is_some e
 
   -- a test that x passes is passed in the list
   abbrev pub Stands : List A → A → Type 0
@@ -492,18 +492,18 @@ module _ {A : Type 0} where
   change-same t g l e =
       change-kept t g l (All-imp (Fail t) (λ x. t x ≡ true → g x ≡ x) (λ x f k. clash k f) l (any-All t l e))
 
-  pub replaceFirst-same : (t : A → Bool) (a : A) (l : List A) → any t l ≡ false → replaceFirst t a l ≡ l
-  unfolding replaceFirst any
-  replaceFirst-same t a [] e = refl
-  replaceFirst-same t a (x ∷ xs) e =
+  pub replace_first-same : (t : A → Bool) (a : A) (l : List A) → any t l ≡ false → replace_first t a l ≡ l
+  unfolding replace_first any
+  replace_first-same t a [] e = refl
+  replace_first-same t a (x ∷ xs) e =
       rw (or-fst-false (t x) (any t xs) e)
-      (ap (λ l. x ∷ l) (replaceFirst-same t a xs (or-snd-false (t x) (any t xs) e)))
+      (ap (λ l. x ∷ l) (replace_first-same t a xs (or-snd-false (t x) (any t xs) e)))
 
-  pub dropFirst-same : (t : A → Bool) (l : List A) → any t l ≡ false → dropFirst t l ≡ l
-  unfolding dropFirst any
-  dropFirst-same t [] e = refl
-  dropFirst-same t (x ∷ xs) e =
-      rw (or-fst-false (t x) (any t xs) e) (ap (λ l. x ∷ l) (dropFirst-same t xs (or-snd-false (t x) (any t xs) e)))
+  pub drop_first-same : (t : A → Bool) (l : List A) → any t l ≡ false → drop_first t l ≡ l
+  unfolding drop_first any
+  drop_first-same t [] e = refl
+  drop_first-same t (x ∷ xs) e =
+      rw (or-fst-false (t x) (any t xs) e) (ap (λ l. x ∷ l) (drop_first-same t xs (or-snd-false (t x) (any t xs) e)))
 
 module _ {A B : Type 0} (h : A → B) where
   pub map_same : (k : A → A) → ((x : A) → h (k x) ≡ h x) → (l : List A) → map h (map k l) ≡ map h l
@@ -518,16 +518,16 @@ module _ {A B : Type 0} (h : A → B) where
       ap₂ (λ y l. y ∷ l) (cond_map h (p (h x)) (g x) x ∙ ap (λ y. cond (p (h x)) y (h x)) (e x))
       (map-change p g g' e xs)
 
-  pub map-replaceFirst : (p : B → Bool) (a : A) (l : List A)
-      → map h (replaceFirst (λ x. p (h x)) a l) ≡ replaceFirst p (h a) (map h l)
-  unfolding replaceFirst
-  map-replaceFirst p a [] = refl
-  map-replaceFirst p a (x ∷ xs) = split (p (h x)) (λ e. rw e) (λ e. rw e (ap (λ l. h x ∷ l) (map-replaceFirst p a xs)))
+  pub map-replace_first : (p : B → Bool) (a : A) (l : List A)
+      → map h (replace_first (λ x. p (h x)) a l) ≡ replace_first p (h a) (map h l)
+  unfolding replace_first
+  map-replace_first p a [] = refl
+  map-replace_first p a (x ∷ xs) = split (p (h x)) (λ e. rw e) (λ e. rw e (ap (λ l. h x ∷ l) (map-replace_first p a xs)))
 
-  pub map-dropFirst : (p : B → Bool) (l : List A) → map h (dropFirst (λ x. p (h x)) l) ≡ dropFirst p (map h l)
-  unfolding dropFirst
-  map-dropFirst p [] = refl
-  map-dropFirst p (x ∷ xs) = split (p (h x)) (λ e. rw e) (λ e. rw e (ap (λ l. h x ∷ l) (map-dropFirst p xs)))
+  pub map-drop_first : (p : B → Bool) (l : List A) → map h (drop_first (λ x. p (h x)) l) ≡ drop_first p (map h l)
+  unfolding drop_first
+  map-drop_first p [] = refl
+  map-drop_first p (x ∷ xs) = split (p (h x)) (λ e. rw e) (λ e. rw e (ap (λ l. h x ∷ l) (map-drop_first p xs)))
 
 -- ---- how many pass, and lengths
 
@@ -579,30 +579,30 @@ module _ {A : Type 0} (p : A → Bool) where
   pub count_none : (l : List A) → count p l ≡ 0 → any p l ≡ false
   count_none l e = split (any p l) (λ f. let h : 1 ≤ count p l = any-count l f in absurd (omega arith)) (λ f. f)
 
-  pub count-replaceFirst : (t : A → Bool) (a : A) (l : List A) → p a ≡ false → All (λ x. t x ≡ true → p x ≡ false) l
-      → count p (replaceFirst t a l) ≡ count p l
-  unfolding count replaceFirst
-  count-replaceFirst t a [] h c = refl
-  count-replaceFirst t a (x ∷ xs) h c =
+  pub count-replace_first : (t : A → Bool) (a : A) (l : List A) → p a ≡ false → All (λ x. t x ≡ true → p x ≡ false) l
+      → count p (replace_first t a l) ≡ count p l
+  unfolding count replace_first
+  count-replace_first t a [] h c = refl
+  count-replace_first t a (x ∷ xs) h c =
       split (t x)
       (λ e. rw e (ap (λ b. cond b 1 0 + count p xs) (h ∙ sym (c.0 e))))
-      (λ e. rw e (ap (λ n. cond (p x) 1 0 + n) (count-replaceFirst t a xs h c.1)))
+      (λ e. rw e (ap (λ n. cond (p x) 1 0 + n) (count-replace_first t a xs h c.1)))
 
-  pub count-replaceFirst-le : (t : A → Bool) (a : A) (l : List A)
-      → count p (replaceFirst t a l) ≤ count p l + cond (p a) 1 0
-  unfolding count replaceFirst
-  count-replaceFirst-le t a [] = omega arith
-  count-replaceFirst-le t a (x ∷ xs) =
-      split (t x) (λ e. rw e (omega arith)) (λ e. rw e (omega (arith, count-replaceFirst-le t a xs)))
+  pub count-replace_first-le : (t : A → Bool) (a : A) (l : List A)
+      → count p (replace_first t a l) ≤ count p l + cond (p a) 1 0
+  unfolding count replace_first
+  count-replace_first-le t a [] = omega arith
+  count-replace_first-le t a (x ∷ xs) =
+      split (t x) (λ e. rw e (omega arith)) (λ e. rw e (omega (arith, count-replace_first-le t a xs)))
 
-  pub count-dropFirst : (l : List A) → any p l ≡ true → suc (count p (dropFirst p l)) ≡ count p l
-  unfolding count dropFirst any
-  count-dropFirst [] e = clash e refl
-  count-dropFirst (x ∷ xs) e =
+  pub count-drop_first : (l : List A) → any p l ≡ true → suc (count p (drop_first p l)) ≡ count p l
+  unfolding count drop_first any
+  count-drop_first [] e = clash e refl
+  count-drop_first (x ∷ xs) e =
       split (p x)
       (λ f. rw f (omega arith))
       (λ f. rw f (let h : any p xs ≡ true = sym (any-no p x xs f) ∙ e in
-      omega (arith, count_no p x (dropFirst p xs) f, count-dropFirst xs h)))
+      omega (arith, count_no p x (drop_first p xs) f, count-drop_first xs h)))
 
 -- a test that all pass
 pub count-true : {A : Type 0} (l : List A) → count (λ _. true) l ≡ length l
@@ -631,16 +631,16 @@ module _ {A : Type 0} (p : A → Bool) where
   pub length-change : (g : A → A) (l : List A) → length (change p g l) ≡ length l
   length-change g l = ap length (change-map p g l) ∙ length-map l (λ x. cond (p x) (g x) x)
 
-  pub length-replaceFirst : (a : A) (l : List A) → length (replaceFirst p a l) ≡ length l
-  unfolding replaceFirst
-  length-replaceFirst a [] = refl
-  length-replaceFirst a (x ∷ xs) = split (p x) (λ e. rw e) (λ e. rw e (ap suc (length-replaceFirst a xs)))
+  pub length-replace_first : (a : A) (l : List A) → length (replace_first p a l) ≡ length l
+  unfolding replace_first
+  length-replace_first a [] = refl
+  length-replace_first a (x ∷ xs) = split (p x) (λ e. rw e) (λ e. rw e (ap suc (length-replace_first a xs)))
 
-  pub length-dropFirst : (l : List A) → any p l ≡ true → suc (length (dropFirst p l)) ≡ length l
-  unfolding dropFirst any
-  length-dropFirst [] e = clash e refl
-  length-dropFirst (x ∷ xs) e =
-      split (p x) (λ f. rw f) (λ f. rw f (ap suc (length-dropFirst xs (sym (any-no p x xs f) ∙ e))))
+  pub length-drop_first : (l : List A) → any p l ≡ true → suc (length (drop_first p l)) ≡ length l
+  unfolding drop_first any
+  length-drop_first [] e = clash e refl
+  length-drop_first (x ∷ xs) e =
+      split (p x) (λ f. rw f) (λ f. rw f (ap suc (length-drop_first xs (sym (any-no p x xs f) ∙ e))))
 
 -- ---- every two members
 
@@ -664,11 +664,11 @@ module _ {A : Type 0} where
   all-or false q l = refl
 
   -- the test of the first of a pair may stand in the test of the pair
-  pub pairsWhere-pairs : (p : A → Bool) (r : A → A → Bool) (l : List A)
-      → pairsWhere p r l ≡ pairs (λ x y. not (p x) || r x y) l
-  unfolding pairsWhere pairs
-  pairsWhere-pairs p r [] = refl
-  pairsWhere-pairs p r (x ∷ xs) = ap₂ (λ a b. a && b) (all-or (not (p x)) (r x) xs) (pairsWhere-pairs p r xs)
+  pub pairs_where-pairs : (p : A → Bool) (r : A → A → Bool) (l : List A)
+      → pairs_where p r l ≡ pairs (λ x y. not (p x) || r x y) l
+  unfolding pairs_where pairs
+  pairs_where-pairs p r [] = refl
+  pairs_where-pairs p r (x ∷ xs) = ap₂ (λ a b. a && b) (all-or (not (p x)) (r x) xs) (pairs_where-pairs p r xs)
 
   -- where no two pass, one at most does
   pub pairs-count : (t : A → Bool) (l : List A) → pairs (λ x y. not (t x && t y)) l ≡ true → count t l ≤ 1
@@ -735,8 +735,8 @@ module _ {A : Type 0} (p : A → Bool) where
   pub All-leading : (P : A → Type 0) (l : List A) → All P l → All P (leading p l)
   All-leading P l c = subst (All P) (sym (leading-take l)) (All-take P (length (leading p l)) l c)
 
-  pub getD-leading : (l : List A) (i : ℕ) (d : A) → i < length (leading p l) → get_or (leading p l) i d ≡ get_or l i d
-  getD-leading l i d h = ap (λ r. get_or r i d) (leading-take l) ∙ get_or-take (length (leading p l)) l i d h
+  pub get_d-leading : (l : List A) (i : ℕ) (d : A) → i < length (leading p l) → get_or (leading p l) i d ≡ get_or l i d
+  get_d-leading l i d h = ap (λ r. get_or r i d) (leading-take l) ∙ get_or-take (length (leading p l)) l i d h
 
 module _ {A : Type 0} (d : A) (n : ℕ) (xs : List A) where
   pub length-padded : length xs ≤ n → length (padded d n xs) ≡ n

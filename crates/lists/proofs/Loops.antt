@@ -11,7 +11,7 @@ use lib.ListN.{length, get_or, take, drop, set, replicate, length-replicate, dro
 use lib.ListN.{replicate-append-replicate}
 use lib.Seq.{take-suc, take_all, drop-cons, map-set_same, set-get_or, get_or-drop, drop-drop, drop-set-lt, take-suc-set}
 use lib.Seq.{append_snoc, paste, paste-suc, length-paste, length-take-le, drop_at}
-use Rattle.lists.specs.Lists.{all, any, count, find, first, keep, leading, dropFirst, change, replaceFirst, pairs}
+use Rattle.lists.specs.Lists.{all, any, count, find, first, keep, leading, drop_first, change, replace_first, pairs}
 use Rattle.lists.specs.Lists.{range, padded, All}
 use Rattle.lists.proofs.Bools.{split, clash, and-fst, and-snd, and_both, and_left, and_right, or-both}
 use Rattle.lists.proofs.Lists.{Pass, All-at, All-set, all-All, All-all, all_append, all_end, any_append, all_map}
@@ -133,16 +133,16 @@ module _ {A : Type 0} (f : A → Bool) (d : A) where
   first-find (x ∷ xs) e = split (f x) (λ k. rw k) (λ k. rw k (first-find xs (sym (any-no f x xs k) ∙ e)))
 
 -- to replace the first is to store at its index, and to leave it out is to leave that place out
-pub replaceFirst-find : {A : Type 0} (f : A → Bool) (a : A) (xs : List A) → replaceFirst f a xs ≡ set xs (find f xs) a
-unfolding replaceFirst find
-replaceFirst-find f a [] = refl
-replaceFirst-find f a (x ∷ xs) = split (f x) (λ e. rw e) (λ e. rw e (ap (λ l. x ∷ l) (replaceFirst-find f a xs)))
+pub replace_first-find : {A : Type 0} (f : A → Bool) (a : A) (xs : List A) → replace_first f a xs ≡ set xs (find f xs) a
+unfolding replace_first find
+replace_first-find f a [] = refl
+replace_first-find f a (x ∷ xs) = split (f x) (λ e. rw e) (λ e. rw e (ap (λ l. x ∷ l) (replace_first-find f a xs)))
 
-pub dropFirst-find : {A : Type 0} (f : A → Bool) (xs : List A)
-    → dropFirst f xs ≡ take (find f xs) xs ++ drop (suc (find f xs)) xs
-unfolding dropFirst find
-dropFirst-find f [] = refl
-dropFirst-find f (x ∷ xs) = split (f x) (λ e. rw e) (λ e. rw e (ap (λ l. x ∷ l) (dropFirst-find f xs)))
+pub drop_first-find : {A : Type 0} (f : A → Bool) (xs : List A)
+    → drop_first f xs ≡ take (find f xs) xs ++ drop (suc (find f xs)) xs
+unfolding drop_first find
+drop_first-find f [] = refl
+drop_first-find f (x ∷ xs) = split (f x) (λ e. rw e) (λ e. rw e (ap (λ l. x ∷ l) (drop_first-find f xs)))
 
 -- ---- every two entries pass: `pairs r (take i xs) ≡ true`, where entry i is held against those before it
 
@@ -305,11 +305,11 @@ unfolding range
 length-range k zero = refl
 length-range k (suc n) = ap suc (length-range (suc k) n)
 
-pub getD-range : (k n i : ℕ) → i < n → get_or (range k n) i 0 ≡ k + i
+pub get_d-range : (k n i : ℕ) → i < n → get_or (range k n) i 0 ≡ k + i
 unfolding range
-getD-range k zero i h = absurd (not-suc-le-zero h)
-getD-range k (suc n) zero h = sym (add-zero k)
-getD-range k (suc n) (suc i) h = getD-range (suc k) n i (le_of_suc-le-suc h) ∙ suc-add k i ∙ sym (add-suc k i)
+get_d-range k zero i h = absurd (not-suc-le-zero h)
+get_d-range k (suc n) zero h = sym (add-zero k)
+get_d-range k (suc n) (suc i) h = get_d-range (suc k) n i (le_of_suc-le-suc h) ∙ suc-add k i ∙ sym (add-suc k i)
 
 pub All-range : (P : ℕ → Type 0) (k n : ℕ) → ((i : ℕ) → k ≤ i → i < k + n → P i) → All P (range k n)
 unfolding range
@@ -321,7 +321,7 @@ pub All-range-at : (P : ℕ → Type 0) (k n i : ℕ) → k ≤ i → i < k + n 
 All-range-at P k n i a b c =
     let e : k + (i - k) ≡ i = omega arith in
     let m : i - k < n = omega arith in
-    subst P (getD-range k n (i - k) m ∙ e) (All-at P (range k n) (i - k) 0 (rw length-range m) c)
+    subst P (get_d-range k n (i - k) m ∙ e) (All-at P (range k n) (i - k) 0 (rw length-range m) c)
 
 -- a test of every number from k on, n of them: `all f (range k i) ≡ true` when the first i have passed
 range-end : (k n : ℕ) → range k (suc n) ≡ range k n ++ ((k + n) ∷ [])
@@ -340,7 +340,7 @@ module _ (f : ℕ → Bool) (k : ℕ) where
       ap (λ m. all f (range k m)) (add-one i) ∙ ap (all f) (range-end k i) ∙ all_end f (range k i) (k + i) a e
 
   pub range-fails : (n i : ℕ) → i < n → f (k + i) ≡ false → all f (range k n) ≡ false
-  range-fails n i h e = all-fails f 0 (range k n) i (rw length-range h) (ap f (getD-range k n i h) ∙ e)
+  range-fails n i h e = all-fails f 0 (range k n) i (rw length-range h) (ap f (get_d-range k n i h) ∙ e)
 
 -- ---- a count: `k + count p (drop i xs) ≡ count p xs`
 

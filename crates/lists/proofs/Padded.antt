@@ -5,7 +5,7 @@ use mathlib.Core.Bool.{Bool, true, false, not, ◌&&◌, ◌||◌, cond, and-tru
 use mathlib.Core.List.{List, [], ◌∷◌, ◌++◌, map}
 use mathlib.Core.Option.{some}
 use lib.ListN.{length, replicate, length-map}
-use Rattle.lists.specs.Lists.{all, any, first, pairsWhere, padded}
+use Rattle.lists.specs.Lists.{all, any, first, pairs_where, padded}
 use Rattle.lists.proofs.Bools.{and_same}
 use Rattle.lists.proofs.Lists.{all_append, any_append, all_replicate, any-replicate, first-none}
 
@@ -28,8 +28,8 @@ module _ {A : Type 0} (d : A) (k : ℕ) where
     first-behind (x ∷ xs) = ap (cond (p x) (some x)) (first-behind xs)
 
 module _ {A : Type 0} (d : A) (p : A → Bool) (z : p d ≡ false) (r : A → A → Bool) where
-  no_pairs : (k : ℕ) → pairsWhere p r (replicate k d) ≡ true
-  unfolding pairsWhere
+  no_pairs : (k : ℕ) → pairs_where p r (replicate k d) ≡ true
+  unfolding pairs_where
   no_pairs zero = refl
   no_pairs (suc k) = rw z (no_pairs k)
 
@@ -39,8 +39,8 @@ module _ {A : Type 0} (d : A) (p : A → Bool) (z : p d ≡ false) (r : A → A 
     one-behind x xs true e = all-behind d k (r x) (h x e) xs
     one-behind x xs false e = refl
 
-    pairs-behind : (xs : List A) → pairsWhere p r (xs ++ replicate k d) ≡ pairsWhere p r xs
-    unfolding pairsWhere
+    pairs-behind : (xs : List A) → pairs_where p r (xs ++ replicate k d) ≡ pairs_where p r xs
+    unfolding pairs_where
     pairs-behind [] = no_pairs k
     pairs-behind (x ∷ xs) = and_same (one-behind x xs (p x) refl) (pairs-behind xs)
 
@@ -69,10 +69,10 @@ module _ {A : Type 0} (d : A) (n : ℕ) (xs : List A) where
     unfolding padded
     first-padded = first-behind d (n - length xs) p z xs
 
-    pub pairsWhere-padded : (r : A → A → Bool) → ((x : A) → p x ≡ true → r x d ≡ true)
-        → pairsWhere p r (padded d n xs) ≡ pairsWhere p r xs
+    pub pairs_where-padded : (r : A → A → Bool) → ((x : A) → p x ≡ true → r x d ≡ true)
+        → pairs_where p r (padded d n xs) ≡ pairs_where p r xs
     unfolding padded
-    pairsWhere-padded r h = pairs-behind d p z r h (n - length xs) xs
+    pairs_where-padded r h = pairs-behind d p z r h (n - length xs) xs
 
   pub map-padded : {B : Type 0} (f : A → B) → map f (padded d n xs) ≡ padded (f d) n (map f xs)
   unfolding padded

@@ -17,8 +17,8 @@ use Rattle.lists.proofs.Lists.{all_append}
 
 -- ---- a word of a row is a word of the table
 
-pub getD-row : (w : ℕ) (ws : List ℕ) (i k : ℕ) → k < w → get_or (row w ws i) k 0 ≡ get_or ws (i * w + k) 0
-getD-row w ws i k h = get_or-take w (drop (i * w) ws) k 0 h ∙ get_or-drop (i * w) ws k 0
+pub get_d-row : (w : ℕ) (ws : List ℕ) (i k : ℕ) → k < w → get_or (row w ws i) k 0 ≡ get_or ws (i * w + k) 0
+get_d-row w ws i k h = get_or-take w (drop (i * w) ws) k 0 h ∙ get_or-drop (i * w) ws k 0
 
 pub length-row : (w : ℕ) (ws : List ℕ) (i : ℕ) → i * w + w ≤ length ws → length (row w ws i) ≡ w
 length-row w ws i h = length-take-le w (drop (i * w) ws) (rw length-drop (omega arith))
@@ -215,25 +215,25 @@ spelled (suc n) [] h = absurd (not-suc-le-zero {n = n} (omega arith))
 spelled (suc n) (x ∷ l) h = ap {B = List ℕ} (λ r. x ∷ r) (spell-suc n 0 x l ∙ spelled n l (omega arith))
 
 -- the words from b on as code reads them: `get_or l b 0 ∷ get_or l (b + 1) 0 ∷ ..` on a numeral
-abbrev pub spellFrom : ℕ → ℕ → ℕ → List ℕ → List ℕ
-spellFrom zero b k l = []
-spellFrom (suc n) b k l = get_or l (b + k) 0 ∷ spellFrom n b (suc k) l
+abbrev pub spell_from : ℕ → ℕ → ℕ → List ℕ → List ℕ
+spell_from zero b k l = []
+spell_from (suc n) b k l = get_or l (b + k) 0 ∷ spell_from n b (suc k) l
 
-abbrev pub spellAt : ℕ → ℕ → List ℕ → List ℕ
-spellAt zero b l = []
-spellAt (suc n) b l = get_or l b 0 ∷ spellFrom n b 1 l
+abbrev pub spell_at : ℕ → ℕ → List ℕ → List ℕ
+spell_at zero b l = []
+spell_at (suc n) b l = get_or l b 0 ∷ spell_from n b 1 l
 
-spell-part : (m n b k : ℕ) (l : List ℕ) → m + k ≤ n → spell m k (take n (drop b l)) ≡ spellFrom m b k l
+spell-part : (m n b k : ℕ) (l : List ℕ) → m + k ≤ n → spell m k (take n (drop b l)) ≡ spell_from m b k l
 spell-part zero n b k l h = refl
 spell-part (suc m) n b k l h =
     rw (get_or-take n (drop b l) k 0 (omega arith), get_or-drop b l k 0, spell-part m n b (suc k) l (omega arith))
 
-pub take-spell : (n b : ℕ) (l : List ℕ) → b + n ≤ length l → take n (drop b l) ≡ spellAt n b l
+pub take-spell : (n b : ℕ) (l : List ℕ) → b + n ≤ length l → take n (drop b l) ≡ spell_at n b l
 take-spell zero b l h = refl
 take-spell (suc n) b l h =
     sym (spelled (suc n) (take (suc n) (drop b l)) (length-take-le (suc n) (drop b l) (rw length-drop (omega arith))))
     ∙ spell-part (suc n) (suc n) b 0 l (omega arith)
-    ∙ ap (λ k. get_or l k 0 ∷ spellFrom n b 1 l) (add-zero b)
+    ∙ ap (λ k. get_or l k 0 ∷ spell_from n b 1 l) (add-zero b)
 
 -- ---- what all rows have, and runs of stores
 
@@ -256,9 +256,9 @@ flat-replicate enc a w v e (suc n) =
     ∙ ap (λ k. replicate k v) (add_comm w (n * w) ∙ sym (suc-mul n w))
 
 -- the words from b on as code with named offsets reads them: `get_or l (b + 0) 0 ∷ get_or l (b + 1) 0 ∷ ..` on a numeral
-pub take-spellFrom : (n b : ℕ) (l : List ℕ) → b + n ≤ length l → take n (drop b l) ≡ spellFrom n b 0 l
-take-spellFrom zero b l h = refl
-take-spellFrom (suc n) b l h = take-spell (suc n) b l h ∙ ap (λ k. get_or l k 0 ∷ spellFrom n b 1 l) (sym (add-zero b))
+pub take-spell_from : (n b : ℕ) (l : List ℕ) → b + n ≤ length l → take n (drop b l) ≡ spell_from n b 0 l
+take-spell_from zero b l h = refl
+take-spell_from (suc n) b l h = take-spell (suc n) b l h ∙ ap (λ k. get_or l k 0 ∷ spell_from n b 1 l) (sym (add-zero b))
 
 -- ---- stores
 
@@ -276,16 +276,16 @@ module _ {A : Type 0} where
 
   -- a run of stores as code with named offsets writes them:
   -- `set (set l (b + 0) x) (b + 1) y` on a list that is written out
-  abbrev pub setsFrom : List A → ℕ → ℕ → List A → List A
-  setsFrom l b k [] = l
-  setsFrom l b k (v ∷ vs) = setsFrom (set l (b + k) v) b (suc k) vs
+  abbrev pub sets_from : List A → ℕ → ℕ → List A → List A
+  sets_from l b k [] = l
+  sets_from l b k (v ∷ vs) = sets_from (set l (b + k) v) b (suc k) vs
 
-  sets-from : (l : List A) (b k : ℕ) (vs : List A) → setsFrom l b k vs ≡ sets l (b + k) vs
+  sets-from : (l : List A) (b k : ℕ) (vs : List A) → sets_from l b k vs ≡ sets l (b + k) vs
   sets-from l b k [] = refl
   sets-from l b k (v ∷ vs) =
       sets-from (set l (b + k) v) b (suc k) vs ∙ ap (λ n. sets (set l (b + k) v) n vs) (add-suc b k)
 
-  pub sets-at : (l : List A) (b : ℕ) (vs : List A) → setsFrom l b 0 vs ≡ sets l b vs
+  pub sets-at : (l : List A) (b : ℕ) (vs : List A) → sets_from l b 0 vs ≡ sets l b vs
   sets-at l b vs = sets-from l b 0 vs ∙ ap (λ k. sets l k vs) (add-zero b)
 
   -- an entry changed where one was just put

@@ -5,9 +5,9 @@ use mathlib.Core.Bool.{Bool, true, not, ◌||◌}
 use mathlib.Core.List.{List, [], ◌∷◌}
 use native.Mathlib.Omega.{arith}
 use lib.ListN.{length}
-use Rattle.lists.specs.Lists.{all, count, keep, dropFirst, pairs, pairsWhere, All}
+use Rattle.lists.specs.Lists.{all, count, keep, drop_first, pairs, pairs_where, All}
 use Rattle.lists.proofs.Bools.{split, and-fst, and-snd, and_both}
-use Rattle.lists.proofs.Lists.{Pass, all-All, All-all, pairsWhere-pairs}
+use Rattle.lists.proofs.Lists.{Pass, all-All, All-all, pairs_where-pairs}
 
 pub data Within {A : Type 0} : List A → List A → Type 0 where
   ended : Within [] []
@@ -25,11 +25,11 @@ module _ {A : Type 0} where
     keep-within [] = ended
     keep-within (x ∷ xs) = split (p x) (λ e. rw e (kept x (keep-within xs))) (λ e. rw e (left x (keep-within xs)))
 
-    pub dropFirst-within : (xs : List A) → Within (dropFirst p xs) xs
-    unfolding dropFirst
-    dropFirst-within [] = ended
-    dropFirst-within (x ∷ xs) =
-        split (p x) (λ e. rw e (left x (within-refl xs))) (λ e. rw e (kept x (dropFirst-within xs)))
+    pub drop_first-within : (xs : List A) → Within (drop_first p xs) xs
+    unfolding drop_first
+    drop_first-within [] = ended
+    drop_first-within (x ∷ xs) =
+        split (p x) (λ e. rw e (left x (within-refl xs))) (λ e. rw e (kept x (drop_first-within xs)))
 
   pub All-within : (P : A → Type 0) {xs ys : List A} → Within xs ys → All P ys → All P xs
   All-within P ended c = tt
@@ -47,10 +47,10 @@ module _ {A : Type 0} where
       (pairs-within r w (and-snd (all (r x) ys) (pairs r ys) e))
   pairs-within r (left x {xs} {ys} w) e = pairs-within r w (and-snd (all (r x) ys) (pairs r ys) e)
 
-  pub pairsWhere-within : (p : A → Bool) (r : A → A → Bool) {xs ys : List A} → Within xs ys → pairsWhere p r ys ≡ true
-      → pairsWhere p r xs ≡ true
-  pairsWhere-within p r w e =
-      rw pairsWhere-pairs (pairs-within (λ x y. not (p x) || r x y) w (rw pairsWhere-pairs at e))
+  pub pairs_where-within : (p : A → Bool) (r : A → A → Bool) {xs ys : List A} → Within xs ys → pairs_where p r ys ≡ true
+      → pairs_where p r xs ≡ true
+  pairs_where-within p r w e =
+      rw pairs_where-pairs (pairs-within (λ x y. not (p x) || r x y) w (rw pairs_where-pairs at e))
 
   pub count-within : (p : A → Bool) {xs ys : List A} → Within xs ys → count p xs ≤ count p ys
   unfolding count

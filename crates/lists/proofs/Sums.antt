@@ -9,7 +9,7 @@ use native.Mathlib.Omega.{arith}
 use lib.ListN.{length, get_or, set}
 use lib.Dec.{eqb}
 use borrow.Author.Tests.{eqb-true, eqb-false, ne_eqb}
-use Rattle.lists.specs.Lists.{count, first, keep, replaceFirst, dropFirst, is_some, sum, range, All}
+use Rattle.lists.specs.Lists.{count, first, keep, replace_first, drop_first, is_some, sum, range, All}
 use Rattle.lists.proofs.Bools.{split, clash, and_right}
 use Rattle.lists.proofs.Lists.{All-imp, count-and, count_same, first-yes, first-no}
 
@@ -76,22 +76,22 @@ module _ {A : Type 0} where
     sum-set (x ∷ xs) zero a d h = omega arith
     sum-set (x ∷ xs) (suc i) a d h = omega (arith, sum-set xs i a d (le_of_suc-le-suc h))
 
-    pub sum-replaceFirst : (t : A → Bool) (a b : A) (l : List A) → first t l ≡ some b
-        → sum f (replaceFirst t a l) + f b ≡ sum f l + f a
-    unfolding sum first replaceFirst
-    sum-replaceFirst t a b [] e = clash refl (sym (ap is_some e))
-    sum-replaceFirst t a b (x ∷ xs) e =
+    pub sum-replace_first : (t : A → Bool) (a b : A) (l : List A) → first t l ≡ some b
+        → sum f (replace_first t a l) + f b ≡ sum f l + f a
+    unfolding sum first replace_first
+    sum-replace_first t a b [] e = clash refl (sym (ap is_some e))
+    sum-replace_first t a b (x ∷ xs) e =
         split (t x)
         (λ k. let z : x ≡ b = cc (first-yes t x xs k) in rw (k, ← z) (omega arith))
-        (λ k. rw k (omega (arith, sum-replaceFirst t a b xs (sym (first-no t x xs k) ∙ e))))
+        (λ k. rw k (omega (arith, sum-replace_first t a b xs (sym (first-no t x xs k) ∙ e))))
 
-    pub sum-dropFirst : (t : A → Bool) (b : A) (l : List A) → first t l ≡ some b → sum f (dropFirst t l) + f b ≡ sum f l
-    unfolding sum first dropFirst
-    sum-dropFirst t b [] e = clash refl (sym (ap is_some e))
-    sum-dropFirst t b (x ∷ xs) e =
+    pub sum-drop_first : (t : A → Bool) (b : A) (l : List A) → first t l ≡ some b → sum f (drop_first t l) + f b ≡ sum f l
+    unfolding sum first drop_first
+    sum-drop_first t b [] e = clash refl (sym (ap is_some e))
+    sum-drop_first t b (x ∷ xs) e =
         split (t x)
         (λ k. let z : x ≡ b = cc (first-yes t x xs k) in rw (k, ← z) (omega arith))
-        (λ k. rw k (omega (arith, sum-dropFirst t b xs (sym (first-no t x xs k) ∙ e))))
+        (λ k. rw k (omega (arith, sum-drop_first t b xs (sym (first-no t x xs k) ∙ e))))
 
   -- a count is a sum
   pub count-sum : (p : A → Bool) (l : List A) → count p l ≡ sum (λ x. cond (p x) 1 0) l

@@ -3,9 +3,9 @@ use Rattle.std.specs.Prelude.{Bool, true, false, not, ◌&&◌, ◌||◌, cond, 
 use Rattle.std.proofs.Math.Option.{Option, some, none}
 
 -- x before the others, or not
-abbrev pub consIf : {A : Type 0} → Bool → A → List A → List A
-consIf true x xs = x ∷ xs
-consIf false x xs = xs
+abbrev pub cons_if : {A : Type 0} → Bool → A → List A → List A
+cons_if true x xs = x ∷ xs
+cons_if false x xs = xs
 
 module _ {A : Type 0} (p : A → Bool) where
   -- every member passes the test
@@ -36,7 +36,7 @@ module _ {A : Type 0} (p : A → Bool) where
   -- those that pass, in order
   unfoldable pub keep : List A → List A
   keep [] = []
-  keep (x ∷ xs) = consIf (p x) x (keep xs)
+  keep (x ∷ xs) = cons_if (p x) x (keep xs)
 
   -- those before the first that fails
   unfoldable pub leading : List A → List A
@@ -44,9 +44,9 @@ module _ {A : Type 0} (p : A → Bool) where
   leading (x ∷ xs) = cond (p x) (x ∷ leading xs) []
 
   -- all but the first that passes
-  unfoldable pub dropFirst : List A → List A
-  dropFirst [] = []
-  dropFirst (x ∷ xs) = cond (p x) xs (x ∷ dropFirst xs)
+  unfoldable pub drop_first : List A → List A
+  drop_first [] = []
+  drop_first (x ∷ xs) = cond (p x) xs (x ∷ drop_first xs)
 
   -- those that pass are changed by g
   unfoldable pub change : (A → A) → List A → List A
@@ -54,9 +54,9 @@ module _ {A : Type 0} (p : A → Bool) where
   change g (x ∷ xs) = cond (p x) (g x) x ∷ change g xs
 
   -- the first that passes is replaced
-  unfoldable pub replaceFirst : A → List A → List A
-  replaceFirst a [] = []
-  replaceFirst a (x ∷ xs) = cond (p x) (a ∷ xs) (x ∷ replaceFirst a xs)
+  unfoldable pub replace_first : A → List A → List A
+  replace_first a [] = []
+  replace_first a (x ∷ xs) = cond (p x) (a ∷ xs) (x ∷ replace_first a xs)
 
 -- every two members, an earlier and a later one, pass the test
 unfoldable pub pairs : {A : Type 0} → (A → A → Bool) → List A → Bool
@@ -64,9 +64,9 @@ pairs r [] = true
 pairs r (x ∷ xs) = all (r x) xs && pairs r xs
 
 -- the same of every member that passes a test and every later one
-unfoldable pub pairsWhere : {A : Type 0} → (A → Bool) → (A → A → Bool) → List A → Bool
-pairsWhere p r [] = true
-pairsWhere p r (x ∷ xs) = (not (p x) || all (r x) xs) && pairsWhere p r xs
+unfoldable pub pairs_where : {A : Type 0} → (A → Bool) → (A → A → Bool) → List A → Bool
+pairs_where p r [] = true
+pairs_where p r (x ∷ xs) = (not (p x) || all (r x) xs) && pairs_where p r xs
 
 unfoldable pub sum : {A : Type 0} → (A → ℕ) → List A → ℕ
 sum f [] = 0

@@ -6,63 +6,63 @@ use mathlib.Core.List.{List, [], ◌∷◌}
 use native.Mathlib.Nat.{le_trans}
 use native.Mathlib.Numerals.{add-one}
 use borrow.Author.Tests.{eq-eqb, ne_eqb}
-use Rattle.limits.specs.Limits.{EFAULT, bufferRecords}
+use Rattle.limits.specs.Limits.{EFAULT, buffer_records}
 use Rattle.lists.specs.Lists.{find}
 use Rattle.lists.proofs.Bools.{split}
 use Rattle.lists.proofs.Loops.{find-le}
 use Rattle.types.specs.declared.Siginfo.{Siginfo}
 use Rattle.types.specs.declared.Reply.TheVariants.{Looked}
 use Rattle.rules.specs.Types.{Next, look}
-use Rattle.rules.specs.View.{queueOf, inQueue, theThread}
-use Rattle.rules.specs.Store.{recordsFor}
+use Rattle.rules.specs.View.{queue_of, in_queue, the_thread}
+use Rattle.rules.specs.Store.{records_for}
 use Rattle.rules.specs.Taking.{next}
-use Rattle.rules.specs.Refusals.{esrch, isClear, noThreadLive, rows, refusalOf}
-use Rattle.rules.specs.Calls.{part_of, slot_of, lookPart, reply}
-use Rattle.queue.specs.Queue.{recordsOf}
-use Rattle.queue.proofs.Buffer.{length-recordsOf}
-use Rattle.sound.specs.Lent.{Lent, decoded, view_of, lengthsAre, WithThread}
+use Rattle.rules.specs.Refusals.{esrch, is_clear, no_thread_live, rows, refusal_of}
+use Rattle.rules.specs.Calls.{part_of, slot_of, look_part, reply}
+use Rattle.queue.specs.Queue.{records_of}
+use Rattle.queue.proofs.Buffer.{length-records_of}
+use Rattle.sound.specs.Lent.{Lent, decoded, view_of, lengths_are, WithThread}
 use Rattle.types.specs.declared.Next as declared
 use Rattle.types.specs.declared.Next.TheVariants as case
 use Rattle.types.specs.declared.Answer.TheVariants as said
 use Rattle.answers.specs.Answers.{next_of}
-use Rattle.answers.specs.Step.{refusalOn, rowsOn, stepOn}
+use Rattle.answers.specs.Step.{refusal_on, rows_on, step_on}
 use Rattle.answers.proofs.Told.{told-next}
 use Rattle.answers.proofs.Endings.{answer-of, rows-given, accepted-long, accepted-rules, answer-after, refused-ends}
 use Rattle.answers.proofs.Rows.{live-thread}
-use Rattle.looking.specs.Looks.{slotNumber, lookSlot}
+use Rattle.looking.specs.Looks.{slot_number, look_slot}
 
 -- ---- what a look gives
 
 module _ (t : ℕ) (l : Lent) where
-  refused-slot : (refusalOn (look t) l ≡ 0 → ⊥) → lookSlot t l ≡ 0
-  unfolding lookSlot lookPart slotNumber refusalOn
+  refused-slot : (refusal_on (look t) l ≡ 0 → ⊥) → look_slot t l ≡ 0
+  unfolding look_slot look_part slot_number refusal_on
   refused-slot n =
-      split (lengthsAre l)
+      split (lengths_are l)
       (λ a. rw (
         a,
-        ne_eqb (refusalOf (decoded l) (look t)) 0
-            (λ z. n (ap (λ (b : Bool). cond b (refusalOf (decoded l) (look t)) EFAULT) a ∙ z)),
+        ne_eqb (refusal_of (decoded l) (look t)) 0
+            (λ z. n (ap (λ (b : Bool). cond b (refusal_of (decoded l) (look t)) EFAULT) a ∙ z)),
       )) (λ a. rw a)
 
-  accepted-slot : refusalOn (look t) l ≡ 0
-      → lookSlot t l ≡ slotNumber (part_of (decoded l) (next (view_of l) (theThread (view_of l) t)))
-  unfolding lookSlot lookPart
+  accepted-slot : refusal_on (look t) l ≡ 0
+      → look_slot t l ≡ slot_number (part_of (decoded l) (next (view_of l) (the_thread (view_of l) t)))
+  unfolding look_slot look_part
   accepted-slot e =
-      rw (accepted-long (look t) l e, eq-eqb (refusalOf (decoded l) (look t)) 0 (accepted-rules (look t) l e))
+      rw (accepted-long (look t) l e, eq-eqb (refusal_of (decoded l) (look t)) 0 (accepted-rules (look t) l e))
 
 -- a place that code found in a buffer
-pub found-small : (b : List ℕ) (p : Siginfo → Bool) (k : ℕ) → k ≡ find p (recordsOf b) → k ≤ bufferRecords
-found-small b p k g = rw g (le_trans (find-le p (recordsOf b)) (length-recordsOf b))
+pub found-small : (b : List ℕ) (p : Siginfo → Bool) (k : ℕ) → k ≡ find p (records_of b) → k ≤ buffer_records
+found-small b p k g = rw g (le_trans (find-le p (records_of b)) (length-records_of b))
 
-module _ (l : Lent) (t n : ℕ) (e : n ≡ rowsOn (esrch (noThreadLive (view_of l) t) ∷ []) l) where
-  look-refusal : n ≡ refusalOn (look t) l
-  unfolding isClear rows
+module _ (l : Lent) (t n : ℕ) (e : n ≡ rows_on (esrch (no_thread_live (view_of l) t) ∷ []) l) where
+  look-refusal : n ≡ refusal_on (look t) l
+  unfolding is_clear rows
   look-refusal = e ∙ sym (rows-given (look t) l refl)
 
-  pub look-refused : (n ≡ 0 → ⊥) → said.Refused n ≡ (stepOn (look t) l).1
+  pub look-refused : (n ≡ 0 → ⊥) → said.Refused n ≡ (step_on (look t) l).1
   look-refused z = answer-of (refused-ends (look t) l n look-refusal z)
 
-  pub slot-refused : (n ≡ 0 → ⊥) → 0 ≡ lookSlot t l
+  pub slot-refused : (n ≡ 0 → ⊥) → 0 ≡ look_slot t l
   slot-refused z = sym (refused-slot t l (λ y. z (look-refusal ∙ y)))
 
   module _ (z : n ≡ 0) where
@@ -70,31 +70,31 @@ module _ (l : Lent) (t n : ℕ) (e : n ≡ rowsOn (esrch (noThreadLive (view_of 
     look-with = live-thread l t n e z
 
     -- what is next, as it was found
-    module _ (r : declared.Next) (f : next_of r ≡ next (view_of l) (theThread (view_of l) t)) where
-      pub look-answered : said.Accepted (Looked r) ≡ (stepOn (look t) l).1
+    module _ (r : declared.Next) (f : next_of r ≡ next (view_of l) (the_thread (view_of l) t)) where
+      pub look-answered : said.Accepted (Looked r) ≡ (step_on (look t) l).1
       unfolding reply
       look-answered = answer-after (look t) l (sym look-refusal ∙ z) (Looked r) (ap Looked (told-next r f))
 
-      slot-of-next : slotNumber (part_of (decoded l) (next_of r)) ≡ lookSlot t l
+      slot-of-next : slot_number (part_of (decoded l) (next_of r)) ≡ look_slot t l
       slot-of-next =
-          ap (λ (x : Next). slotNumber (part_of (decoded l) x)) f ∙ sym (accepted-slot t l (sym look-refusal ∙ z))
+          ap (λ (x : Next). slot_number (part_of (decoded l) x)) f ∙ sym (accepted-slot t l (sym look-refusal ∙ z))
 
-      pub slot-nothing : r ≡ case.Nothing → 0 ≡ lookSlot t l
-      unfolding next_of part_of slotNumber
+      pub slot-nothing : r ≡ case.Nothing → 0 ≡ look_slot t l
+      unfolding next_of part_of slot_number
       slot-nothing h = rw h at slot-of-next
 
-      pub slot-mark : (p q s : ℕ) → r ≡ case.Mark p q s → 0 ≡ lookSlot t l
-      unfolding next_of part_of slotNumber
+      pub slot-mark : (p q s : ℕ) → r ≡ case.Mark p q s → 0 ≡ look_slot t l
+      unfolding next_of part_of slot_number
       slot-mark p q s h = rw h at slot-of-next
 
       -- the place in the buffer that has the queue
       module _ (x : Siginfo) (h : r ≡ case.Record x) (k : ℕ) where
-        pub slot-shared : x.thread ≡ 0 → k ≡ find (inQueue (queueOf x) x.signal) (recordsOf l.processBuffer)
-            → bufferRecords + k + 1 ≡ lookSlot t l
-        unfolding next_of part_of slot_of slotNumber recordsFor recordsOf decoded
+        pub slot-shared : x.thread ≡ 0 → k ≡ find (in_queue (queue_of x) x.signal) (records_of l.process_buffer)
+            → buffer_records + k + 1 ≡ look_slot t l
+        unfolding next_of part_of slot_of slot_number records_for records_of decoded
         slot-shared y g = rw (g, add-one) (rw (h, eq-eqb x.thread 0 y) at slot-of-next)
 
-        pub slot-own : (x.thread ≡ 0 → ⊥) → k ≡ find (inQueue (queueOf x) x.signal) (recordsOf l.threadBuffer)
-            → k + 1 ≡ lookSlot t l
-        unfolding next_of part_of slot_of slotNumber recordsFor recordsOf decoded
+        pub slot-own : (x.thread ≡ 0 → ⊥) → k ≡ find (in_queue (queue_of x) x.signal) (records_of l.thread_buffer)
+            → k + 1 ≡ look_slot t l
+        unfolding next_of part_of slot_of slot_number records_for records_of decoded
         slot-own y g = rw (g, add-one) (rw (h, ne_eqb x.thread 0 y) at slot-of-next)

@@ -1,15 +1,15 @@
 // A look at the next signal of a thread, and who can take one.
 ghost use Rattle.std.specs.Prelude.{◌≡◌, true, length, get_or, ◌<◌};
-ghost use Rattle.limits.specs.Limits.{threadPlaces, bufferRecords, bufferBytes, recordBytes};
+ghost use Rattle.limits.specs.Limits.{thread_places, buffer_records, buffer_bytes, record_bytes};
 ghost use Rattle.lists.specs.Lists.{find};
 ghost use Rattle.lists.specs.Rows.{row};
 ghost use Rattle.rules.specs.Types as call;
-ghost use Rattle.rules.specs.Types.{noThread};
-ghost use Rattle.rules.specs.Taking.{canTakeSome};
-ghost use Rattle.tables.specs.Tables.{heldThreads};
-ghost use Rattle.sound.specs.Lent.{view_of, soundTables, given, before};
-ghost use Rattle.answers.specs.Step.{stepOn};
-ghost use Rattle.looking.specs.Looks.{lookSlot, lookBytes};
+ghost use Rattle.rules.specs.Types.{no_thread};
+ghost use Rattle.rules.specs.Taking.{can_take_some};
+ghost use Rattle.tables.specs.Tables.{held_threads};
+ghost use Rattle.sound.specs.Lent.{view_of, sound_tables, given, before};
+ghost use Rattle.answers.specs.Step.{step_on};
+ghost use Rattle.looking.specs.Looks.{look_slot, look_bytes};
 
 use limits::{BUFFER_RECORDS, RECORD_BYTES, THREAD_ID, THREAD_PLACES, THREAD_PROCESS};
 use types::{Answer, Next, Reply};
@@ -18,8 +18,8 @@ use types::{Answer, Next, Reply};
 
 // The bytes of a slot.
 fn slot_of(b: &[u8], k: usize) -> &[u8]
-    requires { (length b.now ≡ bufferBytes) × (k < bufferRecords) }
-    ensures { result.now ≡ row recordBytes b.now k }
+    requires { (length b.now ≡ buffer_bytes) × (k < buffer_records) }
+    ensures { result.now ≡ row record_bytes b.now k }
 {
     let from = k * RECORD_BYTES;
     let to = from + RECORD_BYTES;
@@ -29,7 +29,7 @@ fn slot_of(b: &[u8], k: usize) -> &[u8]
 // The slot of the record that a thread takes next, by number: those of the thread buffer from 1 on,
 // then those of the process buffer; 0 for a mark, for nothing, and where the look is refused.
 pub fn look_slot(ps: &[u64], ts: &[u64], tb: &[u8], pb: &[u8], thread: u32) -> usize
-    ensures { result ≡ lookSlot thread (before ps ts tb pb) }
+    ensures { result ≡ look_slot thread (before ps ts tb pb) }
 {
     if view::thread_refusal(ps, ts, tb, pb, thread) != 0 {
         return 0;
@@ -49,7 +49,7 @@ pub fn look_slot(ps: &[u64], ts: &[u64], tb: &[u8], pb: &[u8], thread: u32) -> u
 // The 32 bytes of the record that a thread takes next, in the buffer that holds it;
 // an empty part for a mark, for nothing, and where the look is refused.
 pub fn look_part<'a>(ps: &[u64], ts: &[u64], tb: &'a [u8], pb: &'a [u8], thread: u32) -> &'a [u8]
-    ensures { result.now ≡ lookBytes thread (before ps ts tb pb) }
+    ensures { result.now ≡ look_bytes thread (before ps ts tb pb) }
 {
     let n = look_slot(ps, ts, tb, pb, thread);
     if n == 0 {
@@ -63,7 +63,7 @@ pub fn look_part<'a>(ps: &[u64], ts: &[u64], tb: &'a [u8], pb: &'a [u8], thread:
 
 // What the look found, or its errno.
 pub fn look(ps: &[u64], ts: &[u64], tb: &[u8], pb: &[u8], thread: u32) -> Answer
-    ensures { result ≡ (stepOn (call.look thread) (before ps ts tb pb)).1 }
+    ensures { result ≡ (step_on (call.look thread) (before ps ts tb pb)).1 }
 {
     let n = view::thread_refusal(ps, ts, tb, pb, thread);
     if n != 0 {
@@ -76,10 +76,10 @@ pub fn look(ps: &[u64], ts: &[u64], tb: &[u8], pb: &[u8], thread: u32) -> Answer
 
 // Is the thread in a place of the process, and can it take something?
 fn can_take(ps: &[u64], ts: &[u64], tb: &[u8], pb: &[u8], process: u32, place: usize) -> bool
-    requires pb_value { soundTables (given ps ts tb pb) ≡ true }
-    requires place_lt_thread_places { place < threadPlaces }
-    ensures { result ≡ canTakeSome (view_of (before ps ts tb pb)) process
-        (get_or (heldThreads ts.now) place noThread) }
+    requires pb_value { sound_tables (given ps ts tb pb) ≡ true }
+    requires place_lt_thread_places { place < thread_places }
+    ensures { result ≡ can_take_some (view_of (before ps ts tb pb)) process
+        (get_or (held_threads ts.now) place no_thread) }
 {
     if process == 0 {
         return false;
@@ -93,8 +93,8 @@ fn can_take(ps: &[u64], ts: &[u64], tb: &[u8], pb: &[u8], process: u32, place: u
 
 // The lowest place whose thread can, or the number of places.
 fn taker_place(ps: &[u64], ts: &[u64], tb: &[u8], pb: &[u8], process: u32) -> usize
-    requires { soundTables (given ps ts tb pb) ≡ true }
-    ensures { result ≡ find (canTakeSome (view_of (before ps ts tb pb)) process) (heldThreads ts.now) }
+    requires { sound_tables (given ps ts tb pb) ≡ true }
+    ensures { result ≡ find (can_take_some (view_of (before ps ts tb pb)) process) (held_threads ts.now) }
 {
     let mut i = 0;
     while i < THREAD_PLACES {
@@ -108,7 +108,7 @@ fn taker_place(ps: &[u64], ts: &[u64], tb: &[u8], pb: &[u8], process: u32) -> us
 
 // Names the live thread of a process in the lowest place that can take something, or says that none can.
 pub fn who(ps: &[u64], ts: &[u64], tb: &[u8], pb: &[u8], process: u32) -> Answer
-    ensures { result ≡ (stepOn (call.who process) (before ps ts tb pb)).1 }
+    ensures { result ≡ (step_on (call.who process) (before ps ts tb pb)).1 }
 {
     let n = view::process_refusal(ps, ts, tb, pb, process);
     if n != 0 {

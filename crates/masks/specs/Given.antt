@@ -4,6 +4,6 @@ use Rattle.sigset.specs.declared.SigSet.{SigSet}
 use Rattle.masks.specs.declared.GivenSet.{GivenSet}
 use Rattle.masks.specs.declared.GivenSet.TheVariants as given
 
-unfoldable pub newSet : GivenSet → Option SigSet
-newSet given.NoSet = none
-newSet (given.Set s) = some s
+unfoldable pub new_set : GivenSet → Option SigSet
+new_set given.NoSet = none
+new_set (given.Set s) = some s

@@ -1,12 +1,12 @@
 // Masks and what they block: sigmask, sigreturn, sigpending.
 ghost use Rattle.std.specs.Prelude.{◌≡◌};
 ghost use Rattle.rules.specs.Types as call;
-ghost use Rattle.rules.specs.View.{theThread};
-ghost use Rattle.rules.specs.Actions.{newMask, blockedPending};
-ghost use Rattle.rules.specs.Refusals.{badWay};
+ghost use Rattle.rules.specs.View.{the_thread};
+ghost use Rattle.rules.specs.Actions.{new_mask, blocked_pending};
+ghost use Rattle.rules.specs.Refusals.{bad_way};
 ghost use Rattle.sound.specs.Lent.{view_of, given, before, WithThread};
-ghost use Rattle.answers.specs.Step.{refusalOn, stepOn, stepped};
-ghost use Rattle.masks.specs.Given.{newSet};
+ghost use Rattle.answers.specs.Step.{refusal_on, step_on, stepped};
+ghost use Rattle.masks.specs.Given.{new_set};
 
 use limits::{EFAULT, EINVAL, ESRCH, SIG_BLOCK, SIG_SETMASK, SIG_UNBLOCK};
 use sigset::SigSet;
@@ -22,7 +22,7 @@ pub enum GivenSet {
 // ---- masks
 
 fn is_bad_way(way: u32, set: GivenSet) -> bool
-    ensures { result ≡ badWay way (newSet set) }
+    ensures { result ≡ bad_way way (new_set set) }
 {
     match set {
         GivenSet::NoSet => false,
@@ -32,7 +32,7 @@ fn is_bad_way(way: u32, set: GivenSet) -> bool
 
 // Way 0 adds the set, 1 removes its members, 2 replaces the mask; KILL and STOP are left out.
 fn mask_after(old: SigSet, way: u32, set: SigSet) -> SigSet
-    ensures { result ≡ newMask old way set }
+    ensures { result ≡ new_mask old way set }
 {
     if way == SIG_BLOCK {
         return SigSet::maskable(SigSet::union(old, set));
@@ -52,7 +52,7 @@ fn mask_refusal(
     way: u32,
     set: GivenSet,
 ) -> u32
-    ensures { result ≡ refusalOn (call.sigmask thread way (newSet set)) (before ps ts tb pb) }
+    ensures { result ≡ refusal_on (call.sigmask thread way (new_set set)) (before ps ts tb pb) }
 {
     if !sound::sound(ps, ts, tb, pb) {
         return EFAULT;
@@ -76,7 +76,7 @@ pub fn sigmask(
     way: u32,
     set: GivenSet,
 ) -> Answer
-    ensures { stepped (call.sigmask thread way (newSet set)) result ps ts tb pb }
+    ensures { stepped (call.sigmask thread way (new_set set)) result ps ts tb pb }
 {
     let n = mask_refusal(ps, ts, tb, pb, thread, way, set);
     if n != 0 {
@@ -111,8 +111,8 @@ pub fn sigreturn(
 // The signals that a thread blocks and that are pending for it or for its process.
 fn blocked(ps: &[u64], ts: &[u64], tb: &[u8], pb: &[u8], thread: u32) -> SigSet
     requires { WithThread thread (given ps ts tb pb) }
-    ensures { result ≡ blockedPending (view_of (before ps ts tb pb))
-        (theThread (view_of (before ps ts tb pb)) thread) }
+    ensures { result ≡ blocked_pending (view_of (before ps ts tb pb))
+        (the_thread (view_of (before ps ts tb pb)) thread) }
 {
     let process = view::process_of(ts, thread);
     let own = view::pending_of(ps, ts, tb, pb, process, thread);
@@ -121,7 +121,7 @@ fn blocked(ps: &[u64], ts: &[u64], tb: &[u8], pb: &[u8], thread: u32) -> SigSet
 }
 
 pub fn sigpending(ps: &[u64], ts: &[u64], tb: &[u8], pb: &[u8], thread: u32) -> Answer
-    ensures { result ≡ (stepOn (call.sigpending thread) (before ps ts tb pb)).1 }
+    ensures { result ≡ (step_on (call.sigpending thread) (before ps ts tb pb)).1 }
 {
     let n = view::thread_refusal(ps, ts, tb, pb, thread);
     if n != 0 {

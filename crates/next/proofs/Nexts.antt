@@ -8,7 +8,7 @@ use native.Mathlib.Omega.{arith}
 use lib.Dec.{eqb}
 use lib.ListN.{length, get_or}
 use borrow.Author.Tests.{eqb-true, ne_eqb, eq-eqb}
-use Rattle.limits.specs.Limits.{recordBytes}
+use Rattle.limits.specs.Limits.{record_bytes}
 use Rattle.lists.specs.Lists.{find, first}
 use Rattle.lists.specs.Rows.{row}
 use Rattle.lists.proofs.Bools.{and-fst, and-snd, cond-true, cond-false}
@@ -16,71 +16,71 @@ use Rattle.lists.proofs.Lists.{first-none}
 use Rattle.lists.proofs.Loops.{any-find, find_at, first-find, find-le}
 use Rattle.lists.proofs.Finds.{absent-any}
 use Rattle.sigset.specs.declared.SigSet.{SigSet}
-use Rattle.sigset.specs.Set.{Signal, has, setOf}
-use Rattle.sigset.proofs.Laws.{has-set, lowestOf-found}
+use Rattle.sigset.specs.Set.{Signal, has, set_of}
+use Rattle.sigset.proofs.Laws.{has-set, lowest_of-found}
 use Rattle.types.specs.declared.Siginfo.{Siginfo}
-use Rattle.types.specs.Values.{noSiginfo}
-use Rattle.siginfo.specs.Bytes.{siginfoOf}
-use Rattle.rules.specs.Types.{Thread, Queue, Next, noNext, nextRecord}
-use Rattle.rules.specs.View.{View, processQueue, threadQueue, targetQueue, queueOf, sameQueue, inQueue, liveThread}
-use Rattle.rules.specs.View.{theThread, pendingIn}
-use Rattle.rules.specs.Store.{used, recordsFor, view}
-use Rattle.rules.specs.Taking.{canTakeSignal, nextSignal, nextQueue, nextIn, next}
+use Rattle.types.specs.Values.{no_siginfo}
+use Rattle.siginfo.specs.Bytes.{siginfo_of}
+use Rattle.rules.specs.Types.{Thread, Queue, Next, no_next, next_record}
+use Rattle.rules.specs.View.{View, process_queue, thread_queue, target_queue, queue_of, same_queue, in_queue, live_thread}
+use Rattle.rules.specs.View.{the_thread, pending_in}
+use Rattle.rules.specs.Store.{used, records_for, view}
+use Rattle.rules.specs.Taking.{can_take_signal, next_signal, next_queue, next_in, next}
 use Rattle.rules.proofs.Marks.{queue-same, thread-named}
-use Rattle.queue.specs.Queue.{slots_of, recordsOf}
+use Rattle.queue.specs.Queue.{slots_of, records_of}
 use Rattle.queue.proofs.Buffer.{record-read}
 use Rattle.sound.specs.Lent.{Lent, decoded, view_of}
 use Rattle.types.specs.declared.Next as declared
 use Rattle.types.specs.declared.Next.TheVariants as case
 use Rattle.answers.specs.Answers.{next_of}
-use Rattle.view.specs.Named.{threadNamed}
-use Rattle.next.specs.Nexts.{isNextIn}
+use Rattle.view.specs.Named.{thread_named}
+use Rattle.next.specs.Nexts.{is_next_in}
 use Rattle.view.proofs.Live.{own_is, shared-is}
 
 -- ---- in one queue
 
 -- a record of the queue and the signal names both
-pub record-names : (q : Queue) (s : ℕ) (r : Siginfo) → inQueue q s r ≡ true
-    → nextRecord (queueOf r) r.signal r ≡ nextRecord q s r
-unfolding inQueue
+pub record-names : (q : Queue) (s : ℕ) (r : Siginfo) → in_queue q s r ≡ true
+    → next_record (queue_of r) r.signal r ≡ next_record q s r
+unfolding in_queue
 record-names q s r e =
-    ap₂ (λ (a : Queue) (n : ℕ). nextRecord a n r)
-    (sym (queue-same q (queueOf r) (and-fst (sameQueue q (queueOf r)) (eqb r.signal s) e)))
-    (eqb-true r.signal s (and-snd (sameQueue q (queueOf r)) (eqb r.signal s) e))
+    ap₂ (λ (a : Queue) (n : ℕ). next_record a n r)
+    (sym (queue-same q (queue_of r) (and-fst (same_queue q (queue_of r)) (eqb r.signal s) e)))
+    (eqb-true r.signal s (and-snd (same_queue q (queue_of r)) (eqb r.signal s) e))
 
-module _ (b : List ℕ) (q : Queue) (s k n : ℕ) (e : k ≡ find (inQueue q s) (recordsOf b))
-    (m : n ≡ length (recordsOf b)) where
-  pub record-next : k < n → (r : Siginfo) → r ≡ siginfoOf (row recordBytes b k)
-      → isNextIn q s (recordsOf b) (case.Record r)
-  unfolding next_of nextIn
+module _ (b : List ℕ) (q : Queue) (s k n : ℕ) (e : k ≡ find (in_queue q s) (records_of b))
+    (m : n ≡ length (records_of b)) where
+  pub record-next : k < n → (r : Siginfo) → r ≡ siginfo_of (row record_bytes b k)
+      → is_next_in q s (records_of b) (case.Record r)
+  unfolding next_of next_in
   record-next h r f v =
-      let i : find (inQueue q s) (recordsOf b) < length (recordsOf b) = omega (arith, e, m) in
-      let at : get_or (recordsOf b) (find (inQueue q s) (recordsOf b)) noSiginfo ≡ r =
-      ap (λ (j : ℕ). get_or (recordsOf b) j noSiginfo) (sym e) ∙ record-read b k noSiginfo (omega (arith, m)) ∙ sym f in
-      record-names q s r (ap (inQueue q s) (sym at) ∙ find_at (inQueue q s) noSiginfo (recordsOf b) i)
-      ∙ sym (ap (nextIn v q s)
-      (first-find (inQueue q s) noSiginfo (recordsOf b) (any-find (inQueue q s) noSiginfo (recordsOf b) i)
+      let i : find (in_queue q s) (records_of b) < length (records_of b) = omega (arith, e, m) in
+      let at : get_or (records_of b) (find (in_queue q s) (records_of b)) no_siginfo ≡ r =
+      ap (λ (j : ℕ). get_or (records_of b) j no_siginfo) (sym e) ∙ record-read b k no_siginfo (omega (arith, m)) ∙ sym f in
+      record-names q s r (ap (in_queue q s) (sym at) ∙ find_at (in_queue q s) no_siginfo (records_of b) i)
+      ∙ sym (ap (next_in v q s)
+      (first-find (in_queue q s) no_siginfo (records_of b) (any-find (in_queue q s) no_siginfo (records_of b) i)
       ∙ ap some at))
 
-  pub mark-next : n ≤ k → isNextIn q s (recordsOf b) (case.Mark q.process q.thread s)
-  unfolding next_of nextIn
+  pub mark-next : n ≤ k → is_next_in q s (records_of b) (case.Mark q.process q.thread s)
+  unfolding next_of next_in
   mark-next h v =
-      let i : k ≡ n = omega (arith, e, m, find-le (inQueue q s) (recordsOf b)) in
-      sym (ap (nextIn v q s)
-      (first-none (inQueue q s) (recordsOf b) (absent-any (inQueue q s) noSiginfo (recordsOf b) n k (sym m) e i)))
+      let i : k ≡ n = omega (arith, e, m, find-le (in_queue q s) (records_of b)) in
+      sym (ap (next_in v q s)
+      (first-none (in_queue q s) (records_of b) (absent-any (in_queue q s) no_siginfo (records_of b) n k (sym m) e i)))
 
 -- the buffer that has the queue
 module _ (l : Lent) (p : ℕ) where
   pub oldest-own : (t s : ℕ) → eqb t 0 ≡ false
-      → first (inQueue (targetQueue p t) s) (recordsOf l.threadBuffer) ≡ (view_of l).oldest (targetQueue p t) s
-  unfolding view decoded recordsFor recordsOf
+      → first (in_queue (target_queue p t) s) (records_of l.thread_buffer) ≡ (view_of l).oldest (target_queue p t) s
+  unfolding view decoded records_for records_of
   oldest-own t s n =
-      ap (λ (x : List Siginfo). first (inQueue (targetQueue p t) s) (used x))
-      (sym (cond-false (slots_of l.processBuffer) (slots_of l.threadBuffer) n))
+      ap (λ (x : List Siginfo). first (in_queue (target_queue p t) s) (used x))
+      (sym (cond-false (slots_of l.process_buffer) (slots_of l.thread_buffer) n))
 
   pub oldest-shared : (s : ℕ)
-      → first (inQueue (targetQueue p 0) s) (recordsOf l.processBuffer) ≡ (view_of l).oldest (targetQueue p 0) s
-  unfolding view decoded recordsFor recordsOf
+      → first (in_queue (target_queue p 0) s) (records_of l.process_buffer) ≡ (view_of l).oldest (target_queue p 0) s
+  unfolding view decoded records_for records_of
   oldest-shared s = refl
 
 -- ---- of a thread
@@ -88,58 +88,58 @@ module _ (l : Lent) (p : ℕ) where
 -- where something is
 abbrev in-queue : View → Thread → Next
 in-queue v th =
-    nextIn v (nextQueue v th (nextSignal v th)) (nextSignal v th)
-    (v.oldest (nextQueue v th (nextSignal v th)) (nextSignal v th))
+    next_in v (next_queue v th (next_signal v th)) (next_signal v th)
+    (v.oldest (next_queue v th (next_signal v th)) (next_signal v th))
 
-module _ (v : View) (th : Thread) (s : ℕ) (e : s ≡ nextSignal v th) where
+module _ (v : View) (th : Thread) (s : ℕ) (e : s ≡ next_signal v th) where
   pub nothing-next : s ≡ 0 → next_of case.Nothing ≡ next v th
   unfolding next_of next
-  nothing-next z = rw (eq-eqb (nextSignal v th) 0 (sym e ∙ z))
+  nothing-next z = rw (eq-eqb (next_signal v th) 0 (sym e ∙ z))
 
   module _ (n : (s ≡ 0 → ⊥)) where
     pub next-is-signal : Signal s
-    unfolding nextSignal
-    next-is-signal = subst Signal (sym e) (lowestOf-found (canTakeSignal v th) (λ z. n (e ∙ z))).0
+    unfolding next_signal
+    next-is-signal = subst Signal (sym e) (lowest_of-found (can_take_signal v th) (λ z. n (e ∙ z))).0
 
-    pub next-from : (q : Queue) → nextQueue v th s ≡ q → nextIn v q s (v.oldest q s) ≡ next v th
+    pub next-from : (q : Queue) → next_queue v th s ≡ q → next_in v q s (v.oldest q s) ≡ next v th
     unfolding next
     next-from q h =
-        ap (λ (a : Queue). nextIn v a s (v.oldest a s)) (sym h)
-        ∙ ap (λ (x : ℕ). nextIn v (nextQueue v th x) x (v.oldest (nextQueue v th x) x)) e
-        ∙ sym (cond-false noNext (in-queue v th) (ne_eqb (nextSignal v th) 0 (λ z. n (e ∙ z))))
+        ap (λ (a : Queue). next_in v a s (v.oldest a s)) (sym h)
+        ∙ ap (λ (x : ℕ). next_in v (next_queue v th x) x (v.oldest (next_queue v th x) x)) e
+        ∙ sym (cond-false no_next (in-queue v th) (ne_eqb (next_signal v th) 0 (λ z. n (e ∙ z))))
 
-module _ (l : Lent) (t p s : ℕ) (live : liveThread (view_of l) t ≡ true) (o : p ≡ (threadNamed l.threads t).process)
-    (e : s ≡ nextSignal (view_of l) (theThread (view_of l) t)) (n : (s ≡ 0 → ⊥)) (r : declared.Next) where
-  module _ (own : SigSet) (b : Bool) (h : own ≡ setOf (pendingIn (view_of l) (targetQueue p t)))
+module _ (l : Lent) (t p s : ℕ) (live : live_thread (view_of l) t ≡ true) (o : p ≡ (thread_named l.threads t).process)
+    (e : s ≡ next_signal (view_of l) (the_thread (view_of l) t)) (n : (s ≡ 0 → ⊥)) (r : declared.Next) where
+  module _ (own : SigSet) (b : Bool) (h : own ≡ set_of (pending_in (view_of l) (target_queue p t)))
       (k : b ≡ has own s) where
-    pends : pendingIn (view_of l) (threadQueue (theThread (view_of l) t)) s ≡ b
+    pends : pending_in (view_of l) (thread_queue (the_thread (view_of l) t)) s ≡ b
     pends =
-        ap (λ (q : Queue). pendingIn (view_of l) q s) (own_is l t p o live)
+        ap (λ (q : Queue). pending_in (view_of l) q s) (own_is l t p o live)
         ∙ sym
         (k ∙ ap (λ (x : SigSet). has x s) h
-        ∙ has-set (pendingIn (view_of l) (targetQueue p t)) s
-        (next-is-signal (view_of l) (theThread (view_of l) t) s e n))
+        ∙ has-set (pending_in (view_of l) (target_queue p t)) s
+        (next-is-signal (view_of l) (the_thread (view_of l) t) s e n))
 
-    queue-own : b ≡ true → nextQueue (view_of l) (theThread (view_of l) t) s ≡ targetQueue p t
-    unfolding nextQueue
+    queue-own : b ≡ true → next_queue (view_of l) (the_thread (view_of l) t) s ≡ target_queue p t
+    unfolding next_queue
     queue-own y =
-        cond-true (threadQueue (theThread (view_of l) t)) (processQueue (theThread (view_of l) t).process) (pends ∙ y)
+        cond-true (thread_queue (the_thread (view_of l) t)) (process_queue (the_thread (view_of l) t).process) (pends ∙ y)
         ∙ own_is l t p o live
 
-    queue-shared : b ≡ false → nextQueue (view_of l) (theThread (view_of l) t) s ≡ targetQueue p 0
-    unfolding nextQueue
+    queue-shared : b ≡ false → next_queue (view_of l) (the_thread (view_of l) t) s ≡ target_queue p 0
+    unfolding next_queue
     queue-shared y =
-        cond-false (threadQueue (theThread (view_of l) t)) (processQueue (theThread (view_of l) t).process) (pends ∙ y)
+        cond-false (thread_queue (the_thread (view_of l) t)) (process_queue (the_thread (view_of l) t).process) (pends ∙ y)
         ∙ shared-is l t p o
 
-    pub own-next : b ≡ true → isNextIn (targetQueue p t) s (recordsOf l.threadBuffer) r
-        → next_of r ≡ next (view_of l) (theThread (view_of l) t)
+    pub own-next : b ≡ true → is_next_in (target_queue p t) s (records_of l.thread_buffer) r
+        → next_of r ≡ next (view_of l) (the_thread (view_of l) t)
     own-next y f =
-        f (view_of l) ∙ ap (nextIn (view_of l) (targetQueue p t) s) (oldest-own l p t s (thread-named (decoded l) t live))
-        ∙ next-from (view_of l) (theThread (view_of l) t) s e n (targetQueue p t) (queue-own y)
+        f (view_of l) ∙ ap (next_in (view_of l) (target_queue p t) s) (oldest-own l p t s (thread-named (decoded l) t live))
+        ∙ next-from (view_of l) (the_thread (view_of l) t) s e n (target_queue p t) (queue-own y)
 
-    pub shared-next : b ≡ false → isNextIn (targetQueue p 0) s (recordsOf l.processBuffer) r
-        → next_of r ≡ next (view_of l) (theThread (view_of l) t)
+    pub shared-next : b ≡ false → is_next_in (target_queue p 0) s (records_of l.process_buffer) r
+        → next_of r ≡ next (view_of l) (the_thread (view_of l) t)
     shared-next y f =
-        f (view_of l) ∙ ap (nextIn (view_of l) (targetQueue p 0) s) (oldest-shared l p s)
-        ∙ next-from (view_of l) (theThread (view_of l) t) s e n (targetQueue p 0) (queue-shared y)
+        f (view_of l) ∙ ap (next_in (view_of l) (target_queue p 0) s) (oldest-shared l p s)
+        ∙ next-from (view_of l) (the_thread (view_of l) t) s e n (target_queue p 0) (queue-shared y)

@@ -1,13 +1,13 @@
 // What a thread takes next.
 ghost use Rattle.std.specs.Prelude.{◌≡◌, length};
-ghost use Rattle.limits.specs.Limits.{bufferBytes};
-ghost use Rattle.rules.specs.View.{targetQueue, theThread};
-ghost use Rattle.rules.specs.Taking.{nextSignal};
-ghost use Rattle.rules.specs.Taking.{next as nextFor};
-ghost use Rattle.queue.specs.Queue.{recordsOf};
+ghost use Rattle.limits.specs.Limits.{buffer_bytes};
+ghost use Rattle.rules.specs.View.{target_queue, the_thread};
+ghost use Rattle.rules.specs.Taking.{next_signal};
+ghost use Rattle.rules.specs.Taking.{next as next_for};
+ghost use Rattle.queue.specs.Queue.{records_of};
 ghost use Rattle.sound.specs.Lent.{view_of, given, before, WithThread};
 ghost use Rattle.answers.specs.Answers.{next_of};
-ghost use Rattle.next.specs.Nexts.{isNextIn};
+ghost use Rattle.next.specs.Nexts.{is_next_in};
 
 use sigset::SigSet;
 use types::Next;
@@ -15,7 +15,7 @@ use types::Next;
 // The lowest signal that a thread can take, or 0.
 pub fn next_signal(ps: &[u64], ts: &[u64], tb: &[u8], pb: &[u8], thread: u32) -> u32
     requires { WithThread thread (given ps ts tb pb) }
-    ensures { result ≡ nextSignal (view_of (before ps ts tb pb)) (theThread (view_of (before ps ts tb pb)) thread) }
+    ensures { result ≡ next_signal (view_of (before ps ts tb pb)) (the_thread (view_of (before ps ts tb pb)) thread) }
 {
     let process = view::process_of(ts, thread);
     if view::is_stopped(ps, process) {
@@ -28,8 +28,8 @@ pub fn next_signal(ps: &[u64], ts: &[u64], tb: &[u8], pb: &[u8], thread: u32) ->
 
 // The oldest record of a signal in a queue of the buffer, or else its mark.
 fn next_in(b: &[u8], process: u32, thread: u32, signal: u32) -> Next
-    requires { length b.now ≡ bufferBytes }
-    ensures { isNextIn (targetQueue process thread) signal (recordsOf b.now) result }
+    requires { length b.now ≡ buffer_bytes }
+    ensures { is_next_in (target_queue process thread) signal (records_of b.now) result }
 {
     let k = queue::first_of(b, process, thread, signal);
     if k < queue::used(b) {
@@ -42,7 +42,7 @@ fn next_in(b: &[u8], process: u32, thread: u32, signal: u32) -> Next
 pub fn next_of(ps: &[u64], ts: &[u64], tb: &[u8], pb: &[u8], thread: u32) -> Next
     requires { WithThread thread (given ps ts tb pb) }
     ensures { next_of result
-        ≡ nextFor (view_of (before ps ts tb pb)) (theThread (view_of (before ps ts tb pb)) thread) }
+        ≡ next_for (view_of (before ps ts tb pb)) (the_thread (view_of (before ps ts tb pb)) thread) }
 {
     let s = next_signal(ps, ts, tb, pb, thread);
     if s == 0 {

@@ -6,74 +6,74 @@ use mathlib.Core.List.{List}
 use lib.Dec.{eqb}
 use lib.ListN.{length, get_or, set}
 use borrow.Author.Tests.{eq-eqb, ne_eqb}
-use Rattle.limits.specs.Limits.{processPlaces, processWords, processTable}
-use Rattle.limits.specs.Limits.{processId as wordOfId}
+use Rattle.limits.specs.Limits.{process_places, process_words, process_table}
+use Rattle.limits.specs.Limits.{process_id as word_of_id}
 use Rattle.lists.specs.Lists.{all}
 use Rattle.lists.specs.Rows.{row}
 use Rattle.lists.proofs.Bools.{split, cond-true, cond-false}
-use Rattle.zeros.specs.Zeros.{isNought}
+use Rattle.zeros.specs.Zeros.{is_nought}
 use Rattle.rules.specs.Types.{Process, Thread}
-use Rattle.rules.specs.Store.{Place, freeProcess}
-use Rattle.rules.specs.Sound.{processId, zeroThread, killStopDefault, goodId, unmasked}
-use Rattle.tables.specs.Tables.{processesOf, processAt, headTo}
+use Rattle.rules.specs.Store.{Place, free_process}
+use Rattle.rules.specs.Sound.{process_id, zero_thread, kill_stop_default, good_id, unmasked}
+use Rattle.tables.specs.Tables.{processes_of, process_at, head_to}
 use Rattle.tables.proofs.Words.{process-row}
 use Rattle.sigset.specs.declared.SigSet.{SigSet}
-use Rattle.soundness.specs.Check.{headOk, actionOk, disjoint, ignoredBy, liveProcessOk, processOk, processOkAt}
-use Rattle.soundness.specs.Check.{liveThreadOk}
-use Rattle.places.specs.Notes.{notedAt, threadedBy}
+use Rattle.soundness.specs.Check.{head_ok, action_ok, disjoint, ignored_by, live_process_ok, process_ok, process_ok_at}
+use Rattle.soundness.specs.Check.{live_thread_ok}
+use Rattle.places.specs.Notes.{noted_at, threaded_by}
 
 -- ---- a live place: its tests, one after the other
 
-pub live-process : (place : ℕ → ℕ) (i : ℕ) (x : Place Process) {h f u a d : Bool} → h ≡ headOk x
-    → f ≡ eqb (place x.holds.id) i → u ≡ killStopDefault x → a ≡ all actionOk x.holds.actions
-    → d ≡ disjoint x.marks (ignoredBy x.holds)
-    → (h && (f && (u && (a && d)))) ≡ liveProcessOk place i x
-unfolding liveProcessOk
+pub live-process : (place : ℕ → ℕ) (i : ℕ) (x : Place Process) {h f u a d : Bool} → h ≡ head_ok x
+    → f ≡ eqb (place x.holds.id) i → u ≡ kill_stop_default x → a ≡ all action_ok x.holds.actions
+    → d ≡ disjoint x.marks (ignored_by x.holds)
+    → (h && (f && (u && (a && d)))) ≡ live_process_ok place i x
+unfolding live_process_ok
 live-process place i x eh ef eu ea ed = rw (eh, ef, eu, ea, ed)
 
 pub live-thread : (place : ℕ → ℕ) (ignores : SigSet) (i : ℕ) (x : Place Thread) {g m u f d : Bool}
-    → g ≡ goodId x.holds.id → m ≡ unmasked x.holds.mask → u ≡ unmasked x.marks
+    → g ≡ good_id x.holds.id → m ≡ unmasked x.holds.mask → u ≡ unmasked x.marks
     → f ≡ eqb (place x.holds.id) i → d ≡ disjoint x.marks ignores
-    → (g && (m && (u && (f && d)))) ≡ liveThreadOk place ignores i x
-unfolding liveThreadOk
+    → (g && (m && (u && (f && d)))) ≡ live_thread_ok place ignores i x
+unfolding live_thread_ok
 live-thread place ignores i x eg em eu ef ed = rw (eg, em, eu, ef, ed)
 
 -- ---- a thread place that is free
 
 pub free-thread-end : (x : Place Thread) {p m k : ℕ} → p ≡ x.holds.process → m ≡ x.holds.mask.0 → k ≡ x.marks.0
-    → (eqb p 0 && (eqb m 0 && eqb k 0)) ≡ zeroThread x
-unfolding zeroThread
+    → (eqb p 0 && (eqb m 0 && eqb k 0)) ≡ zero_thread x
+unfolding zero_thread
 free-thread-end x ep em ek = rw (ep, em, ek)
 
 -- ---- a process place by whether it is free
 
-module _ (find : ℕ → ℕ) (ws notes : List ℕ) (place w note : ℕ) (e : w ≡ get_or (headTo (processAt ws place)) wordOfId 0)
+module _ (find : ℕ → ℕ) (ws notes : List ℕ) (place w note : ℕ) (e : w ≡ get_or (head_to (process_at ws place)) word_of_id 0)
   where
-    its-id : w ≡ (processAt ws place).holds.id
-    unfolding headTo
+    its-id : w ≡ (process_at ws place).holds.id
+    unfolding head_to
     its-id = e
 
-    pub free-process : length ws ≡ processTable → place < processPlaces → w ≡ 0 → {z : Bool}
-        → z ≡ all isNought (row processWords ws place)
-        → (z ≡ processOkAt find (processesOf ws) place) × (notes ≡ notedAt processId notes place note (processAt ws
+    pub free-process : length ws ≡ process_table → place < process_places → w ≡ 0 → {z : Bool}
+        → z ≡ all is_nought (row process_words ws place)
+        → (z ≡ process_ok_at find (processes_of ws) place) × (notes ≡ noted_at process_id notes place note (process_at ws
         place))
-    unfolding processOkAt processOk notedAt
+    unfolding process_ok_at process_ok noted_at
     free-process long h k ez =
-        let free = eq-eqb (processAt ws place).holds.id 0 (sym its-id ∙ k) in (
-          ez ∙ ap (all isNought) (sym (process-row ws long place h)) ∙ sym (cond-true _ _ free),
+        let free = eq-eqb (process_at ws place).holds.id 0 (sym its-id ∙ k) in (
+          ez ∙ ap (all is_nought) (sym (process-row ws long place h)) ∙ sym (cond-true _ _ free),
           sym (cond-true _ _ free),
         )
 
-    pub live-process-at : (w ≡ 0 → ⊥) → {l : Bool} → l ≡ liveProcessOk find place (processAt ws place)
-        → (l ≡ processOkAt find (processesOf ws) place)
-        × (set notes place note ≡ notedAt processId notes place note (processAt ws place))
-    unfolding processOkAt processOk notedAt
+    pub live-process-at : (w ≡ 0 → ⊥) → {l : Bool} → l ≡ live_process_ok find place (process_at ws place)
+        → (l ≡ process_ok_at find (processes_of ws) place)
+        × (set notes place note ≡ noted_at process_id notes place note (process_at ws place))
+    unfolding process_ok_at process_ok noted_at
     live-process-at k el =
-        let live = ne_eqb (processAt ws place).holds.id 0 (λ z. k (its-id ∙ z)) in
+        let live = ne_eqb (process_at ws place).holds.id 0 (λ z. k (its-id ∙ z)) in
         (el ∙ sym (cond-false _ _ live), sym (cond-false _ _ live))
 
 -- a live process has a note that it has a thread
-pub threaded-end : (xs : List (Place Process)) (notes : List ℕ) (i w : ℕ) → w ≡ (get_or xs i freeProcess).holds.id
-    → (eqb w 0 || not (eqb (get_or notes i 0) 0)) ≡ threadedBy xs notes i
-unfolding threadedBy
+pub threaded-end : (xs : List (Place Process)) (notes : List ℕ) (i w : ℕ) → w ≡ (get_or xs i free_process).holds.id
+    → (eqb w 0 || not (eqb (get_or notes i 0) 0)) ≡ threaded_by xs notes i
+unfolding threaded_by
 threaded-end xs notes i w e = split (eqb w 0) (λ z. rw (← e, z)) (λ z. rw (← e, z))

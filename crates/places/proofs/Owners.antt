@@ -7,8 +7,8 @@ use native.Mathlib.Omega.{arith}
 use lib.Dec.{eqb}
 use lib.ListN.{get_or, set}
 use borrow.Author.Tests.{eq-eqb, ne_eqb}
-use Rattle.limits.specs.Limits.{processPlaces, threadProcess}
-use Rattle.limits.specs.Limits.{threadId as wordOfId}
+use Rattle.limits.specs.Limits.{process_places, thread_process}
+use Rattle.limits.specs.Limits.{thread_id as word_of_id}
 use Rattle.lists.specs.Lists.{any}
 use Rattle.lists.specs.Lists.{find as search}
 use Rattle.lists.proofs.Bools.{clash, and_left, cond-true, cond-false}
@@ -16,109 +16,109 @@ use Rattle.lists.proofs.Loops.{find-le}
 use Rattle.lists.proofs.Finds.{found-any, absent-any}
 use Rattle.hints.specs.Hints.{Hinted}
 use Rattle.sigset.specs.Set.{bits}
-use Rattle.rules.specs.Types.{Process, noProcess}
-use Rattle.rules.specs.View.{isProcess}
-use Rattle.rules.specs.Store.{freeProcess}
-use Rattle.rules.specs.Sound.{threadId, zeroThread}
+use Rattle.rules.specs.Types.{Process, no_process}
+use Rattle.rules.specs.View.{is_process}
+use Rattle.rules.specs.Store.{free_process}
+use Rattle.rules.specs.Sound.{thread_id, zero_thread}
 use Rattle.rules.proofs.Ids.{named_live}
-use Rattle.tables.specs.Tables.{processesOf, threadsOf, heldProcesses, processAt, threadAt, threadTo}
-use Rattle.tables.proofs.Words.{length-processesOf, length-heldProcesses}
+use Rattle.tables.specs.Tables.{processes_of, threads_of, held_processes, process_at, thread_at, thread_to}
+use Rattle.tables.proofs.Words.{length-processes_of, length-held_processes}
 use Rattle.tables.proofs.Places.{held_at}
-use Rattle.soundness.specs.Check.{onePlace, processBy, ignoredBy, ownerPlace, ownerOf, liveThreadOk, threadOk}
-use Rattle.soundness.specs.Check.{threadOkAt}
+use Rattle.soundness.specs.Check.{one_place, process_by, ignored_by, owner_place, owner_of, live_thread_ok, thread_ok}
+use Rattle.soundness.specs.Check.{thread_ok_at}
 use Rattle.soundness.proofs.Ids.{process-found, held_found}
-use Rattle.places.specs.Notes.{IgnoredNoted, notedAt}
+use Rattle.places.specs.Notes.{IgnoredNoted, noted_at}
 
 -- what the test leaves: its answer, and where it holds the notes of the place's owner
 abbrev pub Left : (find : ℕ → ℕ) (ws vs : List ℕ) (place : ℕ) (r : Bool) (owners owners' threaded threaded' : List ℕ)
     → Type 0
 Left find ws vs place r owners owners' threaded threaded' =
-    (r ≡ threadOkAt find (processesOf ws) (threadsOf vs) place)
-    × ((r ≡ true → owners' ≡ notedAt threadId owners place (ownerPlace (heldProcesses ws) (threadAt vs place))
-    (threadAt vs place))
-    × (r ≡ true → threaded' ≡ notedAt threadId threaded (ownerPlace (heldProcesses ws) (threadAt vs place)) 1
-    (threadAt vs place)))
+    (r ≡ thread_ok_at find (processes_of ws) (threads_of vs) place)
+    × ((r ≡ true → owners' ≡ noted_at thread_id owners place (owner_place (held_processes ws) (thread_at vs place))
+    (thread_at vs place))
+    × (r ≡ true → threaded' ≡ noted_at thread_id threaded (owner_place (held_processes ws) (thread_at vs place)) 1
+    (thread_at vs place)))
 
 module _ (find : ℕ → ℕ) (ws vs : List ℕ) (place w : ℕ) (owners threaded : List ℕ)
-    (e : w ≡ get_or (threadTo (threadAt vs place)) wordOfId 0) where
-  its-id : w ≡ (threadAt vs place).holds.id
-  unfolding threadTo
+    (e : w ≡ get_or (thread_to (thread_at vs place)) word_of_id 0) where
+  its-id : w ≡ (thread_at vs place).holds.id
+  unfolding thread_to
   its-id = e
 
-  pub free-thread : w ≡ 0 → {z : Bool} → z ≡ zeroThread (threadAt vs place)
+  pub free-thread : w ≡ 0 → {z : Bool} → z ≡ zero_thread (thread_at vs place)
       → Left find ws vs place z owners owners threaded threaded
-  unfolding threadOkAt threadOk notedAt
+  unfolding thread_ok_at thread_ok noted_at
   free-thread k ez =
-      let free = eq-eqb (threadAt vs place).holds.id 0 (sym its-id ∙ k) in
+      let free = eq-eqb (thread_at vs place).holds.id 0 (sym its-id ∙ k) in
       (ez ∙ sym (cond-true _ _ free), (λ _. sym (cond-true _ _ free), λ _. sym (cond-true _ _ free)))
 
   module _ (ph : List ℕ) (p owner : ℕ) (live : w ≡ 0 → ⊥)
-      (k : p ≡ get_or (threadTo (threadAt vs place)) threadProcess 0) (h : Hinted processPlaces ph)
-      (one : onePlace (heldProcesses ws)) (eo : owner ≡ processBy ph ws p) where
-    its-process : p ≡ (threadAt vs place).holds.process
-    unfolding threadTo
+      (k : p ≡ get_or (thread_to (thread_at vs place)) thread_process 0) (h : Hinted process_places ph)
+      (one : one_place (held_processes ws)) (eo : owner ≡ process_by ph ws p) where
+    its-process : p ≡ (thread_at vs place).holds.process
+    unfolding thread_to
     its-process = k
 
-    pub at-owner : owner ≡ ownerPlace (heldProcesses ws) (threadAt vs place)
-    unfolding ownerPlace
+    pub at-owner : owner ≡ owner_place (held_processes ws) (thread_at vs place)
+    unfolding owner_place
     at-owner =
-        eo ∙ process-found ph ws p h (one p) ∙ ap (λ n. search (isProcess n) (heldProcesses ws)) its-process
+        eo ∙ process-found ph ws p h (one p) ∙ ap (λ n. search (is_process n) (held_processes ws)) its-process
 
     abbrev mine : Process → Bool
-    mine = isProcess (threadAt vs place).holds.process
+    mine = is_process (thread_at vs place).holds.process
 
-    at_place : owner ≡ search mine (heldProcesses ws)
-    unfolding ownerPlace
+    at_place : owner ≡ search mine (held_processes ws)
+    unfolding owner_place
     at_place = at-owner
 
-    is_live : eqb (threadAt vs place).holds.id 0 ≡ false
-    is_live = ne_eqb (threadAt vs place).holds.id 0 (λ z. live (its-id ∙ z))
+    is_live_lem : eqb (thread_at vs place).holds.id 0 ≡ false
+    is_live_lem = ne_eqb (thread_at vs place).holds.id 0 (λ z. live (its-id ∙ z))
 
-    pub orphan : processPlaces ≤ owner → (owners' threaded' : List ℕ)
+    pub orphan : process_places ≤ owner → (owners' threaded' : List ℕ)
         → Left find ws vs place false owners owners' threaded threaded'
-    unfolding threadOkAt threadOk
+    unfolding thread_ok_at thread_ok
     orphan h owners' threaded' =
-        let n : owner ≡ processPlaces =
-        omega (arith, at_place, find-le mine (heldProcesses ws), length-heldProcesses ws) in (
-          sym (cond-false _ _ is_live
-              ∙ and_left _ (absent-any mine noProcess (heldProcesses ws) processPlaces owner (length-heldProcesses ws)
+        let n : owner ≡ process_places =
+        omega (arith, at_place, find-le mine (held_processes ws), length-held_processes ws) in (
+          sym (cond-false _ _ is_live_lem
+              ∙ and_left _ (absent-any mine no_process (held_processes ws) process_places owner (length-held_processes ws)
               at_place n)),
           (λ z. clash z refl, λ z. clash z refl),
         )
 
-    module _ (inside : owner < processPlaces) where
-      owned : any mine (heldProcesses ws) ≡ true
+    module _ (inside : owner < process_places) where
+      owned : any mine (held_processes ws) ≡ true
       owned =
-          found-any mine noProcess (heldProcesses ws) processPlaces owner (length-heldProcesses ws) at_place
+          found-any mine no_process (held_processes ws) process_places owner (length-held_processes ws) at_place
           (λ e. absurd (omega arith))
 
       -- it is a live process
-      owner-live : not (eqb (processAt ws owner).holds.id 0) ≡ true
-      unfolding isProcess
+      owner-live : not (eqb (process_at ws owner).holds.id 0) ≡ true
+      unfolding is_process
       owner-live =
-          ap not (named_live (threadAt vs place).holds.process (processAt ws owner).holds.id
-          (held_found mine freeProcess (processesOf ws) owner at_place (rw (length-processesOf ws) inside)))
+          ap not (named_live (thread_at vs place).holds.process (process_at ws owner).holds.id
+          (held_found mine free_process (processes_of ws) owner at_place (rw (length-processes_of ws) inside)))
 
-      its-owner : ownerOf (heldProcesses ws) (threadAt vs place) ≡ (processAt ws owner).holds
-      unfolding ownerOf
+      its-owner : owner_of (held_processes ws) (thread_at vs place) ≡ (process_at ws owner).holds
+      unfolding owner_of
       its-owner =
-          ap (λ k. get_or (heldProcesses ws) k noProcess) (sym at-owner)
-          ∙ held_at (processesOf ws) owner freeProcess
+          ap (λ k. get_or (held_processes ws) k no_process) (sym at-owner)
+          ∙ held_at (processes_of ws) owner free_process
 
-      pub live-thread : (ignored : List ℕ) → IgnoredNoted (processesOf ws) processPlaces ignored → {l : Bool}
-          → l ≡ liveThreadOk find (bits (get_or ignored owner 0)) place (threadAt vs place)
+      pub live-thread : (ignored : List ℕ) → IgnoredNoted (processes_of ws) process_places ignored → {l : Bool}
+          → l ≡ live_thread_ok find (bits (get_or ignored owner 0)) place (thread_at vs place)
           → Left find ws vs place l owners (set owners place owner) threaded (set threaded owner 1)
-      unfolding threadOkAt threadOk notedAt
+      unfolding thread_ok_at thread_ok noted_at
       live-thread ignored noted el =
-          let ignores : bits (get_or ignored owner 0) ≡ ignoredBy (ownerOf (heldProcesses ws) (threadAt vs place)) =
-          ap bits (noted owner inside owner-live) ∙ ap ignoredBy (sym its-owner) in (
+          let ignores : bits (get_or ignored owner 0) ≡ ignored_by (owner_of (held_processes ws) (thread_at vs place)) =
+          ap bits (noted owner inside owner-live) ∙ ap ignored_by (sym its-owner) in (
             el
-                ∙ ap (λ i. liveThreadOk find i place (threadAt vs place)) ignores
-                ∙ ap (λ b. b && liveThreadOk find (ignoredBy (ownerOf (heldProcesses ws) (threadAt vs place))) place
-                (threadAt vs place)) (sym owned)
-                ∙ sym (cond-false _ _ is_live),
+                ∙ ap (λ i. live_thread_ok find i place (thread_at vs place)) ignores
+                ∙ ap (λ b. b && live_thread_ok find (ignored_by (owner_of (held_processes ws) (thread_at vs place))) place
+                (thread_at vs place)) (sym owned)
+                ∙ sym (cond-false _ _ is_live_lem),
             (
-              λ _. ap (set owners place) at-owner ∙ sym (cond-false _ _ is_live),
-              λ _. ap (λ k. set threaded k 1) at-owner ∙ sym (cond-false _ _ is_live),
+              λ _. ap (set owners place) at-owner ∙ sym (cond-false _ _ is_live_lem),
+              λ _. ap (λ k. set threaded k 1) at-owner ∙ sym (cond-false _ _ is_live_lem),
             ),
           )

@@ -8,30 +8,30 @@ use lib.Dec.{eqb, leb}
 use lib.ListN.{length, get_or, take}
 use lib.Seq.{take_all}
 use borrow.Author.Tests.{eqb-true, eqb-false, leb-true, le-leb, lt-leb}
-use Rattle.limits.specs.Limits.{signals, sigDfl, sigIgn, knownFlags, SIGKILL, SIGSTOP, SIGCHLD, SIGURG, SIGWINCH}
+use Rattle.limits.specs.Limits.{signals, sig_dfl, sig_ign, known_flags, SIGKILL, SIGSTOP, SIGCHLD, SIGURG, SIGWINCH}
 use Rattle.lists.specs.Lists.{all}
 use Rattle.lists.proofs.Bools.{split, same_test}
 use Rattle.lists.proofs.Bits.{known-or}
 use Rattle.lists.proofs.Lists.{all-and}
 use Rattle.lists.proofs.Loops.{all_none, all-next}
 use Rattle.sigset.specs.declared.SigSet.{SigSet}
-use Rattle.sigset.specs.Set.{Signal, empty, has, setOf, union, ofSignal}
+use Rattle.sigset.specs.Set.{Signal, empty, has, set_of, union, of_signal}
 use Rattle.sigset.proofs.Laws.{has-set, set-cong, is_set, has-empty, has_of, has-union, union-lt}
 use Rattle.sigset.proofs.Laws.{set-none}
 use Rattle.types.specs.declared.Action.{Action}
-use Rattle.types.specs.Values.{defaultAction}
+use Rattle.types.specs.Values.{default_action}
 use Rattle.rules.specs.Types.{Process}
 use Rattle.rules.specs.Signals.{ignoring, ignored}
-use Rattle.rules.specs.View.{actionOf}
+use Rattle.rules.specs.View.{action_of}
 use Rattle.rules.proofs.Unmaskable.{unmasked-empty}
-use Rattle.rules.specs.Sound.{unmasked, actionUnmasked, flagsKnown}
+use Rattle.rules.specs.Sound.{unmasked, action_unmasked, flags_known}
 use Rattle.places.specs.declared.Gathered.{Gathered}
-use Rattle.soundness.specs.Check.{ignoredBy, actionOk}
-use Rattle.places.specs.Notes.{ignoredByChoice, Gathers}
+use Rattle.soundness.specs.Check.{ignored_by, action_ok}
+use Rattle.places.specs.Notes.{ignored_by_choice, Gathers}
 
 -- ---- a signal alone where a test holds
 
-alone : (b : Bool) (x s : ℕ) → Signal s → has (cond b (ofSignal x) empty) s ≡ (b && eqb s x)
+alone : (b : Bool) (x s : ℕ) → Signal s → has (cond b (of_signal x) empty) s ≡ (b && eqb s x)
 alone true x s g = has_of x s g
 alone false x s g = has-empty s
 
@@ -76,45 +76,45 @@ module _ (p : Process) where
   pub gathers-none : Gathers p 0 (record { flags = 0; masks = empty; chosen = empty })
   gathers-none =
       record {
-        known = sym (all_none flagsKnown defaultAction p.actions);
-        maskable = unmasked-empty ∙ sym (all_none actionUnmasked defaultAction p.actions);
+        known = sym (all_none flags_known default_action p.actions);
+        maskable = unmasked-empty ∙ sym (all_none action_unmasked default_action p.actions);
         chosen =
-            sym (set-none (λ s. leb s 0 && ignoredByChoice p s)
-            (λ s g. ap (λ (b : Bool). b && ignoredByChoice p s) (lt-leb s 0 g.low)));
+            sym (set-none (λ s. leb s 0 && ignored_by_choice p s)
+            (λ s g. ap (λ (b : Bool). b && ignored_by_choice p s) (lt-leb s 0 g.low)));
       }
 
-  pub gathers-more : (n : ℕ) (g h : Gathered) (a : Action) → n < length p.actions → a ≡ actionOf p (n + 1)
+  pub gathers-more : (n : ℕ) (g h : Gathered) (a : Action) → n < length p.actions → a ≡ action_of p (n + 1)
       → Gathers p n g
       → (h.flags ≡ bit_or g.flags a.flags) × ((h.masks ≡ union g.masks a.mask)
-      × (h.chosen ≡ union g.chosen (cond (eqb a.handler sigIgn) (ofSignal (n + 1)) empty)))
+      × (h.chosen ≡ union g.chosen (cond (eqb a.handler sig_ign) (of_signal (n + 1)) empty)))
       → Gathers p (n + 1) h
-  unfolding actionOf flagsKnown actionUnmasked
+  unfolding action_of flags_known action_unmasked
   gathers-more n g h a l e k w =
       let m : n + 1 - 1 ≡ n = omega arith in
-      let at : a ≡ get_or p.actions n defaultAction = e ∙ ap (λ (i : ℕ). get_or p.actions i defaultAction) m in
-      let one : Bool → SigSet = λ b. cond b (ofSignal (n + 1)) empty in
-      let next : SigSet = one (ignoredByChoice p (n + 1)) in
+      let at : a ≡ get_or p.actions n default_action = e ∙ ap (λ (i : ℕ). get_or p.actions i default_action) m in
+      let one : Bool → SigSet = λ b. cond b (of_signal (n + 1)) empty in
+      let next : SigSet = one (ignored_by_choice p (n + 1)) in
       record {
         known =
-            ap (λ (x : ℕ). eqb (bit_and x knownFlags) x) w.0
-            ∙ known-or g.flags a.flags knownFlags
-            ∙ ap₂ (λ (x y : Bool). x && y) k.known (ap flagsKnown at)
-            ∙ sym (all-next flagsKnown defaultAction p.actions n l);
+            ap (λ (x : ℕ). eqb (bit_and x known_flags) x) w.0
+            ∙ known-or g.flags a.flags known_flags
+            ∙ ap₂ (λ (x y : Bool). x && y) k.known (ap flags_known at)
+            ∙ sym (all-next flags_known default_action p.actions n l);
         maskable =
             ap unmasked w.1.0
             ∙ unmasked-union g.masks a.mask
-            ∙ ap₂ (λ (x y : Bool). x && y) k.maskable (ap actionUnmasked at)
-            ∙ sym (all-next actionUnmasked defaultAction p.actions n l);
+            ∙ ap₂ (λ (x y : Bool). x && y) k.maskable (ap action_unmasked at)
+            ∙ sym (all-next action_unmasked default_action p.actions n l);
         chosen =
             w.1.1
-            ∙ ap (λ (x : Action). union g.chosen (one (eqb x.handler sigIgn))) e
-            ∙ is_set (union g.chosen next) (λ s. leb s (n + 1) && ignoredByChoice p s) (union-lt g.chosen next)
+            ∙ ap (λ (x : Action). union g.chosen (one (eqb x.handler sig_ign))) e
+            ∙ is_set (union g.chosen next) (λ s. leb s (n + 1) && ignored_by_choice p s) (union-lt g.chosen next)
             (λ s i.
             has-union g.chosen next s i
             ∙ ap₂ (λ (x y : Bool). x || y)
-            (ap (λ (x : SigSet). has x s) k.chosen ∙ has-set (λ s. leb s n && ignoredByChoice p s) s i)
-            (alone (ignoredByChoice p (n + 1)) (n + 1) s i)
-            ∙ up-to-next (ignoredByChoice p) n s);
+            (ap (λ (x : SigSet). has x s) k.chosen ∙ has-set (λ s. leb s n && ignored_by_choice p s) s i)
+            (alone (ignored_by_choice p (n + 1)) (n + 1) s i)
+            ∙ up-to-next (ignored_by_choice p) n s);
       }
 
   -- what is gathered of all
@@ -122,19 +122,19 @@ module _ (p : Process) where
     whole : take signals p.actions ≡ p.actions
     whole = take_all signals p.actions (omega arith)
 
-    pub gathered-ok : (unmasked g.masks && eqb (bit_and g.flags knownFlags) g.flags)
-        ≡ all actionOk p.actions
-    unfolding actionOk
+    pub gathered-ok : (unmasked g.masks && eqb (bit_and g.flags known_flags) g.flags)
+        ≡ all action_ok p.actions
+    unfolding action_ok
     gathered-ok =
-        ap₂ (λ (x y : Bool). x && y) (k.maskable ∙ ap (all actionUnmasked) whole)
-        (k.known ∙ ap (all flagsKnown) whole)
-        ∙ sym (all-and actionUnmasked flagsKnown p.actions)
+        ap₂ (λ (x y : Bool). x && y) (k.maskable ∙ ap (all action_unmasked) whole)
+        (k.known ∙ ap (all flags_known) whole)
+        ∙ sym (all-and action_unmasked flags_known p.actions)
 
-    pub gathered-chosen : g.chosen ≡ setOf (ignoredByChoice p)
+    pub gathered-chosen : g.chosen ≡ set_of (ignored_by_choice p)
     gathered-chosen =
         k.chosen
-        ∙ set-cong (λ s. leb s signals && ignoredByChoice p s) (ignoredByChoice p)
-        (λ s i. ap (λ (b : Bool). b && ignoredByChoice p s) (le-leb s signals i.high))
+        ∙ set-cong (λ s. leb s signals && ignored_by_choice p s) (ignored_by_choice p)
+        (λ s i. ap (λ (b : Bool). b && ignored_by_choice p s) (le-leb s signals i.high))
 
 -- ---- the ignored signals
 
@@ -149,27 +149,27 @@ spread false true p q r = or_assoc p q r
 spread false false p q r = refl
 
 module _ (p : Process) where
-  abbrev isDefaultAt : ℕ → Bool
-  isDefaultAt s = eqb (actionOf p s).handler sigDfl
+  abbrev is_default_at : ℕ → Bool
+  is_default_at s = eqb (action_of p s).handler sig_dfl
 
   abbrev alone-default : ℕ → SigSet
-  alone-default s = cond (isDefaultAt s) (ofSignal s) empty
+  alone-default s = cond (is_default_at s) (of_signal s) empty
 
-  pub ignored-is : (a b c d : SigSet) → a ≡ setOf (ignoredByChoice p) → b ≡ union a (alone-default SIGCHLD)
-      → c ≡ union b (alone-default SIGURG) → d ≡ union c (alone-default SIGWINCH) → d ≡ ignoredBy p
-  unfolding ignoredBy ignored ignoring
+  pub ignored-is : (a b c d : SigSet) → a ≡ set_of (ignored_by_choice p) → b ≡ union a (alone-default SIGCHLD)
+      → c ≡ union b (alone-default SIGURG) → d ≡ union c (alone-default SIGWINCH) → d ≡ ignored_by p
+  unfolding ignored_by ignored ignoring
   ignored-is a b c d ea eb ec ed =
       let with : (x y : SigSet) (t s : ℕ) → Signal s → y ≡ union x (alone-default t)
-      → has y s ≡ (has x s || (isDefaultAt s && eqb s t)) =
+      → has y s ≡ (has x s || (is_default_at s && eqb s t)) =
       λ x y t s i e. ap (λ (z : SigSet). has z s) e ∙ has-union x (alone-default t) s i
-      ∙ ap (λ (z : Bool). has x s || z) (alone (isDefaultAt t) t s i ∙ at-itself isDefaultAt t s) in
-      is_set d (λ s. ignored (actionOf p s) s) (rw ed (union-lt c (alone-default SIGWINCH)))
+      ∙ ap (λ (z : Bool). has x s || z) (alone (is_default_at t) t s i ∙ at-itself is_default_at t s) in
+      is_set d (λ s. ignored (action_of p s) s) (rw ed (union-lt c (alone-default SIGWINCH)))
       (λ s i.
       with c d SIGWINCH s i ed
-      ∙ ap (λ (z : Bool). z || (isDefaultAt s && eqb s SIGWINCH))
+      ∙ ap (λ (z : Bool). z || (is_default_at s && eqb s SIGWINCH))
       (with b c SIGURG s i ec
-      ∙ ap (λ (z : Bool). z || (isDefaultAt s && eqb s SIGURG))
+      ∙ ap (λ (z : Bool). z || (is_default_at s && eqb s SIGURG))
       (with a b SIGCHLD s i eb
-      ∙ ap (λ (z : Bool). z || (isDefaultAt s && eqb s SIGCHLD))
-      (ap (λ (z : SigSet). has z s) ea ∙ has-set (ignoredByChoice p) s i)))
-      ∙ spread (ignoredByChoice p s) (isDefaultAt s) (eqb s SIGCHLD) (eqb s SIGURG) (eqb s SIGWINCH))
+      ∙ ap (λ (z : Bool). z || (is_default_at s && eqb s SIGCHLD))
+      (ap (λ (z : SigSet). has z s) ea ∙ has-set (ignored_by_choice p) s i)))
+      ∙ spread (ignored_by_choice p s) (is_default_at s) (eqb s SIGCHLD) (eqb s SIGURG) (eqb s SIGWINCH))

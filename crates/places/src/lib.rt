@@ -2,19 +2,19 @@
 // In passing it is noted which signals each process ignores, and in which place the process of each thread is.
 ghost use Rattle.std.specs.Prelude.{◌≡◌, true, cond, ◌+◌, ◌≤◌, ◌<◌, eqb, length};
 ghost use Rattle.std.specs.Int.Bits.{bit_or};
-ghost use Rattle.limits.specs.Limits.{processPlaces, processTable, threadPlaces, threadTable, signals, sigIgn};
+ghost use Rattle.limits.specs.Limits.{process_places, process_table, thread_places, thread_table, signals, sig_ign};
 ghost use Rattle.lists.specs.Lists.{all, range};
-ghost use Rattle.hints.specs.Hints.{hintSlots, Hinted};
-ghost use Rattle.sigset.specs.Set.{empty, ofSignal, setOf, union};
-ghost use Rattle.rules.specs.Sound.{killStopDefault, zeroThread, processId, threadId};
-ghost use Rattle.tables.specs.Tables.{processesOf, threadsOf, heldProcesses, processAt, threadAt};
-ghost use Rattle.soundness.specs.Check.{headOk, liveProcessOk, processOkAt, processesOk, liveThreadOk, threadOkAt};
-ghost use Rattle.soundness.specs.Check.{threadsOk, placesOk, processBy, threadBy, ignoredBy};
-ghost use Rattle.places.specs.Notes.{block, ignoredByChoice};
-ghost use Rattle.soundness.specs.Check.{disjoint, onePlace};
+ghost use Rattle.hints.specs.Hints.{hint_slots, Hinted};
+ghost use Rattle.sigset.specs.Set.{empty, of_signal, set_of, union};
+ghost use Rattle.rules.specs.Sound.{kill_stop_default, zero_thread, process_id, thread_id};
+ghost use Rattle.tables.specs.Tables.{processes_of, threads_of, held_processes, process_at, thread_at};
+ghost use Rattle.soundness.specs.Check.{head_ok, live_process_ok, process_ok_at, processes_ok, live_thread_ok, thread_ok_at};
+ghost use Rattle.soundness.specs.Check.{threads_ok, places_ok, process_by, thread_by, ignored_by};
+ghost use Rattle.places.specs.Notes.{block, ignored_by_choice};
+ghost use Rattle.soundness.specs.Check.{disjoint, one_place};
 ghost use Rattle.places.specs.Notes.{Gathers, IgnoredNoted, OwnersNoted, ThreadedNoted};
-ghost use Rattle.soundness.specs.Check.{ownerPlace};
-ghost use Rattle.places.specs.Notes.{notedAt, threadedBy};
+ghost use Rattle.soundness.specs.Check.{owner_place};
+ghost use Rattle.places.specs.Notes.{noted_at, threaded_by};
 
 use limits::{
     PROCESS_EFFECTIVE, PROCESS_ID, PROCESS_MARKS, PROCESS_PLACES, PROCESS_REAL, PROCESS_SAVED,
@@ -40,8 +40,8 @@ const BLOCK: u32 = 8;
 
 // Are the id, the other fields and the marks of a live process in range?
 fn head_ok(ps: &[u64], place: usize) -> bool
-    requires { (length ps.now ≡ processTable) × (place < processPlaces) }
-    ensures { result ≡ headOk (processAt ps.now place) }
+    requires { (length ps.now ≡ process_table) × (place < process_places) }
+    ensures { result ≡ head_ok (process_at ps.now place) }
 {
     let id = decide::is_id(tables::field_at(ps, place, PROCESS_ID));
     let real = decide::is_user(tables::field_at(ps, place, PROCESS_REAL));
@@ -55,8 +55,8 @@ fn head_ok(ps: &[u64], place: usize) -> bool
 }
 
 fn kill_stop_default(ps: &[u64], place: usize) -> bool
-    requires { (length ps.now ≡ processTable) × (place < processPlaces) }
-    ensures { result ≡ killStopDefault (processAt ps.now place) }
+    requires { (length ps.now ≡ process_table) × (place < process_places) }
+    ensures { result ≡ kill_stop_default (process_at ps.now place) }
 {
     let kill = decide::is_default(tables::action_at(ps, place, SIGKILL));
     let stop = decide::is_default(tables::action_at(ps, place, SIGSTOP));
@@ -65,7 +65,7 @@ fn kill_stop_default(ps: &[u64], place: usize) -> bool
 
 // The set that has s alone where the test holds, else the empty one.
 fn alone_if(holds: bool, s: u32) -> SigSet
-    ensures { result ≡ cond holds (ofSignal s) empty }
+    ensures { result ≡ cond holds (of_signal s) empty }
 {
     if holds {
         return SigSet::of_signal(s);
@@ -76,7 +76,7 @@ fn alone_if(holds: bool, s: u32) -> SigSet
 // One more action.
 fn with_action(g: Gathered, a: Action, s: u32) -> Gathered
     ensures { (result.flags ≡ bit_or g.flags a.flags) × ((result.masks ≡ union g.masks a.mask)
-        × (result.chosen ≡ union g.chosen (cond (eqb a.handler sigIgn) (ofSignal s) empty))) }
+        × (result.chosen ≡ union g.chosen (cond (eqb a.handler sig_ign) (of_signal s) empty))) }
 {
     let flags = g.flags | a.flags;
     let mask = a.mask;
@@ -91,9 +91,9 @@ fn with_action(g: Gathered, a: Action, s: u32) -> Gathered
 
 // The next actions of a process, after those that are done: so few that the compiler writes them out.
 fn gather_block(ps: &[u64], place: usize, g: Gathered, done: u32) -> Gathered
-    requires ps_len { (length ps.now ≡ processTable) × (place < processPlaces) }
-    requires block_bound { (done + block ≤ signals) × Gathers (processAt ps.now place).holds done g }
-    ensures { Gathers (processAt ps.now place).holds (done + block) result }
+    requires ps_len { (length ps.now ≡ process_table) × (place < process_places) }
+    requires block_bound { (done + block ≤ signals) × Gathers (process_at ps.now place).holds done g }
+    ensures { Gathers (process_at ps.now place).holds (done + block) result }
 {
     let mut h = g;
     let mut i: u32 = 0;
@@ -107,8 +107,8 @@ fn gather_block(ps: &[u64], place: usize, g: Gathered, done: u32) -> Gathered
 
 // The one pass over the actions of a process.
 fn gather(ps: &[u64], place: usize) -> Gathered
-    requires { (length ps.now ≡ processTable) × (place < processPlaces) }
-    ensures { Gathers (processAt ps.now place).holds signals result }
+    requires { (length ps.now ≡ process_table) × (place < process_places) }
+    ensures { Gathers (process_at ps.now place).holds signals result }
 {
     let mut g = Gathered {
         flags: 0,
@@ -125,9 +125,9 @@ fn gather(ps: &[u64], place: usize) -> Gathered
 
 // The signals that a process ignores: those set to ignore, and by default CHLD, URG and WINCH.
 fn ignored(ps: &[u64], place: usize, chosen: SigSet) -> SigSet
-    requires ps_len { (length ps.now ≡ processTable) × (place < processPlaces) }
-    requires chosen_value { chosen ≡ setOf (ignoredByChoice (processAt ps.now place).holds) }
-    ensures { result ≡ ignoredBy (processAt ps.now place).holds }
+    requires ps_len { (length ps.now ≡ process_table) × (place < process_places) }
+    requires chosen_value { chosen ≡ set_of (ignored_by_choice (process_at ps.now place).holds) }
+    ensures { result ≡ ignored_by (process_at ps.now place).holds }
 {
     let chld = tables::action_at(ps, place, SIGCHLD);
     let urg = tables::action_at(ps, place, SIGURG);
@@ -146,12 +146,12 @@ fn are_disjoint(a: SigSet, b: SigSet) -> bool
 
 // A live process, with what was gathered of its actions.
 fn live_process_ok(ps: &[u64], hints: &[u16], place: usize, g: Gathered, ignores: SigSet) -> bool
-    requires ps_len { (length ps.now ≡ processTable) × (place < processPlaces) }
-    requires hints_len { (length hints.now ≡ hintSlots) × Hinted processPlaces hints.now }
-    requires gathers { Gathers (processAt ps.now place).holds signals g
-        × (ignores ≡ ignoredBy (processAt ps.now place).holds) }
-    ensures { result ≡ liveProcessOk (processBy hints.now ps.now) place
-        (processAt ps.now place) }
+    requires ps_len { (length ps.now ≡ process_table) × (place < process_places) }
+    requires hints_len { (length hints.now ≡ hint_slots) × Hinted process_places hints.now }
+    requires gathers { Gathers (process_at ps.now place).holds signals g
+        × (ignores ≡ ignored_by (process_at ps.now place).holds) }
+    ensures { result ≡ live_process_ok (process_by hints.now ps.now) place
+        (process_at ps.now place) }
 {
     let flags = g.flags;
     let masks = g.masks;
@@ -166,13 +166,13 @@ fn live_process_ok(ps: &[u64], hints: &[u16], place: usize, g: Gathered, ignores
 
 // Is the process place sound? What a live process ignores is noted.
 fn process_ok(ps: &[u64], hints: &[u16], notes: &mut [u64], place: usize) -> bool
-    requires ps_len { (length ps.now ≡ processTable) × (place < processPlaces) }
-    requires hints_len { (length hints.now ≡ hintSlots) × Hinted processPlaces hints.now }
-    requires notes_len { length notes.old ≡ processPlaces }
-    ensures value { result ≡ processOkAt (processBy hints.now ps.now) (processesOf ps.now)
+    requires ps_len { (length ps.now ≡ process_table) × (place < process_places) }
+    requires hints_len { (length hints.now ≡ hint_slots) × Hinted process_places hints.now }
+    requires notes_len { length notes.old ≡ process_places }
+    ensures value { result ≡ process_ok_at (process_by hints.now ps.now) (processes_of ps.now)
         place }
-    ensures notes_after { notes.new ≡ notedAt processId notes.old place
-        (ignoredBy (processAt ps.now place).holds).0 (processAt ps.now place) }
+    ensures notes_after { notes.new ≡ noted_at process_id notes.old place
+        (ignored_by (process_at ps.now place).holds).0 (process_at ps.now place) }
 {
     if tables::field_at(ps, place, PROCESS_ID) == 0 {
         return zeros::words_zero(ps, place * PROCESS_WORDS, PROCESS_WORDS);
@@ -185,12 +185,12 @@ fn process_ok(ps: &[u64], hints: &[u16], notes: &mut [u64], place: usize) -> boo
 }
 
 fn processes_ok(ps: &[u64], hints: &[u16], notes: &mut [u64]) -> bool
-    requires ps_len { length ps.now ≡ processTable }
-    requires hints_len { (length hints.now ≡ hintSlots) × Hinted processPlaces hints.now }
-    requires notes_len { length notes.old ≡ processPlaces }
-    ensures value { result ≡ processesOk (processBy hints.now ps.now)
-        (processesOf ps.now) }
-    ensures ignored_noted { result ≡ true → IgnoredNoted (processesOf ps.now) processPlaces notes.new }
+    requires ps_len { length ps.now ≡ process_table }
+    requires hints_len { (length hints.now ≡ hint_slots) × Hinted process_places hints.now }
+    requires notes_len { length notes.old ≡ process_places }
+    ensures value { result ≡ processes_ok (process_by hints.now ps.now)
+        (processes_of ps.now) }
+    ensures ignored_noted { result ≡ true → IgnoredNoted (processes_of ps.now) process_places notes.new }
 {
     let mut i = 0;
     while i < PROCESS_PLACES {
@@ -205,8 +205,8 @@ fn processes_ok(ps: &[u64], hints: &[u16], notes: &mut [u64]) -> bool
 // ---- one thread place
 
 fn free_thread_ok(ts: &[u64], place: usize) -> bool
-    requires { (length ts.now ≡ threadTable) × (place < threadPlaces) }
-    ensures { result ≡ zeroThread (threadAt ts.now place) }
+    requires { (length ts.now ≡ thread_table) × (place < thread_places) }
+    ensures { result ≡ zero_thread (thread_at ts.now place) }
 {
     let owner = tables::thread_field_at(ts, place, THREAD_PROCESS);
     let mask = tables::thread_field_at(ts, place, THREAD_MASK);
@@ -216,10 +216,10 @@ fn free_thread_ok(ts: &[u64], place: usize) -> bool
 
 // A live thread, whose process ignores these signals.
 fn live_thread_ok(ts: &[u64], hints: &[u16], place: usize, ignores: SigSet) -> bool
-    requires ts_len { (length ts.now ≡ threadTable) × (place < threadPlaces) }
-    requires hints_len { (length hints.now ≡ hintSlots) × Hinted threadPlaces hints.now }
-    ensures { result ≡ liveThreadOk (threadBy hints.now ts.now) ignores place
-        (threadAt ts.now place) }
+    requires ts_len { (length ts.now ≡ thread_table) × (place < thread_places) }
+    requires hints_len { (length hints.now ≡ hint_slots) × Hinted thread_places hints.now }
+    ensures { result ≡ live_thread_ok (thread_by hints.now ts.now) ignores place
+        (thread_at ts.now place) }
 {
     let id = tables::thread_field_at(ts, place, THREAD_ID);
     let mask = decide::is_unmasked(SigSet(tables::thread_field_at(ts, place, THREAD_MASK)));
@@ -240,20 +240,20 @@ fn thread_ok(
     threaded: &mut [u8],
     place: usize,
 ) -> bool
-    requires ps_len { (length ps.now ≡ processTable) × ((length ts.now ≡ threadTable) × (place < threadPlaces)) }
-    requires ph_len { (length ph.now ≡ hintSlots) × Hinted processPlaces ph.now }
-    requires th_len { (length th.now ≡ hintSlots) × Hinted threadPlaces th.now }
-    requires ignored_len { (length ignored.now ≡ processPlaces) × ((length owners.old ≡ threadPlaces)
-        × (length threaded.old ≡ processPlaces)) }
-    requires one_place { onePlace (heldProcesses ps.now) × IgnoredNoted (processesOf ps.now) processPlaces ignored.now }
-    ensures value { result ≡ threadOkAt (threadBy th.now ts.now) (processesOf ps.now)
-        (threadsOf ts.now) place }
-    ensures owners_after { result ≡ true → owners.new ≡ notedAt threadId owners.old place
-        (ownerPlace (heldProcesses ps.now) (threadAt ts.now place))
-        (threadAt ts.now place) }
-    ensures threaded_after { result ≡ true → threaded.new ≡ notedAt threadId threaded.old
-        (ownerPlace (heldProcesses ps.now) (threadAt ts.now place)) 1
-        (threadAt ts.now place) }
+    requires ps_len { (length ps.now ≡ process_table) × ((length ts.now ≡ thread_table) × (place < thread_places)) }
+    requires ph_len { (length ph.now ≡ hint_slots) × Hinted process_places ph.now }
+    requires th_len { (length th.now ≡ hint_slots) × Hinted thread_places th.now }
+    requires ignored_len { (length ignored.now ≡ process_places) × ((length owners.old ≡ thread_places)
+        × (length threaded.old ≡ process_places)) }
+    requires one_place { one_place (held_processes ps.now) × IgnoredNoted (processes_of ps.now) process_places ignored.now }
+    ensures value { result ≡ thread_ok_at (thread_by th.now ts.now) (processes_of ps.now)
+        (threads_of ts.now) place }
+    ensures owners_after { result ≡ true → owners.new ≡ noted_at thread_id owners.old place
+        (owner_place (held_processes ps.now) (thread_at ts.now place))
+        (thread_at ts.now place) }
+    ensures threaded_after { result ≡ true → threaded.new ≡ noted_at thread_id threaded.old
+        (owner_place (held_processes ps.now) (thread_at ts.now place)) 1
+        (thread_at ts.now place) }
 {
     if tables::thread_field_at(ts, place, THREAD_ID) == 0 {
         return free_thread_ok(ts, place);
@@ -277,19 +277,19 @@ fn threads_ok(
     owners: &mut [u16],
     threaded: &mut [u8],
 ) -> bool
-    requires ps_len { (length ps.now ≡ processTable) × (length ts.now ≡ threadTable) }
-    requires ph_len { (length ph.now ≡ hintSlots) × Hinted processPlaces ph.now }
-    requires th_len { (length th.now ≡ hintSlots) × Hinted threadPlaces th.now }
-    requires ignored_len { (length ignored.now ≡ processPlaces) × ((length owners.old ≡ threadPlaces)
-        × (length threaded.old ≡ processPlaces)) }
-    requires one_place { onePlace (heldProcesses ps.now) × IgnoredNoted (processesOf ps.now) processPlaces ignored.now }
-    requires threaded_noted { ThreadedNoted (processesOf ps.now) (threadsOf ts.now) 0 threaded.old }
-    ensures value { result ≡ threadsOk (threadBy th.now ts.now) (processesOf ps.now)
-        (threadsOf ts.now) }
-    ensures owners_noted { result ≡ true → OwnersNoted (processesOf ps.now) (threadsOf ts.now)
-        threadPlaces owners.new }
-    ensures threaded_noted_2 { result ≡ true → ThreadedNoted (processesOf ps.now) (threadsOf ts.now)
-        threadPlaces threaded.new }
+    requires ps_len { (length ps.now ≡ process_table) × (length ts.now ≡ thread_table) }
+    requires ph_len { (length ph.now ≡ hint_slots) × Hinted process_places ph.now }
+    requires th_len { (length th.now ≡ hint_slots) × Hinted thread_places th.now }
+    requires ignored_len { (length ignored.now ≡ process_places) × ((length owners.old ≡ thread_places)
+        × (length threaded.old ≡ process_places)) }
+    requires one_place { one_place (held_processes ps.now) × IgnoredNoted (processes_of ps.now) process_places ignored.now }
+    requires threaded_noted { ThreadedNoted (processes_of ps.now) (threads_of ts.now) 0 threaded.old }
+    ensures value { result ≡ threads_ok (thread_by th.now ts.now) (processes_of ps.now)
+        (threads_of ts.now) }
+    ensures owners_noted { result ≡ true → OwnersNoted (processes_of ps.now) (threads_of ts.now)
+        thread_places owners.new }
+    ensures threaded_noted_2 { result ≡ true → ThreadedNoted (processes_of ps.now) (threads_of ts.now)
+        thread_places threaded.new }
 {
     let mut i = 0;
     while i < THREAD_PLACES {
@@ -305,17 +305,17 @@ fn threads_ok(
 
 // Has the process in a place a thread, by the notes? A free place needs none.
 fn has_thread(ps: &[u64], threaded: &[u8], place: usize) -> bool
-    requires ps_len { (length ps.now ≡ processTable) × (length threaded.now ≡ processPlaces) }
-    requires place_lt_process_places { place < processPlaces }
-    ensures { result ≡ threadedBy (processesOf ps.now) threaded.now place }
+    requires ps_len { (length ps.now ≡ process_table) × (length threaded.now ≡ process_places) }
+    requires place_lt_process_places { place < process_places }
+    ensures { result ≡ threaded_by (processes_of ps.now) threaded.now place }
 {
     (tables::field_at(ps, place, PROCESS_ID) == 0) | (threaded[place] != 0)
 }
 
 fn all_have_threads(ps: &[u64], threaded: &[u8]) -> bool
-    requires { (length ps.now ≡ processTable) × (length threaded.now ≡ processPlaces) }
-    ensures { result ≡ all (threadedBy (processesOf ps.now) threaded.now)
-        (range 0 processPlaces) }
+    requires { (length ps.now ≡ process_table) × (length threaded.now ≡ process_places) }
+    ensures { result ≡ all (threaded_by (processes_of ps.now) threaded.now)
+        (range 0 process_places) }
 {
     let mut i = 0;
     while i < PROCESS_PLACES {
@@ -336,16 +336,16 @@ pub fn places_ok(
     ignored: &mut [u64],
     owners: &mut [u16],
 ) -> bool
-    requires ps_len { (length ps.now ≡ processTable) × (length ts.now ≡ threadTable) }
-    requires ph_len { (length ph.now ≡ hintSlots) × Hinted processPlaces ph.now }
-    requires th_len { (length th.now ≡ hintSlots) × Hinted threadPlaces th.now }
-    requires ignored_len { (length ignored.old ≡ processPlaces) × (length owners.old ≡ threadPlaces) }
-    ensures value { result ≡ placesOk (processBy ph.now ps.now)
-        (threadBy th.now ts.now)
-        (processesOf ps.now) (threadsOf ts.now) }
-    ensures ignored_noted { result ≡ true → IgnoredNoted (processesOf ps.now) processPlaces ignored.new }
-    ensures owners_noted { result ≡ true → OwnersNoted (processesOf ps.now) (threadsOf ts.now)
-        threadPlaces owners.new }
+    requires ps_len { (length ps.now ≡ process_table) × (length ts.now ≡ thread_table) }
+    requires ph_len { (length ph.now ≡ hint_slots) × Hinted process_places ph.now }
+    requires th_len { (length th.now ≡ hint_slots) × Hinted thread_places th.now }
+    requires ignored_len { (length ignored.old ≡ process_places) × (length owners.old ≡ thread_places) }
+    ensures value { result ≡ places_ok (process_by ph.now ps.now)
+        (thread_by th.now ts.now)
+        (processes_of ps.now) (threads_of ts.now) }
+    ensures ignored_noted { result ≡ true → IgnoredNoted (processes_of ps.now) process_places ignored.new }
+    ensures owners_noted { result ≡ true → OwnersNoted (processes_of ps.now) (threads_of ts.now)
+        thread_places owners.new }
 {
     let mut threaded = [0u8; PROCESS_PLACES];
     if !processes_ok(ps, ph, ignored) {

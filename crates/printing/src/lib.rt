@@ -1,7 +1,7 @@
 // What the programs write: texts with numbers set in, and what is in use of the tables.
 // A contract cannot speak of output; each program's file `stdout` does.
 ghost use Rattle.std.specs.Prelude.{◌≤◌, ◌<◌};
-ghost use Rattle.limits.specs.Limits.{processPlaces, threadPlaces, bufferRecords, signals};
+ghost use Rattle.limits.specs.Limits.{process_places, thread_places, buffer_records, signals};
 
 use libc::STDOUT_FILENO;
 use limits::{
@@ -115,7 +115,7 @@ pub fn say(texts: &[u8], n: u64, words: &[u64]) {
 
 // A signal's action, where it is not the default action.
 fn action(ps: &[u64; PROCESS_TABLE], place: usize, signal: u32)
-    requires { (place < processPlaces) × ((1 ≤ signal) × (signal ≤ signals)) }
+    requires { (place < process_places) × ((1 ≤ signal) × (signal ≤ signals)) }
 {
     let process = place * PROCESS_WORDS;
     let at = process + HEAD_WORDS + (signal as usize - 1) * ACTION_WORDS;
@@ -139,7 +139,7 @@ fn action(ps: &[u64; PROCESS_TABLE], place: usize, signal: u32)
 }
 
 fn actions(ps: &[u64; PROCESS_TABLE], place: usize)
-    requires { place < processPlaces }
+    requires { place < process_places }
 {
     let mut s: u32 = 1;
     while s <= SIGNALS {
@@ -150,7 +150,7 @@ fn actions(ps: &[u64; PROCESS_TABLE], place: usize)
 
 // A live process; nothing of a free place.
 fn process(ps: &[u64; PROCESS_TABLE], place: usize)
-    requires { place < processPlaces }
+    requires { place < process_places }
 {
     let at = place * PROCESS_WORDS;
     if ps[at + PROCESS_ID] == 0 {
@@ -175,7 +175,7 @@ fn processes(ps: &[u64; PROCESS_TABLE]) {
 
 // A live thread; nothing of a free place.
 fn thread(ts: &[u64; THREAD_TABLE], place: usize)
-    requires { place < threadPlaces }
+    requires { place < thread_places }
 {
     let at = place * THREAD_WORDS;
     if ts[at + THREAD_ID] == 0 {
@@ -199,7 +199,7 @@ fn threads(ts: &[u64; THREAD_TABLE]) {
 
 // A record in use; nothing of a free slot.
 fn record(b: &[u8; BUFFER_BYTES], slot: usize)
-    requires { slot < bufferRecords }
+    requires { slot < buffer_records }
 {
     let r = siginfo::read(b, slot);
     if r.process == 0 {

@@ -7,48 +7,48 @@ use native.Mathlib.Omega.{arith}
 use lib.Dec.{eqb}
 use lib.ListN.{length, take, drop, length-drop}
 use lib.Seq.{take_all}
-use Rattle.limits.specs.Limits.{recordProcess, recordThread, recordSignal, recordCode, recordSender, recordUid}
-use Rattle.limits.specs.Limits.{recordValue, recordBytes, bufferRecords, bufferBytes}
+use Rattle.limits.specs.Limits.{record_process, record_thread, record_signal, record_code, record_sender, record_uid}
+use Rattle.limits.specs.Limits.{record_value, record_bytes, buffer_records, buffer_bytes}
 use Rattle.lists.specs.Lists.{all}
 use Rattle.lists.proofs.Lists.{all_append}
 use Rattle.lists.proofs.Rows.{all-rows-from}
-use Rattle.zeros.specs.Zeros.{isNought}
-use Rattle.siginfo.specs.Bytes.{u32Bytes, u64Bytes, le, siginfoOf, slots}
+use Rattle.zeros.specs.Zeros.{is_nought}
+use Rattle.siginfo.specs.Bytes.{u32_bytes, u64_bytes, le, siginfo_of, slots}
 use Rattle.siginfo.proofs.Numbers.{le-zero}
 use Rattle.siginfo.proofs.Slots.{part-rest}
 use Rattle.rules.specs.Sound.{is_zero}
 use Rattle.queue.specs.Queue.{slots_of}
 
-number-zero : (bs : List ℕ) → eqb (le bs) 0 ≡ all isNought bs
-unfolding isNought
+number-zero : (bs : List ℕ) → eqb (le bs) 0 ≡ all is_nought bs
+unfolding is_nought
 number-zero bs = le-zero bs
 
 -- a field, and the bytes behind it
-field-zero : (l : List ℕ) (at n : ℕ) {rest : Bool} → rest ≡ all isNought (drop (at + n) l)
-    → (eqb (le (take n (drop at l))) 0 && rest) ≡ all isNought (drop at l)
+field-zero : (l : List ℕ) (at n : ℕ) {rest : Bool} → rest ≡ all is_nought (drop (at + n) l)
+    → (eqb (le (take n (drop at l))) 0 && rest) ≡ all is_nought (drop at l)
 field-zero l at n e =
     ap₂ (λ a b. a && b) (number-zero (take n (drop at l))) e
-    ∙ sym (all_append isNought (take n (drop at l)) (drop (at + n) l))
-    ∙ ap (all isNought) (part-rest l at n)
+    ∙ sym (all_append is_nought (take n (drop at l)) (drop (at + n) l))
+    ∙ ap (all is_nought) (part-rest l at n)
 
-record-zero : (l : List ℕ) → length l ≡ recordBytes → is_zero (siginfoOf l) ≡ all isNought l
-unfolding is_zero siginfoOf
+record-zero : (l : List ℕ) → length l ≡ record_bytes → is_zero (siginfo_of l) ≡ all is_nought l
+unfolding is_zero siginfo_of
 record-zero l e =
-    field-zero l recordProcess u32Bytes
-    (field-zero l recordThread u32Bytes
-    (field-zero l recordSignal u32Bytes
-    (field-zero l recordCode u32Bytes
-    (field-zero l recordSender u32Bytes
-    (field-zero l recordUid u32Bytes
-    (number-zero (take u64Bytes (drop recordValue l))
-    ∙ ap (all isNought) (take_all u64Bytes (drop recordValue l) (rw length-drop (omega arith)))))))))
+    field-zero l record_process u32_bytes
+    (field-zero l record_thread u32_bytes
+    (field-zero l record_signal u32_bytes
+    (field-zero l record_code u32_bytes
+    (field-zero l record_sender u32_bytes
+    (field-zero l record_uid u32_bytes
+    (number-zero (take u64_bytes (drop record_value l))
+    ∙ ap (all is_nought) (take_all u64_bytes (drop record_value l) (rw length-drop (omega arith)))))))))
 
 -- the slots from a place on, as code looks at their bytes
-pub slots-zero : (b : List ℕ) (from : ℕ) → length b ≡ bufferBytes → from ≤ bufferRecords
-    → all isNought (take (bufferBytes - from * recordBytes) (drop (from * recordBytes) b))
+pub slots-zero : (b : List ℕ) (from : ℕ) → length b ≡ buffer_bytes → from ≤ buffer_records
+    → all is_nought (take (buffer_bytes - from * record_bytes) (drop (from * record_bytes) b))
     ≡ all is_zero (drop from (slots_of b))
 unfolding slots_of slots
 slots-zero b from e h =
-    ap (all isNought)
-    (take_all (bufferBytes - from * recordBytes) (drop (from * recordBytes) b) (rw length-drop (omega arith)))
-    ∙ sym (all-rows-from siginfoOf recordBytes is_zero isNought record-zero bufferRecords b from e h)
+    ap (all is_nought)
+    (take_all (buffer_bytes - from * record_bytes) (drop (from * record_bytes) b) (rw length-drop (omega arith)))
+    ∙ sym (all-rows-from siginfo_of record_bytes is_zero is_nought record-zero buffer_records b from e h)

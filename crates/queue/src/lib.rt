@@ -1,13 +1,13 @@
 // A buffer of records: those in use come first, oldest first, and the rest is zero.
 ghost use Rattle.std.specs.Prelude.{◌≡◌, true, ◌≤◌, ◌<◌, length, drop, replicate};
-ghost use Rattle.limits.specs.Limits.{bufferRecords, bufferBytes};
+ghost use Rattle.limits.specs.Limits.{buffer_records, buffer_bytes};
 ghost use Rattle.lists.specs.Lists.{all, find, count, keep};
 ghost use Rattle.lists.proofs.Loops.{cleared};
-ghost use Rattle.types.specs.Values.{noSiginfo};
-ghost use Rattle.rules.specs.View.{inQueue, targetQueue};
-ghost use Rattle.rules.specs.Store.{inUse, onSlots, ofProcess};
+ghost use Rattle.types.specs.Values.{no_siginfo};
+ghost use Rattle.rules.specs.View.{in_queue, target_queue};
+ghost use Rattle.rules.specs.Store.{in_use, on_slots, of_process};
 ghost use Rattle.rules.specs.Sound.{is_zero};
-ghost use Rattle.queue.specs.Queue.{slots_of, recordsOf, isLaid, appended, removeAt, isLeft, signalsIn};
+ghost use Rattle.queue.specs.Queue.{slots_of, records_of, is_laid, appended, remove_at, is_left, signals_in};
 
 use limits::{BUFFER_BYTES, BUFFER_RECORDS, RECORD_BYTES};
 use sigset::SigSet;
@@ -35,19 +35,19 @@ const NO_SIGINFO: Siginfo = Siginfo {
 // ---- one record
 
 fn in_use(r: Siginfo) -> bool
-    ensures { result ≡ inUse r }
+    ensures { result ≡ in_use r }
 {
     r.process != 0
 }
 
 fn in_queue(r: Siginfo, process: u32, thread: u32, signal: u32) -> bool
-    ensures { result ≡ inQueue (targetQueue process thread) signal r }
+    ensures { result ≡ in_queue (target_queue process thread) signal r }
 {
     ((process == r.process) & (thread == r.thread)) & (r.signal == signal)
 }
 
 fn is_left(r: Siginfo, discarded: Discarded) -> bool
-    ensures { result ≡ isLeft discarded r }
+    ensures { result ≡ is_left discarded r }
 {
     match discarded {
         Discarded::OfProcess(process) => r.process != process,
@@ -64,8 +64,8 @@ fn is_left(r: Siginfo, discarded: Discarded) -> bool
 
 // How many records are in use.
 pub fn used(b: &[u8]) -> usize
-    requires { length b.now ≡ bufferBytes }
-    ensures { result ≡ length (recordsOf b.now) }
+    requires { length b.now ≡ buffer_bytes }
+    ensures { result ≡ length (records_of b.now) }
 {
     let mut n: usize = 0;
     while n < BUFFER_RECORDS {
@@ -79,8 +79,8 @@ pub fn used(b: &[u8]) -> usize
 
 // The index of the oldest record of a queue and signal, or how many are in use.
 pub fn first_of(b: &[u8], process: u32, thread: u32, signal: u32) -> usize
-    requires { length b.now ≡ bufferBytes }
-    ensures { result ≡ find (inQueue (targetQueue process thread) signal) (recordsOf b.now) }
+    requires { length b.now ≡ buffer_bytes }
+    ensures { result ≡ find (in_queue (target_queue process thread) signal) (records_of b.now) }
 {
     let n = used(b);
     let mut i: usize = 0;
@@ -95,8 +95,8 @@ pub fn first_of(b: &[u8], process: u32, thread: u32, signal: u32) -> usize
 
 // The signals that have a record of a queue.
 pub fn signals_of(b: &[u8], process: u32, thread: u32) -> SigSet
-    requires { length b.now ≡ bufferBytes }
-    ensures { result ≡ signalsIn (targetQueue process thread) (recordsOf b.now) }
+    requires { length b.now ≡ buffer_bytes }
+    ensures { result ≡ signals_in (target_queue process thread) (records_of b.now) }
 {
     let n = used(b);
     let mut i: usize = 0;
@@ -113,8 +113,8 @@ pub fn signals_of(b: &[u8], process: u32, thread: u32) -> SigSet
 
 // How many records a process has in the buffer.
 pub fn count_of(b: &[u8], process: u32) -> usize
-    requires { length b.now ≡ bufferBytes }
-    ensures { result ≡ count (ofProcess process) (recordsOf b.now) }
+    requires { length b.now ≡ buffer_bytes }
+    ensures { result ≡ count (of_process process) (records_of b.now) }
 {
     let n = used(b);
     let mut i: usize = 0;
@@ -131,7 +131,7 @@ pub fn count_of(b: &[u8], process: u32) -> usize
 
 // Are the slots from a place on all zero?
 fn zero_from(b: &[u8], from: usize) -> bool
-    requires { (length b.now ≡ bufferBytes) × (from ≤ bufferRecords) }
+    requires { (length b.now ≡ buffer_bytes) × (from ≤ buffer_records) }
     ensures { result ≡ all is_zero (drop from (slots_of b.now)) }
 {
     zeros::bytes_zero(b, from * RECORD_BYTES, BUFFER_BYTES - from * RECORD_BYTES)
@@ -139,7 +139,7 @@ fn zero_from(b: &[u8], from: usize) -> bool
 
 // Is the buffer laid out? Any bytes of any length are answered.
 pub fn is_laid(b: &[u8]) -> bool
-    ensures { result ≡ isLaid b.now }
+    ensures { result ≡ is_laid b.now }
 {
     if b.len() != BUFFER_BYTES {
         return false;
@@ -152,8 +152,8 @@ pub fn is_laid(b: &[u8]) -> bool
 
 // Zeroes the slots from j up to, not including, n.
 fn clear(b: &mut [u8], j: usize, n: usize)
-    requires { (length b.old ≡ bufferBytes) × ((j ≤ n) × (n ≤ bufferRecords)) }
-    ensures { slots_of b.new ≡ cleared noSiginfo (slots_of b.old) j n }
+    requires { (length b.old ≡ buffer_bytes) × ((j ≤ n) × (n ≤ buffer_records)) }
+    ensures { slots_of b.new ≡ cleared no_siginfo (slots_of b.old) j n }
 {
     let m = n - j;
     let mut t: usize = 0;
@@ -165,17 +165,17 @@ fn clear(b: &mut [u8], j: usize, n: usize)
 
 // No record is left, whatever the buffer held.
 pub fn empty(b: &mut [u8])
-    requires { length b.old ≡ bufferBytes }
-    ensures { slots_of b.new ≡ replicate bufferRecords noSiginfo }
+    requires { length b.old ≡ buffer_bytes }
+    ensures { slots_of b.new ≡ replicate buffer_records no_siginfo }
 {
     clear(b, 0, BUFFER_RECORDS);
 }
 
 // One record more, behind the others.
 pub fn append(b: &mut [u8], r: Siginfo)
-    requires b_value { isLaid b.old ≡ true }
-    requires b_len_bound { length (recordsOf b.old) < bufferRecords }
-    ensures { slots_of b.new ≡ onSlots (appended r) (slots_of b.old) }
+    requires b_value { is_laid b.old ≡ true }
+    requires b_len_bound { length (records_of b.old) < buffer_records }
+    ensures { slots_of b.new ≡ on_slots (appended r) (slots_of b.old) }
 {
     let n = used(b);
     siginfo::write(b, n, r);
@@ -183,8 +183,8 @@ pub fn append(b: &mut [u8], r: Siginfo)
 
 // The discarded records go, and the others keep their order.
 pub fn discard(b: &mut [u8], discarded: Discarded)
-    requires { isLaid b.old ≡ true }
-    ensures { slots_of b.new ≡ onSlots (keep (isLeft discarded)) (slots_of b.old) }
+    requires { is_laid b.old ≡ true }
+    ensures { slots_of b.new ≡ on_slots (keep (is_left discarded)) (slots_of b.old) }
 {
     let n = used(b);
     let mut i: usize = 0;
@@ -202,9 +202,9 @@ pub fn discard(b: &mut [u8], discarded: Discarded)
 
 // The record at k goes, and the later ones move down by one.
 pub fn remove(b: &mut [u8], k: usize)
-    requires b_value { isLaid b.old ≡ true }
-    requires k_in_bounds { k < length (recordsOf b.old) }
-    ensures { slots_of b.new ≡ onSlots (removeAt k) (slots_of b.old) }
+    requires b_value { is_laid b.old ≡ true }
+    requires k_in_bounds { k < length (records_of b.old) }
+    ensures { slots_of b.new ≡ on_slots (remove_at k) (slots_of b.old) }
 {
     let n = used(b);
     let mut i: usize = k;

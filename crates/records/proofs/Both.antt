@@ -4,36 +4,36 @@ use mathlib.Core.Bool.{true, false}
 use mathlib.Core.List.{List, []}
 use Prim.Native.Nat.{ℕ}
 use lib.ListN.{replicate}
-use Rattle.limits.specs.Limits.{processPlaces}
+use Rattle.limits.specs.Limits.{process_places}
 use Rattle.lists.proofs.Bools.{and_left, and_right}
 use Rattle.types.specs.declared.Siginfo.{Siginfo}
-use Rattle.tables.specs.Tables.{processesOf, threadsOf, heldProcesses}
-use Rattle.tables.proofs.Words.{length-heldProcesses}
-use Rattle.soundness.specs.Check.{tallies, threadRecordsOk, processRecordsOk, allWithin, recordsOk}
+use Rattle.tables.specs.Tables.{processes_of, threads_of, held_processes}
+use Rattle.tables.proofs.Words.{length-held_processes}
+use Rattle.soundness.specs.Check.{tallies, thread_records_ok, process_records_ok, all_within, records_ok}
 use Rattle.soundness.proofs.Passes.{tally-start}
 
 -- no record yet
-pub zero-counts : (ws : List ℕ) → replicate processPlaces 0 ≡ tallies (heldProcesses ws) []
-zero-counts ws = sym (tally-start (heldProcesses ws) ∙ ap (λ n. replicate n 0) (length-heldProcesses ws))
+pub zero-counts : (ws : List ℕ) → replicate process_places 0 ≡ tallies (held_processes ws) []
+zero-counts ws = sym (tally-start (held_processes ws) ∙ ap (λ n. replicate n 0) (length-held_processes ws))
 
 -- ---- the records of both buffers
 
 module _ (ws vs : List ℕ) (rs qs : List Siginfo) where
-  pub threads-fail : threadRecordsOk (processesOf ws) (threadsOf vs) rs ≡ false
-      → false ≡ recordsOk (processesOf ws) (threadsOf vs) rs qs
-  unfolding recordsOk
+  pub threads-fail : thread_records_ok (processes_of ws) (threads_of vs) rs ≡ false
+      → false ≡ records_ok (processes_of ws) (threads_of vs) rs qs
+  unfolding records_ok
   threads-fail e = sym (and_left _ e)
 
-  pub processes-fail : processRecordsOk (processesOf ws) qs ≡ false
-      → false ≡ recordsOk (processesOf ws) (threadsOf vs) rs qs
-  unfolding recordsOk
+  pub processes-fail : process_records_ok (processes_of ws) qs ≡ false
+      → false ≡ records_ok (processes_of ws) (threads_of vs) rs qs
+  unfolding records_ok
   processes-fail e =
-      sym (and_right (threadRecordsOk (processesOf ws) (threadsOf vs) rs)
-      (and_left (allWithin (tallies (heldProcesses ws) rs) (tallies (heldProcesses ws) qs)) e))
+      sym (and_right (thread_records_ok (processes_of ws) (threads_of vs) rs)
+      (and_left (all_within (tallies (held_processes ws) rs) (tallies (held_processes ws) qs)) e))
 
-  pub both-counted : (cs ds : List ℕ) → threadRecordsOk (processesOf ws) (threadsOf vs) rs ≡ true
-      → processRecordsOk (processesOf ws) qs ≡ true
-      → cs ≡ tallies (heldProcesses ws) rs → ds ≡ tallies (heldProcesses ws) qs
-      → allWithin cs ds ≡ recordsOk (processesOf ws) (threadsOf vs) rs qs
-  unfolding recordsOk
-  both-counted cs ds t p ec ed = ap₂ allWithin ec ed ∙ rw (t, p)
+  pub both-counted : (cs ds : List ℕ) → thread_records_ok (processes_of ws) (threads_of vs) rs ≡ true
+      → process_records_ok (processes_of ws) qs ≡ true
+      → cs ≡ tallies (held_processes ws) rs → ds ≡ tallies (held_processes ws) qs
+      → all_within cs ds ≡ records_ok (processes_of ws) (threads_of vs) rs qs
+  unfolding records_ok
+  both-counted cs ds t p ec ed = ap₂ all_within ec ed ∙ rw (t, p)

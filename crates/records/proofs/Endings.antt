@@ -8,74 +8,74 @@ use native.Mathlib.Omega.{arith}
 use lib.Dec.{eqb, leb}
 use lib.ListN.{get_or}
 use borrow.Author.Tests.{eqb-true, eq-eqb, ne_eqb, leb-true, leb-false, le-leb, lt-leb, not-true, not-false}
-use Rattle.limits.specs.Limits.{processPlaces, threadPlaces, recordLimit, lastStandard, siQueue}
-use Rattle.limits.specs.Limits.{processId as wordOfId}
+use Rattle.limits.specs.Limits.{process_places, thread_places, record_limit, last_standard, si_queue}
+use Rattle.limits.specs.Limits.{process_id as word_of_id}
 use Rattle.lists.specs.Lists.{any, first, find}
 use Rattle.lists.proofs.Bools.{split, clash, same_test, and_left, and-snd, and-imp, or_cases, or-fst-false}
 use Rattle.lists.proofs.Bools.{or-snd-false}
 use Rattle.lists.proofs.Loops.{find-le}
 use Rattle.lists.proofs.Finds.{found-any, absent-any, any-inside}
 use Rattle.sigset.specs.declared.SigSet.{SigSet}
-use Rattle.sigset.specs.Set.{Signal, bits, has, sum_of, setOf, intersect}
+use Rattle.sigset.specs.Set.{Signal, bits, has, sum_of, set_of, intersect}
 use Rattle.sigset.proofs.Laws.{has-set, has-beyond, has-intersect, intersect-lt}
 use Rattle.types.specs.declared.Siginfo.{Siginfo}
-use Rattle.rules.specs.Types.{Process, Thread, noProcess, noThread}
-use Rattle.rules.specs.Signals.{isSignal, standard, ignored}
-use Rattle.rules.specs.View.{isProcess, isThread, actionOf, liveProcess, liveThread, theProcess, theThread}
-use Rattle.rules.specs.Store.{view, freeProcess, freeThread}
-use Rattle.rules.specs.Sound.{nameable, namesLive, aimedAtThread, aimedAtProcess, recordNotIgnored}
+use Rattle.rules.specs.Types.{Process, Thread, no_process, no_thread}
+use Rattle.rules.specs.Signals.{is_signal, standard, ignored}
+use Rattle.rules.specs.View.{is_process, is_thread, action_of, live_process, live_thread, the_process, the_thread}
+use Rattle.rules.specs.Store.{view, free_process, free_thread}
+use Rattle.rules.specs.Sound.{nameable, names_live, aimed_at_thread, aimed_at_process, record_not_ignored}
 use Rattle.rules.proofs.Ids.{named_live}
 use Rattle.rules.proofs.Marks.{first-held}
 use Rattle.rules.proofs.Signals.{is-signal, signal-is, standard-is, nameable-signal}
-use Rattle.tables.specs.Tables.{processesOf, threadsOf, heldProcesses, heldThreads, processAt, threadAt, headTo}
-use Rattle.tables.proofs.Words.{length-processesOf, length-threadsOf, length-heldProcesses, length-heldThreads}
-use Rattle.soundness.specs.Check.{isDelivered, isFresh, withinAt, bumped, noted, placesView, processPlace, threadPlace}
-use Rattle.soundness.specs.Check.{threadRecordOk, processRecordOk, ignoredBy, ownerPlace, processBy, threadBy}
+use Rattle.tables.specs.Tables.{processes_of, threads_of, held_processes, held_threads, process_at, thread_at, head_to}
+use Rattle.tables.proofs.Words.{length-processes_of, length-threads_of, length-held_processes, length-held_threads}
+use Rattle.soundness.specs.Check.{is_delivered, is_fresh, within_at, bumped, noted, places_view, process_place, thread_place}
+use Rattle.soundness.specs.Check.{thread_record_ok, process_record_ok, ignored_by, owner_place, process_by, thread_by}
 use Rattle.soundness.proofs.Ids.{process-found, thread-found, held_found}
 use Rattle.places.specs.Notes.{ProcessesNoted, ThreadsNoted}
 
 -- ---- one signal against the set of its queue
 
 -- of a set only the standard signals
-standard-set : setOf standard ≡ bits (2 ^ lastStandard - 1)
-unfolding setOf sum_of standard
+standard-set : set_of standard ≡ bits (2 ^ last_standard - 1)
+unfolding set_of sum_of standard
 standard-set = refl
 
-standard-only : (a : SigSet) (s : ℕ) → has (intersect a (bits (2 ^ lastStandard - 1))) s ≡ (standard s && has a s)
+standard-only : (a : SigSet) (s : ℕ) → has (intersect a (bits (2 ^ last_standard - 1))) s ≡ (standard s && has a s)
 standard-only a s =
-    split (isSignal s)
+    split (is_signal s)
     (λ e.
     let g = is-signal s e in
-    has-intersect a (bits (2 ^ lastStandard - 1)) s g
+    has-intersect a (bits (2 ^ last_standard - 1)) s g
     ∙ ap (λ (b : SigSet). has a s && has b s) (sym standard-set)
     ∙ ap (λ b. has a s && b) (has-set standard s g)
     ∙ and_comm (has a s) (standard s))
     (λ e.
     let none : Signal s → ⊥ = λ g. clash (signal-is s g) e in
-    has-beyond (intersect a (bits (2 ^ lastStandard - 1))) s (intersect-lt a (bits (2 ^ lastStandard - 1))) none
+    has-beyond (intersect a (bits (2 ^ last_standard - 1))) s (intersect-lt a (bits (2 ^ last_standard - 1))) none
     ∙ sym (and_left (has a s) (split (standard s) (λ t. clash (standard-is s t) e) (λ t. t))))
 
 pub fresh-by : (seen : List ℕ) (q s : ℕ) {hit : Bool}
-    → hit ≡ has (intersect (bits (get_or seen q 0)) (bits (2 ^ lastStandard - 1))) s
-    → not hit ≡ isFresh seen q s
-unfolding isFresh
+    → hit ≡ has (intersect (bits (get_or seen q 0)) (bits (2 ^ last_standard - 1))) s
+    → not hit ≡ is_fresh seen q s
+unfolding is_fresh
 fresh-by seen q s e = ap not (e ∙ standard-only (bits (get_or seen q 0)) s)
 
 -- ---- two counts against the limit, without adding them up
 
 module _ (cs ds : List ℕ) (i : ℕ) where
-  pub over : recordLimit < get_or cs i 0 → false ≡ withinAt cs ds i
-  unfolding withinAt
-  over h = sym (lt-leb (get_or cs i 0 + get_or ds i 0) recordLimit (omega arith))
+  pub over : record_limit < get_or cs i 0 → false ≡ within_at cs ds i
+  unfolding within_at
+  over h = sym (lt-leb (get_or cs i 0 + get_or ds i 0) record_limit (omega arith))
 
-  pub room-left : get_or cs i 0 ≤ recordLimit → leb (get_or ds i 0) (recordLimit - get_or cs i 0) ≡ withinAt cs ds i
-  unfolding withinAt
+  pub room-left : get_or cs i 0 ≤ record_limit → leb (get_or ds i 0) (record_limit - get_or cs i 0) ≡ within_at cs ds i
+  unfolding within_at
   room-left h =
-      same_test (leb (get_or ds i 0) (recordLimit - get_or cs i 0)) (leb (get_or cs i 0 + get_or ds i 0) recordLimit)
-      (λ e. let k : get_or ds i 0 ≤ recordLimit - get_or cs i 0 = leb-true (get_or ds i 0) (recordLimit - get_or cs i 0) e in
-      le-leb (get_or cs i 0 + get_or ds i 0) recordLimit (omega arith))
-      (λ e. let k : get_or cs i 0 + get_or ds i 0 ≤ recordLimit = leb-true (get_or cs i 0 + get_or ds i 0) recordLimit e in
-      le-leb (get_or ds i 0) (recordLimit - get_or cs i 0) (omega arith))
+      same_test (leb (get_or ds i 0) (record_limit - get_or cs i 0)) (leb (get_or cs i 0 + get_or ds i 0) record_limit)
+      (λ e. let k : get_or ds i 0 ≤ record_limit - get_or cs i 0 = leb-true (get_or ds i 0) (record_limit - get_or cs i 0) e in
+      le-leb (get_or cs i 0 + get_or ds i 0) record_limit (omega arith))
+      (λ e. let k : get_or cs i 0 + get_or ds i 0 ≤ record_limit = leb-true (get_or cs i 0 + get_or ds i 0) record_limit e in
+      le-leb (get_or ds i 0) (record_limit - get_or cs i 0) (omega arith))
 
 -- ---- the shape of the two tests: code, signal, live process, where it is aimed, not ignored
 
@@ -101,187 +101,187 @@ all_there false false h = refl
 
 -- what is noted of the ignored signals tells as the actions do
 delivered : (p : Process) (r : Siginfo)
-    → isDelivered (ignoredBy p) r
-    ≡ (nameable r.signal && (eqb r.code siQueue && not (ignored (actionOf p r.signal) r.signal)))
-unfolding isDelivered ignoredBy
+    → is_delivered (ignored_by p) r
+    ≡ (nameable r.signal && (eqb r.code si_queue && not (ignored (action_of p r.signal) r.signal)))
+unfolding is_delivered ignored_by
 delivered p r =
     and-imp (nameable r.signal)
-    (λ n. ap (λ b. eqb r.code siQueue && not b)
-    (has-set (λ s. ignored (actionOf p s) s) r.signal (nameable-signal r.signal n)))
+    (λ n. ap (λ b. eqb r.code si_queue && not b)
+    (has-set (λ s. ignored (action_of p s) s) r.signal (nameable-signal r.signal n)))
 
 -- ---- a record by the place of its process
 
-module _ (ws : List ℕ) (r : Siginfo) (place : ℕ) (at : place ≡ find (isProcess r.process) (heldProcesses ws)) where
-  its-process : Option.get_or (first (isProcess r.process) (heldProcesses ws)) noProcess ≡ (processAt ws place).holds
+module _ (ws : List ℕ) (r : Siginfo) (place : ℕ) (at : place ≡ find (is_process r.process) (held_processes ws)) where
+  its-process : Option.get_or (first (is_process r.process) (held_processes ws)) no_process ≡ (process_at ws place).holds
   its-process =
-      first-held freeProcess (isProcess r.process) (processesOf ws) ∙ ap (λ k. (processAt ws k).holds) (sym at)
+      first-held free_process (is_process r.process) (processes_of ws) ∙ ap (λ k. (process_at ws k).holds) (sym at)
 
-  no-such-process : processPlaces ≤ place → any (isProcess r.process) (heldProcesses ws) ≡ false
+  no-such-process : process_places ≤ place → any (is_process r.process) (held_processes ws) ≡ false
   no-such-process h =
-      absent-any (isProcess r.process) noProcess (heldProcesses ws) processPlaces place (length-heldProcesses ws) at
-      (omega (arith, at, find-le (isProcess r.process) (heldProcesses ws), length-heldProcesses ws))
+      absent-any (is_process r.process) no_process (held_processes ws) process_places place (length-held_processes ws) at
+      (omega (arith, at, find-le (is_process r.process) (held_processes ws), length-held_processes ws))
 
-  module _ (h : place < processPlaces) where
-    such-process : any (isProcess r.process) (heldProcesses ws) ≡ true
+  module _ (h : place < process_places) where
+    such-process : any (is_process r.process) (held_processes ws) ≡ true
     such-process =
-        found-any (isProcess r.process) noProcess (heldProcesses ws) processPlaces place (length-heldProcesses ws) at
+        found-any (is_process r.process) no_process (held_processes ws) process_places place (length-held_processes ws) at
         (λ e. absurd (omega arith))
 
     -- it is live
-    live-place : not (eqb (processAt ws place).holds.id 0) ≡ true
-    unfolding isProcess
+    live-place : not (eqb (process_at ws place).holds.id 0) ≡ true
+    unfolding is_process
     live-place =
-        ap not (named_live r.process (processAt ws place).holds.id
-        (held_found (isProcess r.process) freeProcess (processesOf ws) place at (rw (length-processesOf ws) h)))
+        ap not (named_live r.process (process_at ws place).holds.id
+        (held_found (is_process r.process) free_process (processes_of ws) place at (rw (length-processes_of ws) h)))
 
 -- ---- a record of the process buffer
 
 module _ (ws ph ignored : List ℕ) (n : ProcessesNoted ws ph ignored) (r : Siginfo) (place : ℕ)
-    (e : place ≡ processBy ph ws r.process) where
-  at-process : place ≡ find (isProcess r.process) (heldProcesses ws)
+    (e : place ≡ process_by ph ws r.process) where
+  at-process : place ≡ find (is_process r.process) (held_processes ws)
   at-process = e ∙ process-found ph ws r.process n.hints.1 (n.one r.process)
 
-  pub process-place : place ≡ processPlace (processesOf ws) r
-  unfolding processPlace
+  pub process-place : place ≡ process_place (processes_of ws) r
+  unfolding process_place
   process-place = at-process
 
   module _ {t : Bool} (z : t ≡ not (eqb r.thread 0)) where
-    pub misaimed : (leb processPlaces place || t) ≡ true → false ≡ processRecordOk (processesOf ws) r
-    unfolding processRecordOk aimedAtProcess namesLive liveProcess view
+    pub misaimed : (leb process_places place || t) ≡ true → false ≡ process_record_ok (processes_of ws) r
+    unfolding process_record_ok aimed_at_process names_live live_process view
     misaimed k =
-        or_cases (leb processPlaces place) t k
-        (λ h. rw (no-such-process ws r place at-process (leb-true processPlaces place h))
-        (no-process (eqb r.code siQueue)
-        (nameable r.signal) (eqb r.thread 0) (recordNotIgnored (placesView (processesOf ws) []) r)))
+        or_cases (leb process_places place) t k
+        (λ h. rw (no-such-process ws r place at-process (leb-true process_places place h))
+        (no-process (eqb r.code si_queue)
+        (nameable r.signal) (eqb r.thread 0) (record_not_ignored (places_view (processes_of ws) []) r)))
         (λ h. rw (not-true (eqb r.thread 0) (sym z ∙ h))
-        (no-aim (namesLive (placesView (processesOf ws) []) r) (recordNotIgnored (placesView (processesOf ws) []) r)))
+        (no-aim (names_live (places_view (processes_of ws) []) r) (record_not_ignored (places_view (processes_of ws) []) r)))
 
-    module _ (k : (leb processPlaces place || t) ≡ false) where
-      pub process-inside : place < processPlaces
-      process-inside = leb-false processPlaces place (or-fst-false (leb processPlaces place) t k)
+    module _ (k : (leb process_places place || t) ≡ false) where
+      pub process-inside : place < process_places
+      process-inside = leb-false process_places place (or-fst-false (leb process_places place) t k)
 
-      pub process-delivered : isDelivered (bits (get_or ignored place 0)) r ≡ processRecordOk (processesOf ws) r
-      unfolding processRecordOk aimedAtProcess namesLive recordNotIgnored liveProcess theProcess view
+      pub process-delivered : is_delivered (bits (get_or ignored place 0)) r ≡ process_record_ok (processes_of ws) r
+      unfolding process_record_ok aimed_at_process names_live record_not_ignored live_process the_process view
       process-delivered =
           let live = such-process ws r place at-process process-inside in
-          let aimed = not-false (eqb r.thread 0) (sym z ∙ or-snd-false (leb processPlaces place) t k) in
-          ap (λ w. isDelivered (bits w) r)
+          let aimed = not-false (eqb r.thread 0) (sym z ∙ or-snd-false (leb process_places place) t k) in
+          ap (λ w. is_delivered (bits w) r)
           (n.ignores place process-inside (live-place ws r place at-process process-inside))
-          ∙ delivered (processAt ws place).holds r
+          ∙ delivered (process_at ws place).holds r
           ∙ rw (live, aimed, its-process ws r place at-process)
-          (all_there (eqb r.code siQueue) (nameable r.signal) _)
+          (all_there (eqb r.code si_queue) (nameable r.signal) _)
 
 -- ---- a record of the thread buffer
 
 module _ (ws vs th ignored owners : List ℕ) (n : ThreadsNoted ws vs th ignored owners) (r : Siginfo) (queue : ℕ)
-    (e : queue ≡ threadBy th vs r.thread) where
-  at-thread : queue ≡ find (isThread r.thread) (heldThreads vs)
-  at-thread = e ∙ thread-found th vs r.thread n.hints.1 (n.oneThread r.thread)
+    (e : queue ≡ thread_by th vs r.thread) where
+  at-thread : queue ≡ find (is_thread r.thread) (held_threads vs)
+  at-thread = e ∙ thread-found th vs r.thread n.hints.1 (n.one_thread r.thread)
 
-  pub thread-place : queue ≡ threadPlace (threadsOf vs) r
-  unfolding threadPlace
+  pub thread-place : queue ≡ thread_place (threads_of vs) r
+  unfolding thread_place
   thread-place = at-thread
 
-  pub lost : threadPlaces ≤ queue → false ≡ threadRecordOk (processesOf ws) (threadsOf vs) r
-  unfolding threadRecordOk aimedAtThread liveThread view
+  pub lost : thread_places ≤ queue → false ≡ thread_record_ok (processes_of ws) (threads_of vs) r
+  unfolding thread_record_ok aimed_at_thread live_thread view
   lost h =
-      let z : queue ≡ threadPlaces =
-      omega (arith, at-thread, find-le (isThread r.thread) (heldThreads vs), length-heldThreads vs) in
-      rw (absent-any (isThread r.thread) noThread (heldThreads vs) threadPlaces queue (length-heldThreads vs)
+      let z : queue ≡ thread_places =
+      omega (arith, at-thread, find-le (is_thread r.thread) (held_threads vs), length-held_threads vs) in
+      rw (absent-any (is_thread r.thread) no_thread (held_threads vs) thread_places queue (length-held_threads vs)
       at-thread z)
-      (no-aim (namesLive (placesView (processesOf ws) (threadsOf vs)) r)
-      (recordNotIgnored (placesView (processesOf ws) (threadsOf vs)) r))
+      (no-aim (names_live (places_view (processes_of ws) (threads_of vs)) r)
+      (record_not_ignored (places_view (processes_of ws) (threads_of vs)) r))
 
-  module _ (h : queue < threadPlaces) where
-    abbrev itsThread : Thread
-    itsThread = (threadAt vs queue).holds
+  module _ (h : queue < thread_places) where
+    abbrev its_thread : Thread
+    its_thread = (thread_at vs queue).holds
 
-    its-thread : Option.get_or (first (isThread r.thread) (heldThreads vs)) noThread ≡ itsThread
+    its-thread : Option.get_or (first (is_thread r.thread) (held_threads vs)) no_thread ≡ its_thread
     its-thread =
-        first-held freeThread (isThread r.thread) (threadsOf vs) ∙ ap (λ k. (threadAt vs k).holds) (sym at-thread)
+        first-held free_thread (is_thread r.thread) (threads_of vs) ∙ ap (λ k. (thread_at vs k).holds) (sym at-thread)
 
-    such-thread : any (isThread r.thread) (heldThreads vs) ≡ true
+    such-thread : any (is_thread r.thread) (held_threads vs) ≡ true
     such-thread =
-        found-any (isThread r.thread) noThread (heldThreads vs) threadPlaces queue (length-heldThreads vs) at-thread
+        found-any (is_thread r.thread) no_thread (held_threads vs) thread_places queue (length-held_threads vs) at-thread
         (λ z. absurd (omega arith))
 
-    live-thread : not (eqb itsThread.id 0) ≡ true
-    unfolding isThread
+    live-thread : not (eqb its_thread.id 0) ≡ true
+    unfolding is_thread
     live-thread =
-        ap not (named_live r.thread itsThread.id
-        (held_found (isThread r.thread) freeThread (threadsOf vs) queue at-thread (rw (length-threadsOf vs) h)))
+        ap not (named_live r.thread its_thread.id
+        (held_found (is_thread r.thread) free_thread (threads_of vs) queue at-thread (rw (length-threads_of vs) h)))
 
     -- the place of its process
     abbrev place : ℕ
     place = get_or owners queue 0
 
-    at-owner : place ≡ find (isProcess itsThread.process) (heldProcesses ws)
-    unfolding ownerPlace
+    at-owner : place ≡ find (is_process its_thread.process) (held_processes ws)
+    unfolding owner_place
     at-owner = n.owner queue h live-thread
 
-    owner-inside : place < processPlaces
+    owner-inside : place < process_places
     owner-inside =
         rw at-owner
-        (any-inside (isProcess itsThread.process) (heldProcesses ws) processPlaces (length-heldProcesses ws)
+        (any-inside (is_process its_thread.process) (held_processes ws) process_places (length-held_processes ws)
         (n.owned queue h live-thread))
 
-    owner-id : (processAt ws place).holds.id ≡ itsThread.process
-    unfolding isProcess
+    owner-id : (process_at ws place).holds.id ≡ its_thread.process
+    unfolding is_process
     owner-id =
-        let p : ℕ = itsThread.process in
-        eqb-true (processAt ws place).holds.id p
-        (and-snd (not (eqb p 0)) (eqb (processAt ws place).holds.id p)
-        (held_found (isProcess p) freeProcess (processesOf ws) place at-owner
-        (rw (length-processesOf ws) owner-inside)))
+        let p : ℕ = its_thread.process in
+        eqb-true (process_at ws place).holds.id p
+        (and-snd (not (eqb p 0)) (eqb (process_at ws place).holds.id p)
+        (held_found (is_process p) free_process (processes_of ws) place at-owner
+        (rw (length-processes_of ws) owner-inside)))
 
-    module _ (w : ℕ) (ew : w ≡ get_or (headTo (processAt ws place)) wordOfId 0) where
-      its-owner : itsThread.process ≡ w
-      unfolding headTo
+    module _ (w : ℕ) (ew : w ≡ get_or (head_to (process_at ws place)) word_of_id 0) where
+      its-owner : its_thread.process ≡ w
+      unfolding head_to
       its-owner = sym (ew ∙ owner-id)
 
-      of-thread : (theThread (placesView (processesOf ws) (threadsOf vs)) r.thread).process ≡ w
-      unfolding theThread view
+      of-thread : (the_thread (places_view (processes_of ws) (threads_of vs)) r.thread).process ≡ w
+      unfolding the_thread view
       of-thread = ap (λ (t : Thread). t.process) its-thread ∙ its-owner
 
-      of-another : (w ≡ r.process → ⊥) → false ≡ threadRecordOk (processesOf ws) (threadsOf vs) r
-      unfolding threadRecordOk aimedAtThread
+      of-another : (w ≡ r.process → ⊥) → false ≡ thread_record_ok (processes_of ws) (threads_of vs) r
+      unfolding thread_record_ok aimed_at_thread
       of-another z =
           rw (of-thread, ne_eqb w r.process z)
-          (no-aim-there (namesLive (placesView (processesOf ws) (threadsOf vs)) r)
-          (liveThread (placesView (processesOf ws) (threadsOf vs)) r.thread)
-          (recordNotIgnored (placesView (processesOf ws) (threadsOf vs)) r))
+          (no-aim-there (names_live (places_view (processes_of ws) (threads_of vs)) r)
+          (live_thread (places_view (processes_of ws) (threads_of vs)) r.thread)
+          (record_not_ignored (places_view (processes_of ws) (threads_of vs)) r))
 
       module _ (z : w ≡ r.process) where
-        at_place : place ≡ find (isProcess r.process) (heldProcesses ws)
-        at_place = at-owner ∙ ap (λ k. find (isProcess k) (heldProcesses ws)) (its-owner ∙ z)
+        at_place : place ≡ find (is_process r.process) (held_processes ws)
+        at_place = at-owner ∙ ap (λ k. find (is_process k) (held_processes ws)) (its-owner ∙ z)
 
-        owner-place : place ≡ processPlace (processesOf ws) r
-        unfolding processPlace
+        owner-place : place ≡ process_place (processes_of ws) r
+        unfolding process_place
         owner-place = at_place
 
-        thread-delivered : isDelivered (bits (get_or ignored place 0)) r
-            ≡ threadRecordOk (processesOf ws) (threadsOf vs) r
-        unfolding threadRecordOk aimedAtThread namesLive recordNotIgnored liveProcess liveThread theProcess view
+        thread-delivered : is_delivered (bits (get_or ignored place 0)) r
+            ≡ thread_record_ok (processes_of ws) (threads_of vs) r
+        unfolding thread_record_ok aimed_at_thread names_live record_not_ignored live_process live_thread the_process view
         thread-delivered =
             let live = such-process ws r place at_place owner-inside in
-            ap (λ k. isDelivered (bits k) r) (n.ignores place owner-inside (live-place ws r place at_place
+            ap (λ k. is_delivered (bits k) r) (n.ignores place owner-inside (live-place ws r place at_place
             owner-inside))
-            ∙ delivered (processAt ws place).holds r
+            ∙ delivered (process_at ws place).holds r
             ∙ rw (live, such-thread, of-thread, eq-eqb w r.process z, its-process ws r place at_place)
-            (all_there (eqb r.code siQueue) (nameable r.signal) _)
+            (all_there (eqb r.code si_queue) (nameable r.signal) _)
 
 -- what the place of a thread that was found tells of the record
 pub record ThreadFound (ws vs ignored owners : List ℕ) (r : Siginfo) (queue : ℕ) : Type 0 where
-  pub inside : get_or owners queue 0 < processPlaces
-  pub another : (w : ℕ) → w ≡ get_or (headTo (processAt ws (get_or owners queue 0))) wordOfId 0 → (w ≡ r.process → ⊥)
-      → threadRecordOk (processesOf ws) (threadsOf vs) r ≡ false
-  pub place : (w : ℕ) → w ≡ get_or (headTo (processAt ws (get_or owners queue 0))) wordOfId 0 → w ≡ r.process
-      → get_or owners queue 0 ≡ processPlace (processesOf ws) r
-  pub delivery : (w : ℕ) → w ≡ get_or (headTo (processAt ws (get_or owners queue 0))) wordOfId 0 → w ≡ r.process
-      → threadRecordOk (processesOf ws) (threadsOf vs) r ≡ isDelivered (bits (get_or ignored (get_or owners queue 0) 0)) r
+  pub inside : get_or owners queue 0 < process_places
+  pub another : (w : ℕ) → w ≡ get_or (head_to (process_at ws (get_or owners queue 0))) word_of_id 0 → (w ≡ r.process → ⊥)
+      → thread_record_ok (processes_of ws) (threads_of vs) r ≡ false
+  pub place : (w : ℕ) → w ≡ get_or (head_to (process_at ws (get_or owners queue 0))) word_of_id 0 → w ≡ r.process
+      → get_or owners queue 0 ≡ process_place (processes_of ws) r
+  pub delivery : (w : ℕ) → w ≡ get_or (head_to (process_at ws (get_or owners queue 0))) word_of_id 0 → w ≡ r.process
+      → thread_record_ok (processes_of ws) (threads_of vs) r ≡ is_delivered (bits (get_or ignored (get_or owners queue 0) 0)) r
 
 pub found : (ws vs th ignored owners : List ℕ) (n : ThreadsNoted ws vs th ignored owners) (r : Siginfo) (queue : ℕ)
-    → queue ≡ threadBy th vs r.thread → queue < threadPlaces
+    → queue ≡ thread_by th vs r.thread → queue < thread_places
     → ThreadFound ws vs ignored owners r queue
 found ws vs th ignored owners n r queue e h =
     record {
@@ -294,9 +294,9 @@ found ws vs th ignored owners n r queue e h =
 -- what `admit` did, said of the places that the record names
 module _ (seen counts : List ℕ) (s : ℕ) {ok h : Bool} {place place' queue queue' : ℕ} {seen' counts' : List ℕ} where
   pub admitted : ok ≡ true → place ≡ place' → queue ≡ queue'
-      → (h ≡ isFresh seen queue s)
+      → (h ≡ is_fresh seen queue s)
       × ((counts' ≡ cond h (bumped counts place) counts) × (seen' ≡ cond h (noted seen queue s) seen))
-      → (h ≡ (ok && isFresh seen queue' s))
+      → (h ≡ (ok && is_fresh seen queue' s))
       × ((counts' ≡ cond h (bumped counts place') counts) × (seen' ≡ cond h (noted seen queue' s) seen))
   admitted e p q k = (
     k.0 ∙ rw (e, q),

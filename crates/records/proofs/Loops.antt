@@ -7,63 +7,63 @@ use Prim.Native.Nat.{ℕ, ◌+◌, ◌≤◌, ◌<◌}
 use native.Mathlib.Omega.{arith}
 use lib.ListN.{length, get_or, take, length-map}
 use lib.Seq.{length-take-le, take_all}
-use Rattle.limits.specs.Limits.{processPlaces, threadPlaces, recordBytes}
+use Rattle.limits.specs.Limits.{process_places, thread_places, record_bytes}
 use Rattle.lists.specs.Lists.{count}
 use Rattle.lists.specs.Rows.{row}
 use Rattle.lists.proofs.Bools.{clash, and-fst, and-snd}
 use Rattle.types.specs.declared.Siginfo.{Siginfo}
-use Rattle.types.specs.Values.{noSiginfo}
-use Rattle.siginfo.specs.Bytes.{siginfoOf}
+use Rattle.types.specs.Values.{no_siginfo}
+use Rattle.siginfo.specs.Bytes.{siginfo_of}
 use Rattle.rules.specs.Types.{Process}
-use Rattle.rules.specs.View.{isThread, threadQueue}
-use Rattle.rules.specs.Store.{ofProcess}
-use Rattle.queue.specs.Queue.{recordsOf}
-use Rattle.queue.proofs.Buffer.{length-recordsOf, record-read}
-use Rattle.tables.specs.Tables.{processesOf, threadsOf, heldProcesses, heldThreads}
-use Rattle.tables.proofs.Words.{length-processesOf, length-threadsOf, length-heldProcesses}
-use Rattle.soundness.specs.Check.{tallies, seenBy, seenSets, ownQueue, isFresh, bumped, noted, smallCounts}
-use Rattle.soundness.specs.Check.{onePlace, processPlace, threadPlace, threadRecordOk, processRecordOk, threadRecordsOk}
-use Rattle.soundness.specs.Check.{processRecordsOk}
+use Rattle.rules.specs.View.{is_thread, thread_queue}
+use Rattle.rules.specs.Store.{of_process}
+use Rattle.queue.specs.Queue.{records_of}
+use Rattle.queue.proofs.Buffer.{length-records_of, record-read}
+use Rattle.tables.specs.Tables.{processes_of, threads_of, held_processes, held_threads}
+use Rattle.tables.proofs.Words.{length-processes_of, length-threads_of, length-held_processes}
+use Rattle.soundness.specs.Check.{tallies, seen_by, seen_sets, own_queue, is_fresh, bumped, noted, small_counts}
+use Rattle.soundness.specs.Check.{one_place, process_place, thread_place, thread_record_ok, process_record_ok, thread_records_ok}
+use Rattle.soundness.specs.Check.{process_records_ok}
 use Rattle.soundness.proofs.Passes.{tally-bound}
 use Rattle.soundness.proofs.Turns as turn
 
 -- what was read is the record at i
-this-record : (b : List ℕ) (i : ℕ) (r : Siginfo) → i < length (recordsOf b) → r ≡ siginfoOf (row recordBytes b i)
-    → r ≡ get_or (recordsOf b) i noSiginfo
-this-record b i r l e = e ∙ sym (record-read b i noSiginfo l)
+this-record : (b : List ℕ) (i : ℕ) (r : Siginfo) → i < length (records_of b) → r ≡ siginfo_of (row record_bytes b i)
+    → r ≡ get_or (records_of b) i no_siginfo
+this-record b i r l e = e ∙ sym (record-read b i no_siginfo l)
 
 -- after i records: they are counted, their signals noted, and all of them passed
-pub record Pass (ps : List Process) (seenOf : List Siginfo → List ℕ) (passes : List Siginfo → Bool) (rs : List Siginfo)
+pub record Pass (ps : List Process) (seen_of : List Siginfo → List ℕ) (passes : List Siginfo → Bool) (rs : List Siginfo)
     (counts seen : List ℕ) (i : ℕ) : Type 0 where
   pub counted : counts ≡ tallies ps (take i rs)
-  pub noticed : seen ≡ seenOf (take i rs)
+  pub noticed : seen ≡ seen_of (take i rs)
   pub passed : passes (take i rs) ≡ true
 
-module _ (ps : List ℕ) (seenOf : List Siginfo → List ℕ) (passes : List Siginfo → Bool) (b : List ℕ)
-    (counts seen : List ℕ) (i : ℕ) (k : Pass (heldProcesses ps) seenOf passes (recordsOf b) counts seen i) where
-  counts-long : length counts ≡ processPlaces
+module _ (ps : List ℕ) (seen_of : List Siginfo → List ℕ) (passes : List Siginfo → Bool) (b : List ℕ)
+    (counts seen : List ℕ) (i : ℕ) (k : Pass (held_processes ps) seen_of passes (records_of b) counts seen i) where
+  counts-long : length counts ≡ process_places
   unfolding tallies
   counts-long =
       ap length k.counted
-      ∙ length-map (heldProcesses ps) (λ (p : Process). count (ofProcess p.id) (take i (recordsOf b)))
-      ∙ length-heldProcesses ps
+      ∙ length-map (held_processes ps) (λ (p : Process). count (of_process p.id) (take i (records_of b)))
+      ∙ length-held_processes ps
 
-  counts-small : i ≤ length (recordsOf b) → smallCounts counts
+  counts-small : i ≤ length (records_of b) → small_counts counts
   counts-small l p =
-      let a : get_or counts p 0 ≤ length (take i (recordsOf b)) =
-      rw k.counted (tally-bound (heldProcesses ps) (take i (recordsOf b)) p) in
-      let e : length (take i (recordsOf b)) ≡ i = length-take-le i (recordsOf b) l in
-      let n = length-recordsOf b in
+      let a : get_or counts p 0 ≤ length (take i (records_of b)) =
+      rw k.counted (tally-bound (held_processes ps) (take i (records_of b)) p) in
+      let e : length (take i (records_of b)) ≡ i = length-take-le i (records_of b) l in
+      let n = length-records_of b in
       omega arith
 
   -- one record more
   module _ (counts' seen' : List ℕ) (p q s : ℕ) {h : Bool} (y : h ≡ true) where
     one_more : counts' ≡ cond h (bumped counts p) counts → seen' ≡ cond h (noted seen q s) seen
-        → bumped (tallies (heldProcesses ps) (take i (recordsOf b))) p
-        ≡ tallies (heldProcesses ps) (take (i + 1) (recordsOf b))
-        → noted (seenOf (take i (recordsOf b))) q s ≡ seenOf (take (i + 1) (recordsOf b))
-        → passes (take (i + 1) (recordsOf b)) ≡ true
-        → Pass (heldProcesses ps) seenOf passes (recordsOf b) counts' seen' (i + 1)
+        → bumped (tallies (held_processes ps) (take i (records_of b))) p
+        ≡ tallies (held_processes ps) (take (i + 1) (records_of b))
+        → noted (seen_of (take i (records_of b))) q s ≡ seen_of (take (i + 1) (records_of b))
+        → passes (take (i + 1) (records_of b)) ≡ true
+        → Pass (held_processes ps) seen_of passes (records_of b) counts' seen' (i + 1)
     one_more ec es tc ts ok =
         record {
           counted = ec ∙ ap (λ t. cond t (bumped counts p) counts) y ∙ ap (λ l. bumped l p) k.counted ∙ tc;
@@ -76,132 +76,132 @@ module _ (ps : List ℕ) (seenOf : List Siginfo → List ℕ) (passes : List Sig
 module _ (ps ts b : List ℕ) where
   abbrev pub ThreadPass : List ℕ → List ℕ → ℕ → Type 0
   ThreadPass =
-      Pass (heldProcesses ps) (seenSets threadQueue (threadsOf ts)) (threadRecordsOk (processesOf ps) (threadsOf ts))
-      (recordsOf b)
+      Pass (held_processes ps) (seen_sets thread_queue (threads_of ts)) (thread_records_ok (processes_of ps) (threads_of ts))
+      (records_of b)
 
-  pub thread-start : (counts seen : List ℕ) → counts ≡ tallies (heldProcesses ps) []
-      → seen ≡ seenSets threadQueue (threadsOf ts) []
+  pub thread-start : (counts seen : List ℕ) → counts ≡ tallies (held_processes ps) []
+      → seen ≡ seen_sets thread_queue (threads_of ts) []
       → ThreadPass counts seen 0
   thread-start counts seen c s =
-      record { counted = c; noticed = s; passed = turn.thread-none (processesOf ps) (threadsOf ts) (recordsOf b) }
+      record { counted = c; noticed = s; passed = turn.thread-none (processes_of ps) (threads_of ts) (records_of b) }
 
-  pub thread-end : (counts seen : List ℕ) (i : ℕ) → length (recordsOf b) ≤ i → ThreadPass counts seen i
-      → (true ≡ threadRecordsOk (processesOf ps) (threadsOf ts) (recordsOf b))
-      × (true ≡ true → counts ≡ tallies (heldProcesses ps) (recordsOf b))
+  pub thread-end : (counts seen : List ℕ) (i : ℕ) → length (records_of b) ≤ i → ThreadPass counts seen i
+      → (true ≡ thread_records_ok (processes_of ps) (threads_of ts) (records_of b))
+      × (true ≡ true → counts ≡ tallies (held_processes ps) (records_of b))
   thread-end counts seen i h k = (
-    sym (turn.thread-done (processesOf ps) (threadsOf ts) (recordsOf b) i h k.passed),
-    λ _. k.counted ∙ ap (tallies (heldProcesses ps)) (take_all i (recordsOf b) h),
+    sym (turn.thread-done (processes_of ps) (threads_of ts) (records_of b) i h k.passed),
+    λ _. k.counted ∙ ap (tallies (held_processes ps)) (take_all i (records_of b) h),
   )
 
-  module _ (counts seen : List ℕ) (i : ℕ) (k : ThreadPass counts seen i) (l : i < length (recordsOf b)) where
+  module _ (counts seen : List ℕ) (i : ℕ) (k : ThreadPass counts seen i) (l : i < length (records_of b)) where
     -- what the turn asks
-    pub thread-ready : ((length counts ≡ processPlaces) × (length seen ≡ threadPlaces)) × smallCounts counts
-    unfolding seenSets
+    pub thread-ready : ((length counts ≡ process_places) × (length seen ≡ thread_places)) × small_counts counts
+    unfolding seen_sets
     thread-ready =
-        let seenOf = seenSets threadQueue (threadsOf ts) in
-        let passes = threadRecordsOk (processesOf ps) (threadsOf ts) in (
+        let seen_of = seen_sets thread_queue (threads_of ts) in
+        let passes = thread_records_ok (processes_of ps) (threads_of ts) in (
           (
-            counts-long ps seenOf passes b counts seen i k,
-            ap length k.noticed ∙ length-map (threadsOf ts) (seenBy threadQueue (take i (recordsOf b)))
-                ∙ length-threadsOf ts,
+            counts-long ps seen_of passes b counts seen i k,
+            ap length k.noticed ∙ length-map (threads_of ts) (seen_by thread_queue (take i (records_of b)))
+                ∙ length-threads_of ts,
           ),
-          counts-small ps seenOf passes b counts seen i k (omega arith),
+          counts-small ps seen_of passes b counts seen i k (omega arith),
         )
 
-    module _ (r : Siginfo) {h : Bool} (e : r ≡ siginfoOf (row recordBytes b i))
-        (he : h ≡ (threadRecordOk (processesOf ps) (threadsOf ts) r
-        && isFresh seen (threadPlace (threadsOf ts) r) r.signal)) where
+    module _ (r : Siginfo) {h : Bool} (e : r ≡ siginfo_of (row record_bytes b i))
+        (he : h ≡ (thread_record_ok (processes_of ps) (threads_of ts) r
+        && is_fresh seen (thread_place (threads_of ts) r) r.signal)) where
       -- its freshness, said of the records before it
-      fresh-thread : isFresh seen (threadPlace (threadsOf ts) r) r.signal
-          ≡ isFresh (seenSets threadQueue (threadsOf ts) (take i (recordsOf b)))
-          (threadPlace (threadsOf ts) r) r.signal
-      fresh-thread = ap (λ m. isFresh m (threadPlace (threadsOf ts) r) r.signal) k.noticed
+      fresh-thread : is_fresh seen (thread_place (threads_of ts) r) r.signal
+          ≡ is_fresh (seen_sets thread_queue (threads_of ts) (take i (records_of b)))
+          (thread_place (threads_of ts) r) r.signal
+      fresh-thread = ap (λ m. is_fresh m (thread_place (threads_of ts) r) r.signal) k.noticed
 
       pub thread-fails : {X : Type 0} → h ≡ false
-          → (false ≡ threadRecordsOk (processesOf ps) (threadsOf ts) (recordsOf b)) × (false ≡ true → X)
+          → (false ≡ thread_records_ok (processes_of ps) (threads_of ts) (records_of b)) × (false ≡ true → X)
       thread-fails n = (
-        sym (turn.thread-fails (processesOf ps) (threadsOf ts) (recordsOf b) i r l (this-record b i r l e)
-            (ap (λ t. threadRecordOk (processesOf ps) (threadsOf ts) r && t) (sym fresh-thread) ∙ sym he ∙ n)),
+        sym (turn.thread-fails (processes_of ps) (threads_of ts) (records_of b) i r l (this-record b i r l e)
+            (ap (λ t. thread_record_ok (processes_of ps) (threads_of ts) r && t) (sym fresh-thread) ∙ sym he ∙ n)),
         λ f. clash f refl,
       )
 
-      pub thread-next : (counts' seen' : List ℕ) → onePlace (heldProcesses ps)
-          → ((n : ℕ) → count (isThread n) (heldThreads ts) ≤ 1) → h ≡ true
-          → counts' ≡ cond h (bumped counts (processPlace (processesOf ps) r)) counts
-          → seen' ≡ cond h (noted seen (threadPlace (threadsOf ts) r) r.signal) seen
+      pub thread-next : (counts' seen' : List ℕ) → one_place (held_processes ps)
+          → ((n : ℕ) → count (is_thread n) (held_threads ts) ≤ 1) → h ≡ true
+          → counts' ≡ cond h (bumped counts (process_place (processes_of ps) r)) counts
+          → seen' ≡ cond h (noted seen (thread_place (threads_of ts) r) r.signal) seen
           → ThreadPass counts' seen' (i + 1)
       thread-next counts' seen' one single y ec es =
-          let xs = processesOf ps in
-          let ys = threadsOf ts in
-          let ok = and-fst (threadRecordOk xs ys r) (isFresh seen (threadPlace ys r) r.signal) (sym he ∙ y) in
-          let new = and-snd (threadRecordOk xs ys r) (isFresh seen (threadPlace ys r) r.signal) (sym he ∙ y) in
-          one_more ps (seenSets threadQueue ys) (threadRecordsOk xs ys) b counts seen i k counts' seen'
-          (processPlace xs r) (threadPlace ys r) r.signal y ec es
-          (turn.thread-tally xs ys (recordsOf b) i r l (this-record b i r l e) ok (one r.process))
-          (turn.thread-step xs ys (recordsOf b) i r l (this-record b i r l e) ok (single r.thread))
-          (turn.thread-more xs ys (recordsOf b) i r l (this-record b i r l e) ok k.passed (sym fresh-thread ∙ new))
+          let xs = processes_of ps in
+          let ys = threads_of ts in
+          let ok = and-fst (thread_record_ok xs ys r) (is_fresh seen (thread_place ys r) r.signal) (sym he ∙ y) in
+          let new = and-snd (thread_record_ok xs ys r) (is_fresh seen (thread_place ys r) r.signal) (sym he ∙ y) in
+          one_more ps (seen_sets thread_queue ys) (thread_records_ok xs ys) b counts seen i k counts' seen'
+          (process_place xs r) (thread_place ys r) r.signal y ec es
+          (turn.thread-tally xs ys (records_of b) i r l (this-record b i r l e) ok (one r.process))
+          (turn.thread-step xs ys (records_of b) i r l (this-record b i r l e) ok (single r.thread))
+          (turn.thread-more xs ys (records_of b) i r l (this-record b i r l e) ok k.passed (sym fresh-thread ∙ new))
 
 -- ---- the process buffer
 
 module _ (ps b : List ℕ) where
   abbrev pub ProcessPass : List ℕ → List ℕ → ℕ → Type 0
   ProcessPass =
-      Pass (heldProcesses ps) (seenSets ownQueue (processesOf ps)) (processRecordsOk (processesOf ps)) (recordsOf b)
+      Pass (held_processes ps) (seen_sets own_queue (processes_of ps)) (process_records_ok (processes_of ps)) (records_of b)
 
-  pub process-start : (counts seen : List ℕ) → counts ≡ tallies (heldProcesses ps) []
-      → seen ≡ seenSets ownQueue (processesOf ps) []
+  pub process-start : (counts seen : List ℕ) → counts ≡ tallies (held_processes ps) []
+      → seen ≡ seen_sets own_queue (processes_of ps) []
       → ProcessPass counts seen 0
   process-start counts seen c s =
-      record { counted = c; noticed = s; passed = turn.process-none (processesOf ps) (recordsOf b) }
+      record { counted = c; noticed = s; passed = turn.process-none (processes_of ps) (records_of b) }
 
-  pub process-end : (counts seen : List ℕ) (i : ℕ) → length (recordsOf b) ≤ i → ProcessPass counts seen i
-      → (true ≡ processRecordsOk (processesOf ps) (recordsOf b))
-      × (true ≡ true → counts ≡ tallies (heldProcesses ps) (recordsOf b))
+  pub process-end : (counts seen : List ℕ) (i : ℕ) → length (records_of b) ≤ i → ProcessPass counts seen i
+      → (true ≡ process_records_ok (processes_of ps) (records_of b))
+      × (true ≡ true → counts ≡ tallies (held_processes ps) (records_of b))
   process-end counts seen i h k = (
-    sym (turn.process-done (processesOf ps) (recordsOf b) i h k.passed),
-    λ _. k.counted ∙ ap (tallies (heldProcesses ps)) (take_all i (recordsOf b) h),
+    sym (turn.process-done (processes_of ps) (records_of b) i h k.passed),
+    λ _. k.counted ∙ ap (tallies (held_processes ps)) (take_all i (records_of b) h),
   )
 
-  module _ (counts seen : List ℕ) (i : ℕ) (k : ProcessPass counts seen i) (l : i < length (recordsOf b)) where
-    pub process-ready : ((length counts ≡ processPlaces) × (length seen ≡ processPlaces)) × smallCounts counts
-    unfolding seenSets
+  module _ (counts seen : List ℕ) (i : ℕ) (k : ProcessPass counts seen i) (l : i < length (records_of b)) where
+    pub process-ready : ((length counts ≡ process_places) × (length seen ≡ process_places)) × small_counts counts
+    unfolding seen_sets
     process-ready =
-        let seenOf = seenSets ownQueue (processesOf ps) in
-        let passes = processRecordsOk (processesOf ps) in (
+        let seen_of = seen_sets own_queue (processes_of ps) in
+        let passes = process_records_ok (processes_of ps) in (
           (
-            counts-long ps seenOf passes b counts seen i k,
-            ap length k.noticed ∙ length-map (processesOf ps) (seenBy ownQueue (take i (recordsOf b)))
-                ∙ length-processesOf ps,
+            counts-long ps seen_of passes b counts seen i k,
+            ap length k.noticed ∙ length-map (processes_of ps) (seen_by own_queue (take i (records_of b)))
+                ∙ length-processes_of ps,
           ),
-          counts-small ps seenOf passes b counts seen i k (omega arith),
+          counts-small ps seen_of passes b counts seen i k (omega arith),
         )
 
-    module _ (r : Siginfo) {h : Bool} (e : r ≡ siginfoOf (row recordBytes b i))
+    module _ (r : Siginfo) {h : Bool} (e : r ≡ siginfo_of (row record_bytes b i))
         (he : h
-        ≡ (processRecordOk (processesOf ps) r && isFresh seen (processPlace (processesOf ps) r) r.signal)) where
-      fresh-process : isFresh seen (processPlace (processesOf ps) r) r.signal
-          ≡ isFresh (seenSets ownQueue (processesOf ps) (take i (recordsOf b)))
-          (processPlace (processesOf ps) r) r.signal
-      fresh-process = ap (λ m. isFresh m (processPlace (processesOf ps) r) r.signal) k.noticed
+        ≡ (process_record_ok (processes_of ps) r && is_fresh seen (process_place (processes_of ps) r) r.signal)) where
+      fresh-process : is_fresh seen (process_place (processes_of ps) r) r.signal
+          ≡ is_fresh (seen_sets own_queue (processes_of ps) (take i (records_of b)))
+          (process_place (processes_of ps) r) r.signal
+      fresh-process = ap (λ m. is_fresh m (process_place (processes_of ps) r) r.signal) k.noticed
 
       pub process-fails : {X : Type 0} → h ≡ false
-          → (false ≡ processRecordsOk (processesOf ps) (recordsOf b)) × (false ≡ true → X)
+          → (false ≡ process_records_ok (processes_of ps) (records_of b)) × (false ≡ true → X)
       process-fails n = (
-        sym (turn.process-fails (processesOf ps) (recordsOf b) i r l (this-record b i r l e)
-            (ap (λ t. processRecordOk (processesOf ps) r && t) (sym fresh-process) ∙ sym he ∙ n)),
+        sym (turn.process-fails (processes_of ps) (records_of b) i r l (this-record b i r l e)
+            (ap (λ t. process_record_ok (processes_of ps) r && t) (sym fresh-process) ∙ sym he ∙ n)),
         λ f. clash f refl,
       )
 
-      pub process-next : (counts' seen' : List ℕ) → onePlace (heldProcesses ps) → h ≡ true
-          → counts' ≡ cond h (bumped counts (processPlace (processesOf ps) r)) counts
-          → seen' ≡ cond h (noted seen (processPlace (processesOf ps) r) r.signal) seen
+      pub process-next : (counts' seen' : List ℕ) → one_place (held_processes ps) → h ≡ true
+          → counts' ≡ cond h (bumped counts (process_place (processes_of ps) r)) counts
+          → seen' ≡ cond h (noted seen (process_place (processes_of ps) r) r.signal) seen
           → ProcessPass counts' seen' (i + 1)
       process-next counts' seen' one y ec es =
-          let xs = processesOf ps in
-          let ok = and-fst (processRecordOk xs r) (isFresh seen (processPlace xs r) r.signal) (sym he ∙ y) in
-          let new = and-snd (processRecordOk xs r) (isFresh seen (processPlace xs r) r.signal) (sym he ∙ y) in
-          one_more ps (seenSets ownQueue xs) (processRecordsOk xs) b counts seen i k counts' seen' (processPlace xs r)
-          (processPlace xs r) r.signal y ec es
-          (turn.process-tally xs (recordsOf b) i r l (this-record b i r l e) ok (one r.process))
-          (turn.process-step xs (recordsOf b) i r l (this-record b i r l e) ok (one r.process))
-          (turn.process-more xs (recordsOf b) i r l (this-record b i r l e) ok k.passed (sym fresh-process ∙ new))
+          let xs = processes_of ps in
+          let ok = and-fst (process_record_ok xs r) (is_fresh seen (process_place xs r) r.signal) (sym he ∙ y) in
+          let new = and-snd (process_record_ok xs r) (is_fresh seen (process_place xs r) r.signal) (sym he ∙ y) in
+          one_more ps (seen_sets own_queue xs) (process_records_ok xs) b counts seen i k counts' seen' (process_place xs r)
+          (process_place xs r) r.signal y ec es
+          (turn.process-tally xs (records_of b) i r l (this-record b i r l e) ok (one r.process))
+          (turn.process-step xs (records_of b) i r l (this-record b i r l e) ok (one r.process))
+          (turn.process-more xs (records_of b) i r l (this-record b i r l e) ok k.passed (sym fresh-process ∙ new))

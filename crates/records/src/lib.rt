@@ -1,14 +1,14 @@
 // Is each record of the two buffers sound? The second half of the test of the whole store: one pass over each buffer,
 // held against what was noted of the places.
 ghost use Rattle.std.specs.Prelude.{◌≡◌, true, ◌&&◌, cond, [], ◌≤◌, ◌<◌, length, get_or};
-ghost use Rattle.limits.specs.Limits.{processPlaces, processTable, threadPlaces, threadTable, bufferRecords};
-ghost use Rattle.limits.specs.Limits.{bufferBytes};
-ghost use Rattle.rules.specs.View.{threadQueue};
-ghost use Rattle.queue.specs.Queue.{recordsOf};
-ghost use Rattle.tables.specs.Tables.{processesOf, threadsOf, heldProcesses};
-ghost use Rattle.soundness.specs.Check.{tallies, seenSets, ownQueue, isFresh, isDelivered, bumped, noted};
-ghost use Rattle.soundness.specs.Check.{smallCounts, processPlace, threadPlace, threadRecordOk, processRecordOk};
-ghost use Rattle.soundness.specs.Check.{threadRecordsOk, processRecordsOk, withinAt, allWithin, recordsOk};
+ghost use Rattle.limits.specs.Limits.{process_places, process_table, thread_places, thread_table, buffer_records};
+ghost use Rattle.limits.specs.Limits.{buffer_bytes};
+ghost use Rattle.rules.specs.View.{thread_queue};
+ghost use Rattle.queue.specs.Queue.{records_of};
+ghost use Rattle.tables.specs.Tables.{processes_of, threads_of, held_processes};
+ghost use Rattle.soundness.specs.Check.{tallies, seen_sets, own_queue, is_fresh, is_delivered, bumped, noted};
+ghost use Rattle.soundness.specs.Check.{small_counts, process_place, thread_place, thread_record_ok, process_record_ok};
+ghost use Rattle.soundness.specs.Check.{thread_records_ok, process_records_ok, within_at, all_within, records_ok};
 ghost use Rattle.places.specs.Notes.{ProcessesNoted, ThreadsNoted};
 
 use limits::{
@@ -23,7 +23,7 @@ use types::Siginfo;
 
 // Was the record queued, with a signal that it may name and that its process does not ignore?
 fn is_delivered(ignores: SigSet, r: Siginfo) -> bool
-    ensures { result ≡ isDelivered ignores r }
+    ensures { result ≡ is_delivered ignores r }
 {
     let s = r.signal;
     if !decide::is_nameable(s) {
@@ -39,8 +39,8 @@ const STANDARD: SigSet = SigSet((1 << LAST_STANDARD) - 1);
 // The record is counted and noted, unless its signal may be pending only once and is so already.
 fn admit(s: u32, counts: &mut [usize], place: usize, seen: &mut [u64], queue: usize) -> bool
     requires place_in_bounds { (place < length counts.old) × (queue < length seen.old) }
-    requires place_bound { get_or counts.old place 0 ≤ bufferRecords }
-    ensures value { result ≡ isFresh seen.old queue s }
+    requires place_bound { get_or counts.old place 0 ≤ buffer_records }
+    ensures value { result ≡ is_fresh seen.old queue s }
     ensures counts_after { counts.new ≡ cond result (bumped counts.old place) counts.old }
     ensures seen_after { seen.new ≡ cond result (noted seen.old queue s) seen.old }
 {
@@ -67,15 +67,15 @@ fn thread_record(
     seen: &mut [u64],
 ) -> bool
     requires threads_noted { ThreadsNoted ps.now ts.now th.now ignored.now owners.now }
-    requires counts_len { (length counts.old ≡ processPlaces) × (length seen.old ≡ threadPlaces) }
-    requires small_counts { smallCounts counts.old }
-    ensures value { result ≡ (threadRecordOk (processesOf ps.now) (threadsOf ts.now) r
-        && isFresh seen.old (threadPlace (threadsOf ts.now) r) r.signal) }
+    requires counts_len { (length counts.old ≡ process_places) × (length seen.old ≡ thread_places) }
+    requires small_counts { small_counts counts.old }
+    ensures value { result ≡ (thread_record_ok (processes_of ps.now) (threads_of ts.now) r
+        && is_fresh seen.old (thread_place (threads_of ts.now) r) r.signal) }
     ensures counts_after { counts.new
-        ≡ cond result (bumped counts.old (processPlace (processesOf ps.now) r))
+        ≡ cond result (bumped counts.old (process_place (processes_of ps.now) r))
         counts.old }
     ensures seen_after { seen.new
-        ≡ cond result (noted seen.old (threadPlace (threadsOf ts.now) r) r.signal)
+        ≡ cond result (noted seen.old (thread_place (threads_of ts.now) r) r.signal)
         seen.old }
 {
     let queue = hints::place_of(ts, THREAD_WORDS, THREAD_PLACES, th, r.thread as u64);
@@ -101,15 +101,15 @@ fn process_record(
     seen: &mut [u64],
 ) -> bool
     requires processes_noted { ProcessesNoted ps.now ph.now ignored.now }
-    requires counts_len { (length counts.old ≡ processPlaces) × (length seen.old ≡ processPlaces) }
-    requires small_counts { smallCounts counts.old }
-    ensures value { result ≡ (processRecordOk (processesOf ps.now) r
-        && isFresh seen.old (processPlace (processesOf ps.now) r) r.signal) }
+    requires counts_len { (length counts.old ≡ process_places) × (length seen.old ≡ process_places) }
+    requires small_counts { small_counts counts.old }
+    ensures value { result ≡ (process_record_ok (processes_of ps.now) r
+        && is_fresh seen.old (process_place (processes_of ps.now) r) r.signal) }
     ensures counts_after { counts.new
-        ≡ cond result (bumped counts.old (processPlace (processesOf ps.now) r))
+        ≡ cond result (bumped counts.old (process_place (processes_of ps.now) r))
         counts.old }
     ensures seen_after { seen.new
-        ≡ cond result (noted seen.old (processPlace (processesOf ps.now) r) r.signal)
+        ≡ cond result (noted seen.old (process_place (processes_of ps.now) r) r.signal)
         seen.old }
 {
     let place = hints::place_of(ps, PROCESS_WORDS, PROCESS_PLACES, ph, r.process as u64);
@@ -126,8 +126,8 @@ fn process_record(
 
 // Before the first record, what is pending in a queue is its marks.
 fn thread_marks(ts: &[u64], seen: &mut [u64])
-    requires { (length ts.now ≡ threadTable) × (length seen.old ≡ threadPlaces) }
-    ensures { seen.new ≡ seenSets threadQueue (threadsOf ts.now) [] }
+    requires { (length ts.now ≡ thread_table) × (length seen.old ≡ thread_places) }
+    ensures { seen.new ≡ seen_sets thread_queue (threads_of ts.now) [] }
 {
     let mut i = 0;
     while i < THREAD_PLACES {
@@ -137,8 +137,8 @@ fn thread_marks(ts: &[u64], seen: &mut [u64])
 }
 
 fn process_marks(ps: &[u64], seen: &mut [u64])
-    requires { (length ps.now ≡ processTable) × (length seen.old ≡ processPlaces) }
-    ensures { seen.new ≡ seenSets ownQueue (processesOf ps.now) [] }
+    requires { (length ps.now ≡ process_table) × (length seen.old ≡ process_places) }
+    ensures { seen.new ≡ seen_sets own_queue (processes_of ps.now) [] }
 {
     let mut i = 0;
     while i < PROCESS_PLACES {
@@ -159,12 +159,12 @@ fn thread_records(
     seen: &mut [u64],
 ) -> bool
     requires threads_noted { ThreadsNoted ps.now ts.now th.now ignored.now owners.now
-        × (length b.now ≡ bufferBytes) }
-    requires counts_value { counts.old ≡ tallies (heldProcesses ps.now) [] }
-    requires seen_value { seen.old ≡ seenSets threadQueue (threadsOf ts.now) [] }
-    ensures value { result ≡ threadRecordsOk (processesOf ps.now) (threadsOf ts.now)
-        (recordsOf b.now) }
-    ensures counts_after { result ≡ true → counts.new ≡ tallies (heldProcesses ps.now) (recordsOf b.now) }
+        × (length b.now ≡ buffer_bytes) }
+    requires counts_value { counts.old ≡ tallies (held_processes ps.now) [] }
+    requires seen_value { seen.old ≡ seen_sets thread_queue (threads_of ts.now) [] }
+    ensures value { result ≡ thread_records_ok (processes_of ps.now) (threads_of ts.now)
+        (records_of b.now) }
+    ensures counts_after { result ≡ true → counts.new ≡ tallies (held_processes ps.now) (records_of b.now) }
 {
     let n = queue::used(b);
     let mut i = 0;
@@ -194,11 +194,11 @@ fn process_records(
     counts: &mut [usize],
     seen: &mut [u64],
 ) -> bool
-    requires processes_noted { ProcessesNoted ps.now ph.now ignored.now × (length b.now ≡ bufferBytes) }
-    requires counts_value { counts.old ≡ tallies (heldProcesses ps.now) [] }
-    requires seen_value { seen.old ≡ seenSets ownQueue (processesOf ps.now) [] }
-    ensures value { result ≡ processRecordsOk (processesOf ps.now) (recordsOf b.now) }
-    ensures counts_after { result ≡ true → counts.new ≡ tallies (heldProcesses ps.now) (recordsOf b.now) }
+    requires processes_noted { ProcessesNoted ps.now ph.now ignored.now × (length b.now ≡ buffer_bytes) }
+    requires counts_value { counts.old ≡ tallies (held_processes ps.now) [] }
+    requires seen_value { seen.old ≡ seen_sets own_queue (processes_of ps.now) [] }
+    ensures value { result ≡ process_records_ok (processes_of ps.now) (records_of b.now) }
+    ensures counts_after { result ≡ true → counts.new ≡ tallies (held_processes ps.now) (records_of b.now) }
 {
     let n = queue::used(b);
     let mut i = 0;
@@ -221,11 +221,11 @@ fn thread_buffer_ok(
     counts: &mut [usize],
 ) -> bool
     requires threads_noted { ThreadsNoted ps.now ts.now th.now ignored.now owners.now
-        × (length b.now ≡ bufferBytes) }
-    requires counts_value { counts.old ≡ tallies (heldProcesses ps.now) [] }
-    ensures value { result ≡ threadRecordsOk (processesOf ps.now) (threadsOf ts.now)
-        (recordsOf b.now) }
-    ensures counts_after { result ≡ true → counts.new ≡ tallies (heldProcesses ps.now) (recordsOf b.now) }
+        × (length b.now ≡ buffer_bytes) }
+    requires counts_value { counts.old ≡ tallies (held_processes ps.now) [] }
+    ensures value { result ≡ thread_records_ok (processes_of ps.now) (threads_of ts.now)
+        (records_of b.now) }
+    ensures counts_after { result ≡ true → counts.new ≡ tallies (held_processes ps.now) (records_of b.now) }
 {
     let mut seen = [0u64; THREAD_PLACES];
     thread_marks(ts, &mut seen);
@@ -239,10 +239,10 @@ fn process_buffer_ok(
     b: &[u8],
     counts: &mut [usize],
 ) -> bool
-    requires processes_noted { ProcessesNoted ps.now ph.now ignored.now × (length b.now ≡ bufferBytes) }
-    requires counts_value { counts.old ≡ tallies (heldProcesses ps.now) [] }
-    ensures value { result ≡ processRecordsOk (processesOf ps.now) (recordsOf b.now) }
-    ensures counts_after { result ≡ true → counts.new ≡ tallies (heldProcesses ps.now) (recordsOf b.now) }
+    requires processes_noted { ProcessesNoted ps.now ph.now ignored.now × (length b.now ≡ buffer_bytes) }
+    requires counts_value { counts.old ≡ tallies (held_processes ps.now) [] }
+    ensures value { result ≡ process_records_ok (processes_of ps.now) (records_of b.now) }
+    ensures counts_after { result ≡ true → counts.new ≡ tallies (held_processes ps.now) (records_of b.now) }
 {
     let mut seen = [0u64; PROCESS_PLACES];
     process_marks(ps, &mut seen);
@@ -251,7 +251,7 @@ fn process_buffer_ok(
 
 fn within_at(cs: &[usize], ds: &[usize], i: usize) -> bool
     requires { (i < length cs.now) × (i < length ds.now) }
-    ensures { result ≡ withinAt cs.now ds.now i }
+    ensures { result ≡ within_at cs.now ds.now i }
 {
     if RECORD_LIMIT < cs[i] {
         return false;
@@ -261,8 +261,8 @@ fn within_at(cs: &[usize], ds: &[usize], i: usize) -> bool
 
 // Has no process more records than it may, both buffers counted in?
 fn all_within(cs: &[usize], ds: &[usize]) -> bool
-    requires { (length cs.now ≡ processPlaces) × (length ds.now ≡ processPlaces) }
-    ensures { result ≡ allWithin cs.now ds.now }
+    requires { (length cs.now ≡ process_places) × (length ds.now ≡ process_places) }
+    ensures { result ≡ all_within cs.now ds.now }
 {
     let mut i = 0;
     while i < PROCESS_PLACES {
@@ -287,9 +287,9 @@ pub fn records_ok(
 ) -> bool
     requires processes_noted { ProcessesNoted ps.now ph.now ignored.now
         × ThreadsNoted ps.now ts.now th.now ignored.now owners.now }
-    requires tb_len { (length tb.now ≡ bufferBytes) × (length pb.now ≡ bufferBytes) }
-    ensures { result ≡ recordsOk (processesOf ps.now) (threadsOf ts.now)
-        (recordsOf tb.now) (recordsOf pb.now) }
+    requires tb_len { (length tb.now ≡ buffer_bytes) × (length pb.now ≡ buffer_bytes) }
+    ensures { result ≡ records_ok (processes_of ps.now) (threads_of ts.now)
+        (records_of tb.now) (records_of pb.now) }
 {
     let mut to_threads = [0usize; PROCESS_PLACES];
     let mut to_processes = [0usize; PROCESS_PLACES];

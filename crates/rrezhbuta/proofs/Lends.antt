@@ -2,11 +2,11 @@
 --     elem, slice, table       MIR's types of a record, of a slice and of the array of words.
 --                              word a slice's machine value
 --     Lease        a `&κ mut [T]`: its lifetime and the share of it, where it lies, its ghost name, its list,
---                  and that it has room. leaseOf from a parameter
+--                  and that it has room. lease_of from a parameter
 --     ref, val, token, lent, gone      of one: its denotation, its machine value, its lifetime's token, what it owns,
 --                                      and what is left of it at exit, with the list zs
 --     unused       it is not used any more: its last list is the one it had
---     Lends        the five tables.        lendsOf     from a call's parameters.
+--     Lends        the five tables.        lends_of     from a call's parameters.
 --                                                      held, Facts what the host holds, and what a call ensures of it
 --     lives5, shares5, refs5, vals5    their lifetimes, the shares of these,
 --                                      and the tables as denotations and as machine values
@@ -32,12 +32,12 @@ use denote.Ref.{MutBor}
 use denote.Steps.{nothing}
 use denote.Memory.{pointee}
 use denote.Slice.{slice_ty, slice_val, MutSlice, Room, finally}
-use Rattle.limits.specs.Limits.{threadTable}
+use Rattle.limits.specs.Limits.{thread_table}
 use Rattle.threads.specs.declared.Thread.{Thread}
 use Rattle.threads.specs.contracts.Thread as T
 use Rattle.threads.proofs.Lent.{at-list, gives_up}
 use Rattle.boundary.specs.Boundary.{Arguments}
-use Rattle.rrezhbuta.specs.Entry.{Host, host, callOn}
+use Rattle.rrezhbuta.specs.Entry.{Host, host, call_on}
 
 abbrev pub elem : Ty
 elem = pointee (T.the_row).written
@@ -46,7 +46,7 @@ abbrev pub slice : Lifetime → Mutability → Ty → Ty
 slice ℓ μ τ = slice_ty (ty_ref ℓ μ τ)
 
 abbrev pub table : Ty
-table = ty_array (ty_int w64) threadTable
+table = ty_array (ty_int w64) thread_table
 
 abbrev pub word : {X : Type 0} → MutBor (List X) → Val
 word x = slice_val x.ref_ptr (length x.now)
@@ -61,8 +61,8 @@ pub record Lease (R : RattleType) : Type 0 where
   pub list : List R.Denot
   pub room : Room R (length list)
 
-abbrev pub leaseOf : {R : RattleType} → Lft → Share → (x : MutBor (List R.Denot)) → Room R (length x.now) → Lease R
-leaseOf κ q x g =
+abbrev pub lease_of : {R : RattleType} → Lft → Share → (x : MutBor (List R.Denot)) → Room R (length x.now) → Lease R
+lease_of κ q x g =
     record { life = κ; share = q; block = x.ref_ptr.0; offset = x.ref_ptr.1; name = x.ghost_name; list = x.now; room = g }
 
 module _ {R : RattleType} (L : Lease R) where
@@ -97,15 +97,15 @@ pub record Lends : Type 0 where
   pub out : Lease u64
   pub ts : Lease T.the_row
 
-abbrev pub lendsOf : (κs : Lfts 5) (qs : Shares 5) (ps tb pb out : MutBor (List ℕ)) (ts : MutBor (List Thread))
+abbrev pub lends_of : (κs : Lfts 5) (qs : Shares 5) (ps tb pb out : MutBor (List ℕ)) (ts : MutBor (List Thread))
     → Room u64 (length ps.now) → Room u8 (length tb.now) → Room u8 (length pb.now)
     → Room u64 (length out.now) → Room T.the_row (length ts.now) → Lends
-lendsOf κs qs ps tb pb out ts g₁ g₂ g₃ g₄ g₅ = record {
-  ps = leaseOf κs.0 qs.0 ps g₁;
-  tb = leaseOf κs.1.0 qs.1.0 tb g₂;
-  pb = leaseOf κs.1.1.0 qs.1.1.0 pb g₃;
-  out = leaseOf κs.1.1.1.0 qs.1.1.1.0 out g₄;
-  ts = leaseOf κs.1.1.1.1.0 qs.1.1.1.1.0 ts g₅;
+lends_of κs qs ps tb pb out ts g₁ g₂ g₃ g₄ g₅ = record {
+  ps = lease_of κs.0 qs.0 ps g₁;
+  tb = lease_of κs.1.0 qs.1.0 tb g₂;
+  pb = lease_of κs.1.1.0 qs.1.1.0 pb g₃;
+  out = lease_of κs.1.1.1.0 qs.1.1.1.0 out g₄;
+  ts = lease_of κs.1.1.1.1.0 qs.1.1.1.1.0 ts g₅;
 }
 
 module _ (L : Lends) where
@@ -148,7 +148,7 @@ module _ (L : Lends) where
   held = host L.ps.list L.tb.list L.pb.list L.out.list L.ts.list
 
   abbrev pub Facts : (number : ℕ) → Arguments → (r : ℕ) (ps tb pb out : List ℕ) (ts : List Thread) → Type 0
-  Facts number g r ps tb pb out ts = (host ps tb pb out ts, r) ≡ callOn number g held
+  Facts number g r ps tb pb out ts = (host ps tb pb out ts, r) ≡ call_on number g held
 
 module _ {M : Type 1} {𝓤 : Ura M} {𝓛 : Logic 𝓤} {K : Type 0} {Γ : List (Item 𝓤)}
     {G : Goal 𝓤 𝓛.H} where

@@ -33,7 +33,7 @@ use denote.Index.{row}
 use denote.Steps.{nothing}
 use denote.Triple.Statement.{Contract, Triple}
 use denote.Triple.Walked.{says}
-use Rattle.limits.specs.Limits.{threadPlaces, threadTable}
+use Rattle.limits.specs.Limits.{thread_places, thread_table}
 use Rattle.threads.specs.declared.Thread.{Thread}
 use Rattle.threads.specs.Records.{words_of}
 use Rattle.threads.proofs.Lent.{at-list, lends_row, row_back, shares-slice, shared_back}
@@ -45,9 +45,9 @@ use Rattle.rrezhbuta.proofs.Lends.{word, Lease, val, token, lent}
 
 -- the slice of all words of a local array
 abbrev pub all_of : ℕ → Val
-all_of l = slice_val (l, 0) threadTable
+all_of l = slice_val (l, 0) thread_table
 
-pub table-room : Room u64 threadTable
+pub table-room : Room u64 thread_table
 table-room = (lit< tt, lit< tt)
 
 module _ {M : Type 1} {𝓤 : Ura M} (𝓛 : Logic 𝓤) (mem : Memory → SProp 𝓤) (run : Routine → Fun 𝓤) where
@@ -74,7 +74,7 @@ module _ {M : Type 1} {𝓤 : Ura M} (𝓛 : Logic 𝓤) (mem : Memory → SProp
     abbrev Words : Fml
     Words = (MutSlice (named 0) (ν ∷ []) u64).own_val (at-list l 0 δ xs) (all_of l ∷ [])
 
-    asks-load : length x.now ≡ threadPlaces → length xs ≡ threadTable
+    asks-load : length x.now ≡ thread_places → length xs ≡ thread_table
         → ent 𝓤 (⋆ 𝓛 (‵ (flft κ q) ∷ ‵ (flft (ν ∷ []) full_share) ∷ ‵ Shared ∷ ‵ Words ∷ [])) (Load.pre to-load)
     asks-load all long =
         qed 𝓛 (‵ (flft κ q) ∷ ‵ (flft (ν ∷ []) full_share) ∷ ‵ Shared ∷ ‵ Words ∷ []) ∵ says ! (all, long) $
@@ -89,7 +89,7 @@ module _ {M : Type 1} {𝓤 : Ura M} {𝓛 : Logic 𝓤} {K : Type 0} {Γ : List
   pub loads-shared : K → FmC 𝓤 H 𝓛.laws C → (mem : Memory → SProp 𝓤) (run : Routine → Fun 𝓤)
       → Triple 𝓤 (C #threads·load-words) (Load 𝓛 mem run) → (κ : Lft) (q : Share) (x : Bor (List Thread))
       (l : ℕ) (xs : List ℕ)
-      → length x.now ≡ threadPlaces → length xs ≡ threadTable
+      → length x.now ≡ thread_places → length xs ≡ thread_table
       → {ops : List Operand} {d : Place} {rest : Body}
       → ((i j : Item 𝓤) → Opds K 𝓛 (i ∷ j ∷ Γ) E ops (word x ∷ all_of l ∷ []))
       → ((w : Val) → Is Nothing tt (w ∷ [])
@@ -98,7 +98,7 @@ module _ {M : Type 1} {𝓤 : Ura M} {𝓛 : Logic 𝓤} {K : Type 0} {Γ : List
       ∷ ‵ (row u64 full_share xs l 0) ∷ Γ) (runs C Λ E (seq (call #threads·load-words ops d) rest) p)
   loads-shared t fm mem run known κ q x l xs all long os k =
       lft_new t tt (λ ν. move t (3 ∷ []) $
-      lends_row t tt u64 (named 0) (ν ∷ []) l 0 threadTable xs long table-room (λ δ.
+      lends_row t tt u64 (named 0) (ν ∷ []) l 0 thread_table xs long table-room (λ δ.
       -- [the words; what they are kept by; the two tokens; the row; …]
       move t (3 ∷ 2 ∷ 4 ∷ 0 ∷ []) $ group t 4 $
       use1 𝓛 (raw ((Load 𝓛 mem run).pre (to-load 𝓛 mem run κ q x ν δ l xs)))
@@ -109,7 +109,7 @@ module _ {M : Type 1} {𝓤 : Ura M} {𝓛 : Logic 𝓤} {K : Type 0} {Γ : List
       split t $ lft_end t tt $
       -- [that ν is over; true; the row's token; what is left; what the words are kept by; …]
       move t (3 ∷ []) $ fsplit t $ drop t $ fsplit t $ fsplit t $ move t (3 ∷ 6 ∷ 0 ∷ []) $
-      row_back t tt u64 l 0 threadTable zs.1.0 $
+      row_back t tt u64 l 0 thread_table zs.1.0 $
       rewrite t 0 (λ (ws : List ℕ). ‵ (row u64 full_share ws l 0)) e refl $
       move t (1 ∷ 2 ∷ 3 ∷ []) $ drop t $ drop t $ drop t $ move t (1 ∷ 0 ∷ []) $ k w unit)))
 
@@ -119,7 +119,7 @@ module _ {M : Type 1} {𝓤 : Ura M} {𝓛 : Logic 𝓤} {K : Type 0} {Γ : List
 
   pub loads-lent : K → FmC 𝓤 H 𝓛.laws C → (mem : Memory → SProp 𝓤) (run : Routine → Fun 𝓤)
       → Triple 𝓤 (C #threads·load-words) (Load 𝓛 mem run) → (Y : Lease T.the_row) (l : ℕ) (xs : List ℕ)
-      → length Y.list ≡ threadPlaces → length xs ≡ threadTable
+      → length Y.list ≡ thread_places → length xs ≡ thread_table
       → {ops : List Operand} {d : Place} {rest : Body}
       → ((i j k : Item 𝓤) → Opds K 𝓛 (i ∷ j ∷ k ∷ Γ) E ops (val Y ∷ all_of l ∷ []))
       → ((w : Val) → Is Nothing tt (w ∷ [])

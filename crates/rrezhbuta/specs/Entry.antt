@@ -3,70 +3,70 @@
 use Rattle.std.specs.Prelude.{ℕ, ◌||◌, cond, List, eqb, length}
 use Rattle.std.specs.Borrow.{Bor}
 use denote.Triple.Both.{Both}
-use Rattle.limits.specs.Limits.{threadPlaces, callSigmask, callSigreturn}
+use Rattle.limits.specs.Limits.{thread_places, call_sigmask, call_sigreturn}
 use Rattle.lists.specs.Lists.{find}
 use Rattle.sigset.specs.declared.SigSet.{SigSet}
-use Rattle.tables.specs.Tables.{threadAt, heldThreads, hasThreadId}
+use Rattle.tables.specs.Tables.{thread_at, held_threads, has_thread_id}
 use Rattle.sound.specs.Lent.{Lent, lent, Slices}
-use Rattle.looking.specs.Looks.{lookBytes, lookSlot}
+use Rattle.looking.specs.Looks.{look_bytes, look_slot}
 use Rattle.boundary.specs.Boundary.{Arguments, Served, served}
 use Rattle.threads.specs.declared.Thread.{Thread}
-use Rattle.threads.specs.Records.{withMaskAt, words_of, recordsOf}
+use Rattle.threads.specs.Records.{with_mask_at, words_of, records_of}
 
 -- what a host holds
 pub record Host : Type 0 where
   pub processes : List ℕ
-  pub threadBuffer : List ℕ
-  pub processBuffer : List ℕ
+  pub thread_buffer : List ℕ
+  pub process_buffer : List ℕ
   pub answer : List ℕ
   pub threads : List Thread
 
 abbrev pub host : (ps tb pb out : List ℕ) → List Thread → Host
-host ps tb pb out ts = record { processes = ps; threadBuffer = tb; processBuffer = pb; answer = out; threads = ts }
+host ps tb pb out ts = record { processes = ps; thread_buffer = tb; process_buffer = pb; answer = out; threads = ts }
 
 -- the tables that it lends, in words
-abbrev pub lentRecords : (ps tb pb : List ℕ) → List Thread → Lent
-lentRecords ps tb pb ts = lent ps (words_of ts) tb pb
+abbrev pub lent_records : (ps tb pb : List ℕ) → List Thread → Lent
+lent_records ps tb pb ts = lent ps (words_of ts) tb pb
 
 abbrev pub lent_by : Host → Lent
-lent_by h = lentRecords h.processes h.threadBuffer h.processBuffer h.threads
+lent_by h = lent_records h.processes h.thread_buffer h.process_buffer h.threads
 
 -- what it holds once it is served, its row as long as before, and what is returned
-unfoldable pub handedBack : (records : ℕ) → Served → Host × ℕ
-handedBack n s = (
-  host s.tables.processes s.tables.threadBuffer s.tables.processBuffer s.words
-      (recordsOf n s.tables.threads),
+unfoldable pub handed_back : (records : ℕ) → Served → Host × ℕ
+handed_back n s = (
+  host s.tables.processes s.tables.thread_buffer s.tables.process_buffer s.words
+      (records_of n s.tables.threads),
   s.errno,
 )
 
 -- one call: what the host holds after it, and what is returned
-unfoldable pub callOn : (number : ℕ) → Arguments → Host → Host × ℕ
-callOn n g h = handedBack (length h.threads) (served n g h.answer (lent_by h))
+unfoldable pub call_on : (number : ℕ) → Arguments → Host → Host × ℕ
+call_on n g h = handed_back (length h.threads) (served n g h.answer (lent_by h))
 
 -- what a contract names: before the call and after it
 abbrev pub Rows : Type 0
 Rows = Both (Bor (List Thread)) (Bor (List Thread))
 
-abbrev pub hostBefore : (ps tb pb out : Slices) → Rows → Host
-hostBefore ps tb pb out ts = host ps.entry.now tb.entry.now pb.entry.now out.entry.now ts.entry.now
+abbrev pub host_before : (ps tb pb out : Slices) → Rows → Host
+host_before ps tb pb out ts = host ps.entry.now tb.entry.now pb.entry.now out.entry.now ts.entry.now
 
-abbrev pub hostAfter : (ps tb pb out : Slices) → Rows → Host
-hostAfter ps tb pb out ts = host ps.exit.now tb.exit.now pb.exit.now out.exit.now ts.exit.now
+abbrev pub host_after : (ps tb pb out : Slices) → Rows → Host
+host_after ps tb pb out ts = host ps.exit.now tb.exit.now pb.exit.now out.exit.now ts.exit.now
 
 -- the mask of the first thread with that id, in words; empty where none has it
-unfoldable pub maskIn : List ℕ → ℕ → SigSet
-maskIn ws n = (threadAt ws (find (hasThreadId n) (heldThreads ws))).holds.mask
+unfoldable pub mask_in : List ℕ → ℕ → SigSet
+mask_in ws n = (thread_at ws (find (has_thread_id n) (held_threads ws))).holds.mask
 
 -- the row after a call that left these words: of a mask call and of a return from a handler,
 -- the row before it with that mask
-unfoldable pub rowAfter : (number thread : ℕ) → List ℕ → List Thread → List Thread
-rowAfter n t ws ts =
-    cond (eqb n callSigmask || eqb n callSigreturn) (withMaskAt t (maskIn ws t) ts) (recordsOf threadPlaces ws)
+unfoldable pub row_after : (number thread : ℕ) → List ℕ → List Thread → List Thread
+row_after n t ws ts =
+    cond (eqb n call_sigmask || eqb n call_sigreturn) (with_mask_at t (mask_in ws t) ts) (records_of thread_places ws)
 
 -- the bytes that a look hands back
-unfoldable pub lookAt : (ps tb pb : List ℕ) (ts : List Thread) (thread : ℕ) → List ℕ
-lookAt ps tb pb ts thread = lookBytes thread (lentRecords ps tb pb ts)
+unfoldable pub look_at : (ps tb pb : List ℕ) (ts : List Thread) (thread : ℕ) → List ℕ
+look_at ps tb pb ts thread = look_bytes thread (lent_records ps tb pb ts)
 
 -- the number of its slot, for a host that cannot be handed a part
 unfoldable pub slot_at : (ps tb pb : List ℕ) (ts : List Thread) (thread : ℕ) → ℕ
-slot_at ps tb pb ts thread = lookSlot thread (lentRecords ps tb pb ts)
+slot_at ps tb pb ts thread = look_slot thread (lent_records ps tb pb ts)

@@ -1,8 +1,8 @@
 // The layer as a host links it: the thread table is a lent row of records, and every call goes through one entry.
 ghost use Rattle.std.specs.Prelude.{◌≡◌, length};
-ghost use Rattle.limits.specs.Limits.{threadPlaces, threadTable};
+ghost use Rattle.limits.specs.Limits.{thread_places, thread_table};
 ghost use Rattle.boundary.specs.Boundary.{arguments};
-ghost use Rattle.rrezhbuta.specs.Entry.{callOn, hostBefore, hostAfter, maskIn, rowAfter, lookAt, slot_at};
+ghost use Rattle.rrezhbuta.specs.Entry.{call_on, host_before, host_after, mask_in, row_after, look_at, slot_at};
 
 use limits::{CALL_SIGMASK, CALL_SIGRETURN, EFAULT, THREAD_MASK, THREAD_PLACES, THREAD_TABLE};
 use sigset::SigSet;
@@ -10,8 +10,8 @@ use threads::Thread;
 
 // The mask of the first thread with that id; empty where none has it.
 fn mask_of(ws: &[u64], id: u64) -> SigSet
-    requires { length ws.now ≡ threadTable }
-    ensures { result ≡ maskIn ws.now id }
+    requires { length ws.now ≡ thread_table }
+    ensures { result ≡ mask_in ws.now id }
 {
     let place = tables::thread_place(ws, id);
     if place == THREAD_PLACES {
@@ -23,8 +23,8 @@ fn mask_of(ws: &[u64], id: u64) -> SigSet
 // What a call that was accepted changed of the thread table goes back into the row. A mask call and a return
 // from a handler change one mask at most, and the thread is searched for in the row.
 fn hand_back(ts: &mut [Thread], ws: &[u64], number: u32, thread: u32)
-    requires { (length ts.old ≡ threadPlaces) × (length ws.now ≡ threadTable) }
-    ensures { ts.new ≡ rowAfter number thread ws.now ts.old }
+    requires { (length ts.old ≡ thread_places) × (length ws.now ≡ thread_table) }
+    ensures { ts.new ≡ row_after number thread ws.now ts.old }
 {
     if (number == CALL_SIGMASK) | (number == CALL_SIGRETURN) {
         let mask = mask_of(ws, thread as u64);
@@ -56,8 +56,8 @@ pub extern "C" fn rrezhbuta_call(
     y: u64,
     z: u64,
 ) -> u64
-    ensures { (hostAfter ps tb pb out ts, result)
-        ≡ callOn number (arguments a b c d e f x y z) (hostBefore ps tb pb out ts) }
+    ensures { (host_after ps tb pb out ts, result)
+        ≡ call_on number (arguments a b c d e f x y z) (host_before ps tb pb out ts) }
 {
     if ts.len() != THREAD_PLACES {
         return EFAULT as u64;
@@ -83,7 +83,7 @@ fn no_part(b: &[u8]) -> &[u8]
 // The 32 bytes of the record that a thread takes next, in the buffer that holds it;
 // an empty part for a mark, for nothing, and where the look is refused.
 pub fn look_part<'a>(ps: &[u64], tb: &'a [u8], pb: &'a [u8], ts: &[Thread], thread: u32) -> &'a [u8]
-    ensures { result.now ≡ lookAt ps.now tb.now pb.now ts.now thread }
+    ensures { result.now ≡ look_at ps.now tb.now pb.now ts.now thread }
 {
     if ts.len() != THREAD_PLACES {
         return no_part(tb);

@@ -7,18 +7,18 @@ use mathlib.Core.List.{List, map}
 use native.Mathlib.Omega.{arith}
 use lib.Dec.{eqb}
 use borrow.Author.Tests.{eqb-true, eq-eqb}
-use Rattle.limits.specs.Limits.{siQueue}
+use Rattle.limits.specs.Limits.{si_queue}
 use Rattle.lists.specs.Lists.{count}
 use Rattle.lists.proofs.Bools.{and-fst, and-snd, and_both}
 use Rattle.lists.proofs.Lists.{count-le, count_map}
 use Rattle.types.specs.declared.Siginfo.{Siginfo}
 use Rattle.rules.specs.Types.{Process, Thread, Queue}
-use Rattle.rules.specs.View.{isProcess, isThread, sameQueue, queueOf, processQueue, threadQueue, targetQueue}
-use Rattle.rules.specs.View.{liveProcess, liveThread, theThread}
+use Rattle.rules.specs.View.{is_process, is_thread, same_queue, queue_of, process_queue, thread_queue, target_queue}
+use Rattle.rules.specs.View.{live_process, live_thread, the_thread}
 use Rattle.rules.specs.Store.{Place, Store, held, view}
-use Rattle.rules.specs.Sound.{nameable, namesLive, aimedAtThread, aimedAtProcess}
-use Rattle.rules.proofs.Marks.{processWith, threadWith, the-thread, process-is, thread-is, process-named}
-use Rattle.rules.proofs.Marks.{thread-named, queue-same, same_queue}
+use Rattle.rules.specs.Sound.{nameable, names_live, aimed_at_thread, aimed_at_process}
+use Rattle.rules.proofs.Marks.{process_with, thread_with, the-thread, process-is, thread-is, process-named}
+use Rattle.rules.proofs.Marks.{thread-named, queue-same, same_queue_lem}
 
 -- a test of values, and the places that pass it
 module _ {A : Type 0} (p t : A → Bool) (xs : List (Place A)) where
@@ -29,64 +29,64 @@ module _ {A : Type 0} (p t : A → Bool) (xs : List (Place A)) where
       omega (arith, count_map p held xs)
 
 module _ (st : Store) (r : Siginfo) where
-  pub names-process : namesLive (view st) r ≡ true → liveProcess (view st) r.process ≡ true
-  unfolding namesLive
-  names-process e = and-snd (nameable r.signal) _ (and-snd (eqb r.code siQueue) _ e)
+  pub names-process : names_live (view st) r ≡ true → live_process (view st) r.process ≡ true
+  unfolding names_live
+  names-process e = and-snd (nameable r.signal) _ (and-snd (eqb r.code si_queue) _ e)
 
-  pub names-signal : namesLive (view st) r ≡ true → nameable r.signal ≡ true
-  unfolding namesLive
-  names-signal e = and-fst (nameable r.signal) _ (and-snd (eqb r.code siQueue) _ e)
+  pub names-signal : names_live (view st) r ≡ true → nameable r.signal ≡ true
+  unfolding names_live
+  names-signal e = and-fst (nameable r.signal) _ (and-snd (eqb r.code si_queue) _ e)
 
-  module _ (e : aimedAtThread (view st) r ≡ true) where
-    pub thread-live : liveThread (view st) r.thread ≡ true
-    unfolding aimedAtThread
-    thread-live = and-fst (liveThread (view st) r.thread) _ (and-snd (namesLive (view st) r) _ e)
+  module _ (e : aimed_at_thread (view st) r ≡ true) where
+    pub thread-live : live_thread (view st) r.thread ≡ true
+    unfolding aimed_at_thread
+    thread-live = and-fst (live_thread (view st) r.thread) _ (and-snd (names_live (view st) r) _ e)
 
-    pub thread-process-live : liveProcess (view st) r.process ≡ true
-    unfolding aimedAtThread
-    thread-process-live = names-process (and-fst (namesLive (view st) r) _ e)
+    pub thread-process-live : live_process (view st) r.process ≡ true
+    unfolding aimed_at_thread
+    thread-process-live = names-process (and-fst (names_live (view st) r) _ e)
 
-    pub thread-owner : (threadWith st r.thread).holds.process ≡ r.process
-    unfolding aimedAtThread
+    pub thread-owner : (thread_with st r.thread).holds.process ≡ r.process
+    unfolding aimed_at_thread
     thread-owner =
         ap (λ (t : Thread). t.process) (sym (the-thread st r.thread))
-        ∙ eqb-true (theThread (view st) r.thread).process r.process
-        (and-snd (liveThread (view st) r.thread) _ (and-snd (namesLive (view st) r) _ e))
+        ∙ eqb-true (the_thread (view st) r.thread).process r.process
+        (and-snd (live_thread (view st) r.thread) _ (and-snd (names_live (view st) r) _ e))
 
-    pub thread-queue : sameQueue (threadQueue (threadWith st r.thread).holds) (queueOf r) ≡ true
+    pub thread-queue : same_queue (thread_queue (thread_with st r.thread).holds) (queue_of r) ≡ true
     thread-queue =
-        same_queue (threadQueue (threadWith st r.thread).holds) (queueOf r)
-        (ap₂ targetQueue thread-owner (thread-is st r.thread thread-live))
+        same_queue_lem (thread_queue (thread_with st r.thread).holds) (queue_of r)
+        (ap₂ target_queue thread-owner (thread-is st r.thread thread-live))
 
-    pub thread-queue-one : count (isThread r.thread) (map held st.threads) ≤ 1
-        → count (λ (x : Place Thread). sameQueue (threadQueue x.holds) (queueOf r)) st.threads ≤ 1
-    unfolding isThread
+    pub thread-queue-one : count (is_thread r.thread) (map held st.threads) ≤ 1
+        → count (λ (x : Place Thread). same_queue (thread_queue x.holds) (queue_of r)) st.threads ≤ 1
+    unfolding is_thread
     thread-queue-one =
-        few (isThread r.thread) (λ (t : Thread). sameQueue (threadQueue t) (queueOf r)) st.threads
+        few (is_thread r.thread) (λ (t : Thread). same_queue (thread_queue t) (queue_of r)) st.threads
         (λ t k.
         and_both (ap not (thread-named st r.thread thread-live))
-        (eq-eqb t.id r.thread (ap (λ (q : Queue). q.thread) (queue-same (threadQueue t) (queueOf r) k))))
+        (eq-eqb t.id r.thread (ap (λ (q : Queue). q.thread) (queue-same (thread_queue t) (queue_of r) k))))
 
-  module _ (e : aimedAtProcess (view st) r ≡ true) where
-    pub process-live : liveProcess (view st) r.process ≡ true
-    unfolding aimedAtProcess
-    process-live = names-process (and-fst (namesLive (view st) r) _ e)
+  module _ (e : aimed_at_process (view st) r ≡ true) where
+    pub process-live : live_process (view st) r.process ≡ true
+    unfolding aimed_at_process
+    process-live = names-process (and-fst (names_live (view st) r) _ e)
 
-    pub process-own : queueOf r ≡ processQueue r.process
-    unfolding aimedAtProcess
-    process-own = ap (targetQueue r.process) (eqb-true r.thread 0 (and-snd (namesLive (view st) r) _ e))
+    pub process-own : queue_of r ≡ process_queue r.process
+    unfolding aimed_at_process
+    process-own = ap (target_queue r.process) (eqb-true r.thread 0 (and-snd (names_live (view st) r) _ e))
 
-    pub process-queue : sameQueue (processQueue (processWith st r.process).holds.id) (queueOf r) ≡ true
+    pub process-queue : same_queue (process_queue (process_with st r.process).holds.id) (queue_of r) ≡ true
     process-queue =
-        same_queue (processQueue (processWith st r.process).holds.id) (queueOf r)
-        (ap processQueue (process-is st r.process process-live) ∙ sym process-own)
+        same_queue_lem (process_queue (process_with st r.process).holds.id) (queue_of r)
+        (ap process_queue (process-is st r.process process-live) ∙ sym process-own)
 
-    pub process-queue-one : count (isProcess r.process) (map held st.processes) ≤ 1
-        → count (λ (x : Place Process). sameQueue (processQueue x.holds.id) (queueOf r)) st.processes ≤ 1
-    unfolding isProcess
+    pub process-queue-one : count (is_process r.process) (map held st.processes) ≤ 1
+        → count (λ (x : Place Process). same_queue (process_queue x.holds.id) (queue_of r)) st.processes ≤ 1
+    unfolding is_process
     process-queue-one =
-        few (isProcess r.process) (λ (p : Process). sameQueue (processQueue p.id) (queueOf r)) st.processes
+        few (is_process r.process) (λ (p : Process). same_queue (process_queue p.id) (queue_of r)) st.processes
         (λ p k.
         and_both (ap not (process-named st r.process process-live))
         (eq-eqb p.id r.process
-        (ap (λ (q : Queue). q.process) (queue-same (processQueue p.id) (queueOf r) k))))
+        (ap (λ (q : Queue). q.process) (queue-same (process_queue p.id) (queue_of r) k))))

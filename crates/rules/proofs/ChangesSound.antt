@@ -4,17 +4,17 @@ use mathlib.Core.Path.{◌≡◌, refl}
 use mathlib.Core.Bool.{true}
 use mathlib.Core.List.{List, [], ◌∷◌}
 use Rattle.lists.proofs.Bools.{clash, and-fst, and-snd}
-use Rattle.rules.specs.View.{Change, forget, newProcess, newThread, removeProcess, removeThread, setStopped}
-use Rattle.rules.specs.View.{setAction, setMask, setMark, clearMark, append, dropOldest, discard}
-use Rattle.rules.specs.Store.{Store, view, apply, applyAll}
+use Rattle.rules.specs.View.{Change, forget, new_process, new_thread, remove_process, remove_thread, set_stopped}
+use Rattle.rules.specs.View.{set_action, set_mask, set_mark, clear_mark, append, drop_oldest, discard}
+use Rattle.rules.specs.Store.{Store, view, apply, apply_all}
 use Rattle.rules.specs.Sound.{sound}
-use Rattle.rules.specs.Fitting.{fits, fitsAll}
-use Rattle.rules.proofs.FieldsSound.{setStopped-sound, setAction-sound, setMask-sound}
+use Rattle.rules.specs.Fitting.{fits, fits_all}
+use Rattle.rules.proofs.FieldsSound.{set_stopped-sound, set_action-sound, set_mask-sound}
 use Rattle.rules.proofs.Cleared.{sound-cleared}
-use Rattle.rules.proofs.PendingSound.{setMark-sound, append-sound}
-use Rattle.rules.proofs.AddingSound.{newThread-sound}
-use Rattle.rules.proofs.RemovalsSound.{removeProcess-sound, removeThread-sound}
-use Rattle.rules.proofs.DiscardsSound.{clearMark-sound, dropOldest-sound, discard-sound}
+use Rattle.rules.proofs.PendingSound.{set_mark-sound, append-sound}
+use Rattle.rules.proofs.AddingSound.{new_thread-sound}
+use Rattle.rules.proofs.RemovalsSound.{remove_process-sound, remove_thread-sound}
+use Rattle.rules.proofs.DiscardsSound.{clear_mark-sound, drop_oldest-sound, discard-sound}
 
 pub forget-sound : (st : Store) → sound (apply forget st) ≡ true
 unfolding apply
@@ -23,24 +23,24 @@ forget-sound st = sound-cleared
 pub fits-keeps : (ch : Change) (st : Store) → sound st ≡ true → fits (view st) ch ≡ true → sound (apply ch st) ≡ true
 unfolding fits
 fits-keeps forget st e f = forget-sound st
-fits-keeps (newProcess p) st e f = clash f refl
-fits-keeps (newThread t) st e f = newThread-sound st e t f
-fits-keeps (removeProcess n) st e f = removeProcess-sound st e n f
-fits-keeps (removeThread n) st e f = removeThread-sound st e n f
-fits-keeps (setStopped n b) st e f = setStopped-sound st e n b f
-fits-keeps (setAction n s a) st e f = setAction-sound st e n s a f
-fits-keeps (setMask n m) st e f = setMask-sound st e n m f
-fits-keeps (setMark q s) st e f = setMark-sound st e q s f
-fits-keeps (clearMark q s) st e f = clearMark-sound st e q s
+fits-keeps (new_process p) st e f = clash f refl
+fits-keeps (new_thread t) st e f = new_thread-sound st e t f
+fits-keeps (remove_process n) st e f = remove_process-sound st e n f
+fits-keeps (remove_thread n) st e f = remove_thread-sound st e n f
+fits-keeps (set_stopped n b) st e f = set_stopped-sound st e n b f
+fits-keeps (set_action n s a) st e f = set_action-sound st e n s a f
+fits-keeps (set_mask n m) st e f = set_mask-sound st e n m f
+fits-keeps (set_mark q s) st e f = set_mark-sound st e q s f
+fits-keeps (clear_mark q s) st e f = clear_mark-sound st e q s
 fits-keeps (append r) st e f = append-sound st e r f
-fits-keeps (dropOldest q s) st e f = dropOldest-sound st e q s
+fits-keeps (drop_oldest q s) st e f = drop_oldest-sound st e q s
 fits-keeps (discard p signals) st e f = discard-sound st e p signals
 
-pub fits-all-keep : (cs : List Change) (st : Store) → sound st ≡ true → fitsAll cs st ≡ true
-    → sound (applyAll cs st) ≡ true
-unfolding fitsAll applyAll
+pub fits-all-keep : (cs : List Change) (st : Store) → sound st ≡ true → fits_all cs st ≡ true
+    → sound (apply_all cs st) ≡ true
+unfolding fits_all apply_all
 fits-all-keep [] st e f = e
 fits-all-keep (c ∷ cs) st e f =
     fits-all-keep cs (apply c st)
-    (fits-keeps c st e (and-fst (fits (view st) c) (fitsAll cs (apply c st)) f))
-    (and-snd (fits (view st) c) (fitsAll cs (apply c st)) f)
+    (fits-keeps c st e (and-fst (fits (view st) c) (fits_all cs (apply c st)) f))
+    (and-snd (fits (view st) c) (fits_all cs (apply c st)) f)

@@ -5,150 +5,150 @@ use mathlib.Core.Bool.{true}
 use lib.Dec.{eqb}
 use lib.ListN.{length}
 use borrow.Author.Tests.{eqb-true, eq-eqb}
-use Rattle.limits.specs.Limits.{processPlaces, threadPlaces, bufferRecords}
-use Rattle.lists.specs.Lists.{all, pairsWhere}
+use Rattle.limits.specs.Limits.{process_places, thread_places, buffer_records}
+use Rattle.lists.specs.Lists.{all, pairs_where}
 use Rattle.lists.proofs.Bools.{and-fst, and-snd, and_both}
 use Rattle.rules.specs.Store.{Store, used, view}
-use Rattle.rules.specs.Sound.{isLive, apart, ifLive, ifFree, processId, threadId, actionsLong, lengthsRight}
-use Rattle.rules.specs.Sound.{zeroProcess, zeroThread, freeZero, goodProcessId, goodThreadId, idsInRange}
-use Rattle.rules.specs.Sound.{idsDistinct, fieldsFit, fieldsInRange, belongs, hasThread, threadsOwned}
-use Rattle.rules.specs.Sound.{processesHaveThreads, processUnmasked, threadUnmasked, nothingUnmaskable}
-use Rattle.rules.specs.Sound.{killStopDefault, unmaskableDefault, processFlagsKnown, allFlagsKnown, restZero}
-use Rattle.rules.specs.Sound.{aimedAtThread, aimedAtProcess, recordsLaidOut, withinLimit, limitKept, isStandard}
-use Rattle.rules.specs.Sound.{notTwice, notMarkedToo, pendingOnce, recordNotIgnored, processNotIgnored}
-use Rattle.rules.specs.Sound.{threadNotIgnored, nothingIgnored, sound}
+use Rattle.rules.specs.Sound.{is_live, apart, if_live, if_free, process_id, thread_id, actions_long, lengths_right}
+use Rattle.rules.specs.Sound.{zero_process, zero_thread, free_zero, good_process_id, good_thread_id, ids_in_range}
+use Rattle.rules.specs.Sound.{ids_distinct, fields_fit, fields_in_range, belongs, has_thread, threads_owned}
+use Rattle.rules.specs.Sound.{processes_have_threads, process_unmasked, thread_unmasked, nothing_unmaskable}
+use Rattle.rules.specs.Sound.{kill_stop_default, unmaskable_default, process_flags_known, all_flags_known, rest_zero}
+use Rattle.rules.specs.Sound.{aimed_at_thread, aimed_at_process, records_laid_out, within_limit, limit_kept, is_standard}
+use Rattle.rules.specs.Sound.{not_twice, not_marked_too, pending_once, record_not_ignored, process_not_ignored}
+use Rattle.rules.specs.Sound.{thread_not_ignored, nothing_ignored, sound}
 use Rattle.rules.proofs.Clauses.{Clauses, clauses, sound-by}
 
 pub record Lengths (st : Store) : Type 0 where
-  pub processes : length st.processes ≡ processPlaces
-  pub actions : all actionsLong st.processes ≡ true
-  pub threads : length st.threads ≡ threadPlaces
-  pub threadSlots : length st.threadBuffer ≡ bufferRecords
-  pub processSlots : length st.processBuffer ≡ bufferRecords
+  pub processes : length st.processes ≡ process_places
+  pub actions : all actions_long st.processes ≡ true
+  pub threads : length st.threads ≡ thread_places
+  pub thread_slots : length st.thread_buffer ≡ buffer_records
+  pub process_slots : length st.process_buffer ≡ buffer_records
 
-pub lengths-of : (st : Store) → lengthsRight st ≡ true → Lengths st
-unfolding lengthsRight
+pub lengths-of : (st : Store) → lengths_right st ≡ true → Lengths st
+unfolding lengths_right
 lengths-of st e =
-    let e1 = and-snd (eqb (length st.processes) processPlaces) _ e in
-    let e2 = and-snd (all actionsLong st.processes) _ e1 in
-    let e3 = and-snd (eqb (length st.threads) threadPlaces) _ e2 in
+    let e1 = and-snd (eqb (length st.processes) process_places) _ e in
+    let e2 = and-snd (all actions_long st.processes) _ e1 in
+    let e3 = and-snd (eqb (length st.threads) thread_places) _ e2 in
     record {
       processes =
-          eqb-true (length st.processes) processPlaces (and-fst (eqb (length st.processes) processPlaces) _ e);
-      actions = and-fst (all actionsLong st.processes) _ e1;
-      threads = eqb-true (length st.threads) threadPlaces (and-fst (eqb (length st.threads) threadPlaces) _ e2);
-      threadSlots =
-          eqb-true (length st.threadBuffer) bufferRecords
-          (and-fst (eqb (length st.threadBuffer) bufferRecords) _ e3);
-      processSlots =
-          eqb-true (length st.processBuffer) bufferRecords
-          (and-snd (eqb (length st.threadBuffer) bufferRecords) _ e3);
+          eqb-true (length st.processes) process_places (and-fst (eqb (length st.processes) process_places) _ e);
+      actions = and-fst (all actions_long st.processes) _ e1;
+      threads = eqb-true (length st.threads) thread_places (and-fst (eqb (length st.threads) thread_places) _ e2);
+      thread_slots =
+          eqb-true (length st.thread_buffer) buffer_records
+          (and-fst (eqb (length st.thread_buffer) buffer_records) _ e3);
+      process_slots =
+          eqb-true (length st.process_buffer) buffer_records
+          (and-snd (eqb (length st.thread_buffer) buffer_records) _ e3);
     }
 
-pub lengths-by : (st : Store) → Lengths st → lengthsRight st ≡ true
-unfolding lengthsRight
+pub lengths-by : (st : Store) → Lengths st → lengths_right st ≡ true
+unfolding lengths_right
 lengths-by st l =
-    and_both (eq-eqb (length st.processes) processPlaces l.processes)
+    and_both (eq-eqb (length st.processes) process_places l.processes)
     (and_both l.actions
-    (and_both (eq-eqb (length st.threads) threadPlaces l.threads)
-    (and_both (eq-eqb (length st.threadBuffer) bufferRecords l.threadSlots)
-    (eq-eqb (length st.processBuffer) bufferRecords l.processSlots))))
+    (and_both (eq-eqb (length st.threads) thread_places l.threads)
+    (and_both (eq-eqb (length st.thread_buffer) buffer_records l.thread_slots)
+    (eq-eqb (length st.process_buffer) buffer_records l.process_slots))))
 
 pub record Parts (st : Store) : Type 0 where
   pub lengths : Lengths st
   -- of the process places
-  pub processFree : all (ifFree processId zeroProcess) st.processes ≡ true
-  pub processIds : all (ifLive processId goodProcessId) st.processes ≡ true
-  pub processApart : pairsWhere (isLive processId) (apart processId) st.processes ≡ true
-  pub fields : all fieldsFit st.processes ≡ true
-  pub have-threads : all (ifLive processId (hasThread (view st))) st.processes ≡ true
-  pub processSets : all processUnmasked st.processes ≡ true
-  pub defaults : all killStopDefault st.processes ≡ true
-  pub flags : all processFlagsKnown st.processes ≡ true
-  pub limit : all (ifLive processId (withinLimit st)) st.processes ≡ true
-  pub processMarksNotIgnored : all (ifLive processId processNotIgnored) st.processes ≡ true
+  pub process_free : all (if_free process_id zero_process) st.processes ≡ true
+  pub process_ids : all (if_live process_id good_process_id) st.processes ≡ true
+  pub process_apart : pairs_where (is_live process_id) (apart process_id) st.processes ≡ true
+  pub fields : all fields_fit st.processes ≡ true
+  pub have-threads : all (if_live process_id (has_thread (view st))) st.processes ≡ true
+  pub process_sets : all process_unmasked st.processes ≡ true
+  pub defaults : all kill_stop_default st.processes ≡ true
+  pub flags : all process_flags_known st.processes ≡ true
+  pub limit : all (if_live process_id (within_limit st)) st.processes ≡ true
+  pub process_marks_not_ignored : all (if_live process_id process_not_ignored) st.processes ≡ true
   -- of the thread places
-  pub threadFree : all (ifFree threadId zeroThread) st.threads ≡ true
-  pub threadIds : all (ifLive threadId goodThreadId) st.threads ≡ true
-  pub threadApart : pairsWhere (isLive threadId) (apart threadId) st.threads ≡ true
-  pub owned : all (ifLive threadId (belongs (view st))) st.threads ≡ true
-  pub threadSets : all threadUnmasked st.threads ≡ true
-  pub threadMarksNotIgnored : all (ifLive threadId (threadNotIgnored (view st))) st.threads ≡ true
+  pub thread_free : all (if_free thread_id zero_thread) st.threads ≡ true
+  pub thread_ids : all (if_live thread_id good_thread_id) st.threads ≡ true
+  pub thread_apart : pairs_where (is_live thread_id) (apart thread_id) st.threads ≡ true
+  pub owned : all (if_live thread_id (belongs (view st))) st.threads ≡ true
+  pub thread_sets : all thread_unmasked st.threads ≡ true
+  pub thread_marks_not_ignored : all (if_live thread_id (thread_not_ignored (view st))) st.threads ≡ true
   -- of the records aimed at threads
-  pub threadRest : restZero st.threadBuffer ≡ true
-  pub threadAimed : all (aimedAtThread (view st)) (used st.threadBuffer) ≡ true
-  pub threadOnce : pairsWhere isStandard notTwice (used st.threadBuffer) ≡ true
-  pub threadUnmarked : all (notMarkedToo st) (used st.threadBuffer) ≡ true
-  pub threadRecordsNotIgnored : all (recordNotIgnored (view st)) (used st.threadBuffer) ≡ true
+  pub thread_rest : rest_zero st.thread_buffer ≡ true
+  pub thread_aimed : all (aimed_at_thread (view st)) (used st.thread_buffer) ≡ true
+  pub thread_once : pairs_where is_standard not_twice (used st.thread_buffer) ≡ true
+  pub thread_unmarked : all (not_marked_too st) (used st.thread_buffer) ≡ true
+  pub thread_records_not_ignored : all (record_not_ignored (view st)) (used st.thread_buffer) ≡ true
   -- of the records aimed at processes
-  pub processRest : restZero st.processBuffer ≡ true
-  pub processAimed : all (aimedAtProcess (view st)) (used st.processBuffer) ≡ true
-  pub processOnce : pairsWhere isStandard notTwice (used st.processBuffer) ≡ true
-  pub processUnmarked : all (notMarkedToo st) (used st.processBuffer) ≡ true
-  pub processRecordsNotIgnored : all (recordNotIgnored (view st)) (used st.processBuffer) ≡ true
+  pub process_rest : rest_zero st.process_buffer ≡ true
+  pub process_aimed : all (aimed_at_process (view st)) (used st.process_buffer) ≡ true
+  pub process_once : pairs_where is_standard not_twice (used st.process_buffer) ≡ true
+  pub process_unmarked : all (not_marked_too st) (used st.process_buffer) ≡ true
+  pub process_records_not_ignored : all (record_not_ignored (view st)) (used st.process_buffer) ≡ true
 
 module _ (st : Store) where
   parts-of : Clauses st → Parts st
-  unfolding freeZero idsInRange idsDistinct fieldsInRange threadsOwned processesHaveThreads nothingUnmaskable
-      unmaskableDefault allFlagsKnown recordsLaidOut limitKept pendingOnce nothingIgnored
+  unfolding free_zero ids_in_range ids_distinct fields_in_range threads_owned processes_have_threads nothing_unmaskable
+      unmaskable_default all_flags_known records_laid_out limit_kept pending_once nothing_ignored
   parts-of c =
-      let l1 = and-snd (restZero st.threadBuffer) _ c.laidOut in
-      let l2 = and-snd (restZero st.processBuffer) _ l1 in
-      let o1 = and-snd (pairsWhere isStandard notTwice (used st.threadBuffer)) _ c.once in
-      let o2 = and-snd (pairsWhere isStandard notTwice (used st.processBuffer)) _ o1 in
-      let h1 = and-snd (all (ifLive processId processNotIgnored) st.processes) _ c.not-ignored in
-      let h2 = and-snd (all (ifLive threadId (threadNotIgnored (view st))) st.threads) _ h1 in
+      let l1 = and-snd (rest_zero st.thread_buffer) _ c.laid_out in
+      let l2 = and-snd (rest_zero st.process_buffer) _ l1 in
+      let o1 = and-snd (pairs_where is_standard not_twice (used st.thread_buffer)) _ c.once in
+      let o2 = and-snd (pairs_where is_standard not_twice (used st.process_buffer)) _ o1 in
+      let h1 = and-snd (all (if_live process_id process_not_ignored) st.processes) _ c.not-ignored in
+      let h2 = and-snd (all (if_live thread_id (thread_not_ignored (view st))) st.threads) _ h1 in
       record {
         lengths = lengths-of st c.lengths;
-        processFree = and-fst (all (ifFree processId zeroProcess) st.processes) _ c.freePlaces;
-        processIds = and-fst (all (ifLive processId goodProcessId) st.processes) _ c.idsRange;
-        processApart = and-fst (pairsWhere (isLive processId) (apart processId) st.processes) _ c.idsApart;
+        process_free = and-fst (all (if_free process_id zero_process) st.processes) _ c.free_places;
+        process_ids = and-fst (all (if_live process_id good_process_id) st.processes) _ c.ids_range;
+        process_apart = and-fst (pairs_where (is_live process_id) (apart process_id) st.processes) _ c.ids_apart;
         fields = c.fields;
         have-threads = c.have-threads;
-        processSets = and-fst (all processUnmasked st.processes) _ c.unmaskedSets;
-        defaults = c.unmaskableActions;
+        process_sets = and-fst (all process_unmasked st.processes) _ c.unmasked_sets;
+        defaults = c.unmaskable_actions;
         flags = c.flags;
         limit = c.limit;
-        processMarksNotIgnored = and-fst (all (ifLive processId processNotIgnored) st.processes) _ c.not-ignored;
-        threadFree = and-snd (all (ifFree processId zeroProcess) st.processes) _ c.freePlaces;
-        threadIds = and-snd (all (ifLive processId goodProcessId) st.processes) _ c.idsRange;
-        threadApart = and-snd (pairsWhere (isLive processId) (apart processId) st.processes) _ c.idsApart;
+        process_marks_not_ignored = and-fst (all (if_live process_id process_not_ignored) st.processes) _ c.not-ignored;
+        thread_free = and-snd (all (if_free process_id zero_process) st.processes) _ c.free_places;
+        thread_ids = and-snd (all (if_live process_id good_process_id) st.processes) _ c.ids_range;
+        thread_apart = and-snd (pairs_where (is_live process_id) (apart process_id) st.processes) _ c.ids_apart;
         owned = c.owned;
-        threadSets = and-snd (all processUnmasked st.processes) _ c.unmaskedSets;
-        threadMarksNotIgnored = and-fst (all (ifLive threadId (threadNotIgnored (view st))) st.threads) _ h1;
-        threadRest = and-fst (restZero st.threadBuffer) _ c.laidOut;
-        threadAimed = and-fst (all (aimedAtThread (view st)) (used st.threadBuffer)) _ l2;
-        threadOnce = and-fst (pairsWhere isStandard notTwice (used st.threadBuffer)) _ c.once;
-        threadUnmarked = and-fst (all (notMarkedToo st) (used st.threadBuffer)) _ o2;
-        threadRecordsNotIgnored = and-fst (all (recordNotIgnored (view st)) (used st.threadBuffer)) _ h2;
-        processRest = and-fst (restZero st.processBuffer) _ l1;
-        processAimed = and-snd (all (aimedAtThread (view st)) (used st.threadBuffer)) _ l2;
-        processOnce = and-fst (pairsWhere isStandard notTwice (used st.processBuffer)) _ o1;
-        processUnmarked = and-snd (all (notMarkedToo st) (used st.threadBuffer)) _ o2;
-        processRecordsNotIgnored = and-snd (all (recordNotIgnored (view st)) (used st.threadBuffer)) _ h2;
+        thread_sets = and-snd (all process_unmasked st.processes) _ c.unmasked_sets;
+        thread_marks_not_ignored = and-fst (all (if_live thread_id (thread_not_ignored (view st))) st.threads) _ h1;
+        thread_rest = and-fst (rest_zero st.thread_buffer) _ c.laid_out;
+        thread_aimed = and-fst (all (aimed_at_thread (view st)) (used st.thread_buffer)) _ l2;
+        thread_once = and-fst (pairs_where is_standard not_twice (used st.thread_buffer)) _ c.once;
+        thread_unmarked = and-fst (all (not_marked_too st) (used st.thread_buffer)) _ o2;
+        thread_records_not_ignored = and-fst (all (record_not_ignored (view st)) (used st.thread_buffer)) _ h2;
+        process_rest = and-fst (rest_zero st.process_buffer) _ l1;
+        process_aimed = and-snd (all (aimed_at_thread (view st)) (used st.thread_buffer)) _ l2;
+        process_once = and-fst (pairs_where is_standard not_twice (used st.process_buffer)) _ o1;
+        process_unmarked = and-snd (all (not_marked_too st) (used st.thread_buffer)) _ o2;
+        process_records_not_ignored = and-snd (all (record_not_ignored (view st)) (used st.thread_buffer)) _ h2;
       }
 
   clauses-by : Parts st → Clauses st
-  unfolding freeZero idsInRange idsDistinct fieldsInRange threadsOwned processesHaveThreads nothingUnmaskable
-      unmaskableDefault allFlagsKnown recordsLaidOut limitKept pendingOnce nothingIgnored
+  unfolding free_zero ids_in_range ids_distinct fields_in_range threads_owned processes_have_threads nothing_unmaskable
+      unmaskable_default all_flags_known records_laid_out limit_kept pending_once nothing_ignored
   clauses-by p =
       record {
         lengths = lengths-by st p.lengths;
-        freePlaces = and_both p.processFree p.threadFree;
-        idsRange = and_both p.processIds p.threadIds;
-        idsApart = and_both p.processApart p.threadApart;
+        free_places = and_both p.process_free p.thread_free;
+        ids_range = and_both p.process_ids p.thread_ids;
+        ids_apart = and_both p.process_apart p.thread_apart;
         fields = p.fields;
         owned = p.owned;
         have-threads = p.have-threads;
-        unmaskedSets = and_both p.processSets p.threadSets;
-        unmaskableActions = p.defaults;
+        unmasked_sets = and_both p.process_sets p.thread_sets;
+        unmaskable_actions = p.defaults;
         flags = p.flags;
-        laidOut = and_both p.threadRest (and_both p.processRest (and_both p.threadAimed p.processAimed));
+        laid_out = and_both p.thread_rest (and_both p.process_rest (and_both p.thread_aimed p.process_aimed));
         limit = p.limit;
-        once = and_both p.threadOnce (and_both p.processOnce (and_both p.threadUnmarked p.processUnmarked));
+        once = and_both p.thread_once (and_both p.process_once (and_both p.thread_unmarked p.process_unmarked));
         not-ignored =
-            and_both p.processMarksNotIgnored
-            (and_both p.threadMarksNotIgnored (and_both p.threadRecordsNotIgnored p.processRecordsNotIgnored));
+            and_both p.process_marks_not_ignored
+            (and_both p.thread_marks_not_ignored (and_both p.thread_records_not_ignored p.process_records_not_ignored));
       }
 
   pub parts : sound st ≡ true → Parts st

@@ -5,17 +5,17 @@ use mathlib.Core.Bool.{Bool, true, false, not, ◌&&◌, ◌||◌, cond}
 use mathlib.Core.List.{map}
 use lib.Dec.{eqb, eqb-zero-suc}
 use lib.ListN.{replicate}
-use Rattle.limits.specs.Limits.{processPlaces, threadPlaces, ESRCH, EINVAL}
+use Rattle.limits.specs.Limits.{process_places, thread_places, ESRCH, EINVAL}
 use Rattle.lists.specs.Lists.{any}
 use Rattle.lists.proofs.Bools.{and_right}
 use Rattle.lists.proofs.Lists.{any-map, any-replicate}
-use Rattle.rules.specs.Types.{Call, clear, addProcess, addThread, endProcess, endThread, kill, sigqueue}
+use Rattle.rules.specs.Types.{Call, clear, add_process, add_thread, end_process, end_thread, kill, sigqueue}
 use Rattle.rules.specs.Types.{sigaction, sigmask, sigpending, look, who, take, sigreturn}
-use Rattle.rules.specs.View.{isProcess, isThread, liveProcess, liveThread}
-use Rattle.rules.specs.Store.{Place, held, freeProcess, freeThread, cleared, view}
+use Rattle.rules.specs.View.{is_process, is_thread, live_process, live_thread}
+use Rattle.rules.specs.Store.{Place, held, free_process, free_thread, cleared, view}
 use Rattle.rules.specs.Sound.{sound}
-use Rattle.rules.specs.Refusals.{refusal, badId, overLast, badAction, badWay, noProcessLive, noThreadLive}
-use Rattle.rules.specs.Refusals.{badTarget, noProcessPlace, noThreadPlace, rows, table, refusalOf}
+use Rattle.rules.specs.Refusals.{refusal, bad_id, over_last, bad_action, bad_way, no_process_live, no_thread_live}
+use Rattle.rules.specs.Refusals.{bad_target, no_process_place, no_thread_place, rows, table, refusal_of}
 use Rattle.rules.specs.Computing.{computing}
 use Rattle.rules.proofs.RefusalTable.{no-fault}
 
@@ -35,44 +35,44 @@ none-held : {A : Type 0} (p : A → Bool) (x : Place A) (n : ℕ) → p x.holds 
     → any p (map held (replicate n x)) ≡ false
 none-held {A} p x n e = any-map p held (replicate n x) ∙ any-replicate (λ (y : Place A). p y.holds) x e n
 
-pub no-process : (n : ℕ) → liveProcess (view cleared) n ≡ false
-unfolding liveProcess view cleared isProcess
-no-process n = none-held (isProcess n) freeProcess processPlaces (no-id n)
+pub no-process : (n : ℕ) → live_process (view cleared) n ≡ false
+unfolding live_process view cleared is_process
+no-process n = none-held (is_process n) free_process process_places (no-id n)
 
-pub no-thread : (n : ℕ) → liveThread (view cleared) n ≡ false
-unfolding liveThread view cleared isThread
-no-thread n = none-held (isThread n) freeThread threadPlaces (no-id n)
+pub no-thread : (n : ℕ) → live_thread (view cleared) n ≡ false
+unfolding live_thread view cleared is_thread
+no-thread n = none-held (is_thread n) free_thread thread_places (no-id n)
 
-places-free : (noProcessPlace (view cleared) || noThreadPlace (view cleared)) ≡ false
+places-free : (no_process_place (view cleared) || no_thread_place (view cleared)) ≡ false
 unfolding computing
 places-free = refl
 
 -- ---- what is refused
 
 -- adding a process is refused for a bad id alone; what names a process or a thread finds none, unless 22 comes first
-pub refusedThere : Call → ℕ
-refusedThere clear = 0
-refusedThere (addProcess new) = cond (badId new.id || badId new.thread) EINVAL 0
-refusedThere (addThread creator id) = cond (badId id) EINVAL ESRCH
-refusedThere (endProcess id) = ESRCH
-refusedThere (endThread id) = ESRCH
-refusedThere (kill by to t s) = cond (overLast s) EINVAL ESRCH
-refusedThere (sigqueue by to t s value) = cond (overLast s) EINVAL ESRCH
-refusedThere (sigaction p s new) = cond (badAction s new) EINVAL ESRCH
-refusedThere (sigmask t way set) = cond (badWay way set) EINVAL ESRCH
-refusedThere (sigpending t) = ESRCH
-refusedThere (look t) = ESRCH
-refusedThere (who p) = ESRCH
-refusedThere (take t) = ESRCH
-refusedThere (sigreturn t saved) = ESRCH
+pub refused_there : Call → ℕ
+refused_there clear = 0
+refused_there (add_process new) = cond (bad_id new.id || bad_id new.thread) EINVAL 0
+refused_there (add_thread creator id) = cond (bad_id id) EINVAL ESRCH
+refused_there (end_process id) = ESRCH
+refused_there (end_thread id) = ESRCH
+refused_there (kill by to t s) = cond (over_last s) EINVAL ESRCH
+refused_there (sigqueue by to t s value) = cond (over_last s) EINVAL ESRCH
+refused_there (sigaction p s new) = cond (bad_action s new) EINVAL ESRCH
+refused_there (sigmask t way set) = cond (bad_way way set) EINVAL ESRCH
+refused_there (sigpending t) = ESRCH
+refused_there (look t) = ESRCH
+refused_there (who p) = ESRCH
+refused_there (take t) = ESRCH
+refused_there (sigreturn t saved) = ESRCH
 
-by_rows : (c : Call) → refusal (rows (view cleared) c) ≡ refusedThere c
-unfolding refusal rows refusedThere noProcessLive noThreadLive badTarget
+by_rows : (c : Call) → refusal (rows (view cleared) c) ≡ refused_there c
+unfolding refusal rows refused_there no_process_live no_thread_live bad_target
 by_rows clear = refl
-by_rows (addProcess new) = rw (no-process new.id, no-thread new.thread, places-free)
-by_rows (addThread creator id) = rw (no-thread creator)
-by_rows (endProcess id) = rw (no-process id)
-by_rows (endThread id) = rw (no-thread id)
+by_rows (add_process new) = rw (no-process new.id, no-thread new.thread, places-free)
+by_rows (add_thread creator id) = rw (no-thread creator)
+by_rows (end_process id) = rw (no-process id)
+by_rows (end_thread id) = rw (no-thread id)
 by_rows (kill by to t s) = rw (no-process by)
 by_rows (sigqueue by to t s value) = rw (no-process by)
 by_rows (sigaction p s new) = rw (no-process p)
@@ -84,6 +84,6 @@ by_rows (take t) = rw (no-thread t)
 by_rows (sigreturn t saved) = rw (no-thread t)
 
 -- a call on a cleared store is refused exactly where the rows say
-pub on-cleared : (c : Call) → refusalOf cleared c ≡ refusedThere c
-unfolding refusalOf table refusal
+pub on-cleared : (c : Call) → refusal_of cleared c ≡ refused_there c
+unfolding refusal_of table refusal
 on-cleared c = rw (no-fault c cleared sound-cleared) (by_rows c)

@@ -18,39 +18,39 @@ use Rattle.lists.proofs.Changes.{first-changed, first-apart}
 use Rattle.sigset.specs.declared.SigSet.{SigSet}
 use Rattle.sigset.specs.Set.{Signal, has}
 use Rattle.types.specs.declared.Action.{Action}
-use Rattle.types.specs.Values.{defaultAction}
-use Rattle.rules.specs.Types.{Process, Thread, Queue, noProcess, noThread}
-use Rattle.rules.specs.Signals.{isSignal}
-use Rattle.rules.specs.View.{View, setStopped, setMask, isProcess, isThread, sameQueue, processQueue, targetQueue}
-use Rattle.rules.specs.View.{actionOf, liveProcess, liveThread, theProcess, theThread}
-use Rattle.rules.specs.Store.{Place, Store, held, freeProcess, freeThread, recordsFor, processMark, threadMark}
-use Rattle.rules.specs.Store.{markIn, queuedIn, view, amend, onProcesses, onThreads, withStopped, withAction}
-use Rattle.rules.specs.Store.{withMask, apply}
-use Rattle.rules.specs.Sound.{processId, threadId}
+use Rattle.types.specs.Values.{default_action}
+use Rattle.rules.specs.Types.{Process, Thread, Queue, no_process, no_thread}
+use Rattle.rules.specs.Signals.{is_signal}
+use Rattle.rules.specs.View.{View, set_stopped, set_mask, is_process, is_thread, same_queue, process_queue, target_queue}
+use Rattle.rules.specs.View.{action_of, live_process, live_thread, the_process, the_thread}
+use Rattle.rules.specs.Store.{Place, Store, held, free_process, free_thread, records_for, process_mark, thread_mark}
+use Rattle.rules.specs.Store.{mark_in, queued_in, view, amend, on_processes, on_threads, with_stopped, with_action}
+use Rattle.rules.specs.Store.{with_mask, apply}
+use Rattle.rules.specs.Sound.{process_id, thread_id}
 use Rattle.rules.proofs.Cleared.{no-id}
 use Rattle.rules.proofs.Ids.{named}
 use Rattle.rules.proofs.Marks.{first-held, where-passes}
 
 -- w is v with g done to the process n
 pub record ProcessAmended (v w : View) (n : ℕ) (g : Process → Process) : Type 0 where
-  pub live : (k : ℕ) → liveProcess w k ≡ liveProcess v k
-  pub own : liveProcess v n ≡ true → theProcess w n ≡ g (theProcess v n)
-  pub other : (k : ℕ) → eqb k n ≡ false → theProcess w k ≡ theProcess v k
+  pub live : (k : ℕ) → live_process w k ≡ live_process v k
+  pub own : live_process v n ≡ true → the_process w n ≡ g (the_process v n)
+  pub other : (k : ℕ) → eqb k n ≡ false → the_process w k ≡ the_process v k
   pub threads : w.threads ≡ v.threads
-  pub threadLive : (k : ℕ) → liveThread w k ≡ liveThread v k
-  pub thread : (k : ℕ) → theThread w k ≡ theThread v k
+  pub thread_live : (k : ℕ) → live_thread w k ≡ live_thread v k
+  pub thread : (k : ℕ) → the_thread w k ≡ the_thread v k
   pub marks : (q : Queue) (s : ℕ) → w.marks q s ≡ v.marks q s
   pub oldest : (q : Queue) (s : ℕ) → w.oldest q s ≡ v.oldest q s
   pub queued : (k : ℕ) → w.queued k ≡ v.queued k
 
 -- w is v with g done to the thread n
 pub record ThreadAmended (v w : View) (n : ℕ) (g : Thread → Thread) : Type 0 where
-  pub live : (k : ℕ) → liveThread w k ≡ liveThread v k
-  pub own : liveThread v n ≡ true → theThread w n ≡ g (theThread v n)
-  pub other : (k : ℕ) → eqb k n ≡ false → theThread w k ≡ theThread v k
+  pub live : (k : ℕ) → live_thread w k ≡ live_thread v k
+  pub own : live_thread v n ≡ true → the_thread w n ≡ g (the_thread v n)
+  pub other : (k : ℕ) → eqb k n ≡ false → the_thread w k ≡ the_thread v k
   pub processes : w.processes ≡ v.processes
-  pub processLive : (k : ℕ) → liveProcess w k ≡ liveProcess v k
-  pub process : (k : ℕ) → theProcess w k ≡ theProcess v k
+  pub process_live : (k : ℕ) → live_process w k ≡ live_process v k
+  pub process : (k : ℕ) → the_process w k ≡ the_process v k
   pub marks : (q : Queue) (s : ℕ) → w.marks q s ≡ v.marks q s
   pub oldest : (q : Queue) (s : ℕ) → w.oldest q s ≡ v.oldest q s
   pub queued : (k : ℕ) → w.queued k ≡ v.queued k
@@ -115,38 +115,38 @@ module _ {A : Type 0} (id : A → ℕ) (n : ℕ) (g : A → A) (i : (a : A) → 
 -- ---- a process
 
 module _ (st : Store) (n : ℕ) (g : Process → Process) (i : (p : Process) → (g p).id ≡ p.id) where
-  abbrev afterProcess : Store
-  afterProcess = onProcesses (amend (isProcess n) g) st
+  abbrev after_process : Store
+  after_process = on_processes (amend (is_process n) g) st
 
-  process-live-kept : (k : ℕ) → liveProcess (view afterProcess) k ≡ liveProcess (view st) k
-  unfolding liveProcess view isProcess
-  process-live-kept = live-amended processId n g i st.processes
+  process-live-kept : (k : ℕ) → live_process (view after_process) k ≡ live_process (view st) k
+  unfolding live_process view is_process
+  process-live-kept = live-amended process_id n g i st.processes
 
-  process-own : liveProcess (view st) n ≡ true → theProcess (view afterProcess) n ≡ g (theProcess (view st) n)
-  unfolding liveProcess theProcess view isProcess
-  process-own = own-amended processId n g i st.processes freeProcess (no-id n)
+  process-own : live_process (view st) n ≡ true → the_process (view after_process) n ≡ g (the_process (view st) n)
+  unfolding live_process the_process view is_process
+  process-own = own-amended process_id n g i st.processes free_process (no-id n)
 
-  process-other : (k : ℕ) → eqb k n ≡ false → theProcess (view afterProcess) k ≡ theProcess (view st) k
-  unfolding theProcess view isProcess
+  process-other : (k : ℕ) → eqb k n ≡ false → the_process (view after_process) k ≡ the_process (view st) k
+  unfolding the_process view is_process
   process-other k f =
-      ap (λ (o : Option Process). get_or o noProcess) (other-amended processId n g i st.processes k f)
+      ap (λ (o : Option Process). get_or o no_process) (other-amended process_id n g i st.processes k f)
 
-  process-marks-kept : (q : Queue) (s : ℕ) → markIn afterProcess q s ≡ markIn st q s
-  unfolding markIn
+  process-marks-kept : (q : Queue) (s : ℕ) → mark_in after_process q s ≡ mark_in st q s
+  unfolding mark_in
   process-marks-kept q s =
-      ap (λ (b : Bool). isSignal s && (b || any (threadMark q s) st.threads))
-      (any-changed (processMark q s) (λ (x : Place Process). isProcess n x.holds) (with g) st.processes
-      (λ x _. ap (λ (m : ℕ). sameQueue q (processQueue m) && has x.marks s) (i x.holds)))
+      ap (λ (b : Bool). is_signal s && (b || any (thread_mark q s) st.threads))
+      (any-changed (process_mark q s) (λ (x : Place Process). is_process n x.holds) (with g) st.processes
+      (λ x _. ap (λ (m : ℕ). same_queue q (process_queue m) && has x.marks s) (i x.holds)))
 
-  pub process-amended : ProcessAmended (view st) (view afterProcess) n g
-  unfolding view liveThread theThread recordsFor queuedIn
+  pub process-amended : ProcessAmended (view st) (view after_process) n g
+  unfolding view live_thread the_thread records_for queued_in
   process-amended =
       record {
         live = process-live-kept;
         own = process-own;
         other = process-other;
         threads = refl;
-        threadLive = λ k. refl;
+        thread_live = λ k. refl;
         thread = λ k. refl;
         marks = process-marks-kept;
         oldest = λ q s. refl;
@@ -157,37 +157,37 @@ module _ (st : Store) (n : ℕ) (g : Process → Process) (i : (p : Process) →
 
 module _ (st : Store) (n : ℕ) (g : Thread → Thread) (i : (t : Thread) → (g t).id ≡ t.id)
     (o : (t : Thread) → (g t).process ≡ t.process) where
-  abbrev afterThread : Store
-  afterThread = onThreads (amend (isThread n) g) st
+  abbrev after_thread : Store
+  after_thread = on_threads (amend (is_thread n) g) st
 
-  thread-live-kept : (k : ℕ) → liveThread (view afterThread) k ≡ liveThread (view st) k
-  unfolding liveThread view isThread
-  thread-live-kept = live-amended threadId n g i st.threads
+  thread-live-kept : (k : ℕ) → live_thread (view after_thread) k ≡ live_thread (view st) k
+  unfolding live_thread view is_thread
+  thread-live-kept = live-amended thread_id n g i st.threads
 
-  thread-own : liveThread (view st) n ≡ true → theThread (view afterThread) n ≡ g (theThread (view st) n)
-  unfolding liveThread theThread view isThread
-  thread-own = own-amended threadId n g i st.threads freeThread (no-id n)
+  thread-own : live_thread (view st) n ≡ true → the_thread (view after_thread) n ≡ g (the_thread (view st) n)
+  unfolding live_thread the_thread view is_thread
+  thread-own = own-amended thread_id n g i st.threads free_thread (no-id n)
 
-  thread-other : (k : ℕ) → eqb k n ≡ false → theThread (view afterThread) k ≡ theThread (view st) k
-  unfolding theThread view isThread
-  thread-other k f = ap (λ (a : Option Thread). get_or a noThread) (other-amended threadId n g i st.threads k f)
+  thread-other : (k : ℕ) → eqb k n ≡ false → the_thread (view after_thread) k ≡ the_thread (view st) k
+  unfolding the_thread view is_thread
+  thread-other k f = ap (λ (a : Option Thread). get_or a no_thread) (other-amended thread_id n g i st.threads k f)
 
-  thread-marks-kept : (q : Queue) (s : ℕ) → markIn afterThread q s ≡ markIn st q s
-  unfolding markIn
+  thread-marks-kept : (q : Queue) (s : ℕ) → mark_in after_thread q s ≡ mark_in st q s
+  unfolding mark_in
   thread-marks-kept q s =
-      ap (λ (b : Bool). isSignal s && (any (processMark q s) st.processes || b))
-      (any-changed (threadMark q s) (λ (x : Place Thread). isThread n x.holds) (with g) st.threads
-      (λ x _. ap (λ (k : Queue). sameQueue q k && has x.marks s) (ap₂ targetQueue (o x.holds) (i x.holds))))
+      ap (λ (b : Bool). is_signal s && (any (process_mark q s) st.processes || b))
+      (any-changed (thread_mark q s) (λ (x : Place Thread). is_thread n x.holds) (with g) st.threads
+      (λ x _. ap (λ (k : Queue). same_queue q k && has x.marks s) (ap₂ target_queue (o x.holds) (i x.holds))))
 
-  pub thread-amended : ThreadAmended (view st) (view afterThread) n g
-  unfolding view liveProcess theProcess recordsFor queuedIn
+  pub thread-amended : ThreadAmended (view st) (view after_thread) n g
+  unfolding view live_process the_process records_for queued_in
   thread-amended =
       record {
         live = thread-live-kept;
         own = thread-own;
         other = thread-other;
         processes = refl;
-        processLive = λ k. refl;
+        process_live = λ k. refl;
         process = λ k. refl;
         marks = thread-marks-kept;
         oldest = λ q s. refl;
@@ -197,25 +197,25 @@ module _ (st : Store) (n : ℕ) (g : Thread → Thread) (i : (t : Thread) → (g
 -- ---- the actions of a process with a new one for s
 
 module _ (p : Process) (s : ℕ) where
-  pub action-own : (a : Action) → length p.actions ≡ signals → Signal s → actionOf (withAction s a p) s ≡ a
-  unfolding actionOf
+  pub action-own : (a : Action) → length p.actions ≡ signals → Signal s → action_of (with_action s a p) s ≡ a
+  unfolding action_of
   action-own a l f =
       let h : s - 1 < length p.actions = omega (arith, f.low, f.high) in
-      get_or-set_same p.actions (s - 1) a defaultAction h
+      get_or-set_same p.actions (s - 1) a default_action h
 
   pub action-other : (k : ℕ) (a : Action) → Signal s → Signal k → (k ≡ s → ⊥)
-      → actionOf (withAction s a p) k ≡ actionOf p k
-  unfolding actionOf
+      → action_of (with_action s a p) k ≡ action_of p k
+  unfolding action_of
   action-other k a f g d =
-      get_or-set_other p.actions (s - 1) (k - 1) a defaultAction (λ z. d (omega (arith, f.low, g.low)))
+      get_or-set_other p.actions (s - 1) (k - 1) a default_action (λ z. d (omega (arith, f.low, g.low)))
 
 -- ---- the changes
 
 module _ (st : Store) where
-  pub setStopped-amended : (n b : ℕ) → ProcessAmended (view st) (view (apply (setStopped n b) st)) n (withStopped b)
+  pub set_stopped-amended : (n b : ℕ) → ProcessAmended (view st) (view (apply (set_stopped n b) st)) n (with_stopped b)
   unfolding apply
-  setStopped-amended n b = process-amended st n (withStopped b) (λ p. refl)
+  set_stopped-amended n b = process-amended st n (with_stopped b) (λ p. refl)
 
-  pub setMask-amended : (n : ℕ) (m : SigSet) → ThreadAmended (view st) (view (apply (setMask n m) st)) n (withMask m)
+  pub set_mask-amended : (n : ℕ) (m : SigSet) → ThreadAmended (view st) (view (apply (set_mask n m) st)) n (with_mask m)
   unfolding apply
-  setMask-amended n m = thread-amended st n (withMask m) (λ t. refl) (λ t. refl)
+  set_mask-amended n m = thread-amended st n (with_mask m) (λ t. refl) (λ t. refl)

@@ -7,9 +7,9 @@ use native.Mathlib.Nat.{min-le_left}
 use lib.Arith.{bin_ind}
 use lib.Bits.{bit_and, and_step}
 use borrow.Author.Tests.{eq-eqb}
-use Rattle.limits.specs.Limits.{knownFlags, saSiginfo}
+use Rattle.limits.specs.Limits.{known_flags, sa_siginfo}
 use Rattle.types.specs.declared.Action.{Action}
-use Rattle.rules.specs.Sound.{flagsKnown}
+use Rattle.rules.specs.Sound.{flags_known}
 use Rattle.rules.specs.Taking.{reset}
 
 -- ---- the last bit and the others
@@ -32,6 +32,6 @@ and_assoc a =
 
 -- ---- what is reset
 
-pub reset-known : (a : Action) → flagsKnown (reset a) ≡ true
-unfolding flagsKnown reset
-reset-known a = eq-eqb _ _ (and_assoc a.flags (knownFlags - saSiginfo) knownFlags)
+pub reset-known : (a : Action) → flags_known (reset a) ≡ true
+unfolding flags_known reset
+reset-known a = eq-eqb _ _ (and_assoc a.flags (known_flags - sa_siginfo) known_flags)

@@ -6,12 +6,12 @@ use mathlib.Core.Bool.{Bool, true, false, not, ◌||◌}
 use mathlib.Core.List.{List, map}
 use lib.Dec.{eqb}
 use borrow.Author.Tests.{eqb-true, eq-eqb, not-true}
-use Rattle.lists.specs.Lists.{any, change, replaceFirst, pairsWhere}
+use Rattle.lists.specs.Lists.{any, change, replace_first, pairs_where}
 use Rattle.lists.proofs.Bools.{split, clash, and_both, or_left, or_cases, imp_use, imp-by}
-use Rattle.lists.proofs.Lists.{Fail, All-imp, any-All, any-map, pairsWhere-pairs}
+use Rattle.lists.proofs.Lists.{Fail, All-imp, any-All, any-map, pairs_where-pairs}
 use Rattle.lists.proofs.Changes.{changed, pairs-changed, pairs-filled}
 use Rattle.rules.specs.Store.{Place, held}
-use Rattle.rules.specs.Sound.{isLive, apart}
+use Rattle.rules.specs.Sound.{is_live, apart}
 use Rattle.rules.proofs.Ids.{named}
 
 -- a' is a or 0, b' is b or 0
@@ -34,39 +34,39 @@ kept-apart a a' b b' h k e =
     (λ t. ap not t))
 
 module _ {A : Type 0} (id : A → ℕ) where
-  abbrev unlikeLive : Place A → Place A → Bool
-  unlikeLive x y = not (isLive id x) || apart id x y
+  abbrev unlike_live : Place A → Place A → Bool
+  unlike_live x y = not (is_live id x) || apart id x y
 
   -- the place keeps its id or becomes free
-  abbrev sameOrFree : Place A → Place A → Bool
-  sameOrFree x y = eqb (id y.holds) (id x.holds) || eqb (id y.holds) 0
+  abbrev same_or_free : Place A → Place A → Bool
+  same_or_free x y = eqb (id y.holds) (id x.holds) || eqb (id y.holds) 0
 
-  pub apart-changed : (t : Place A → Bool) (g : Place A → Place A) → ((x : Place A) → sameOrFree x (g x) ≡ true)
+  pub apart-changed : (t : Place A → Bool) (g : Place A → Place A) → ((x : Place A) → same_or_free x (g x) ≡ true)
       → (xs : List (Place A))
-      → pairsWhere (isLive id) (apart id) xs ≡ true → pairsWhere (isLive id) (apart id) (change t g xs) ≡ true
+      → pairs_where (is_live id) (apart id) xs ≡ true → pairs_where (is_live id) (apart id) (change t g xs) ≡ true
   apart-changed t g h xs e =
-      let s : (x : Place A) → sameOrFree x (changed t g x) ≡ true =
+      let s : (x : Place A) → same_or_free x (changed t g x) ≡ true =
       λ x. split (t x) (λ f. rw f (h x))
       (λ f. rw f (or_left (eqb (id x.holds) 0) (eq-eqb (id x.holds) (id x.holds) refl))) in
-      pairsWhere-pairs (isLive id) (apart id) (change t g xs)
-      ∙ pairs-changed unlikeLive t g
+      pairs_where-pairs (is_live id) (apart id) (change t g xs)
+      ∙ pairs-changed unlike_live t g
       (λ x y. kept-apart (id x.holds) (id (changed t g x).holds) (id y.holds) (id (changed t g y).holds)
       (s x) (s y))
-      xs (sym (pairsWhere-pairs (isLive id) (apart id) xs) ∙ e)
+      xs (sym (pairs_where-pairs (is_live id) (apart id) xs) ∙ e)
 
   -- nobody has the id of what comes
-  pub apart-filled : (t : Place A → Bool) (a : Place A) → isLive id a ≡ true → (xs : List (Place A))
+  pub apart-filled : (t : Place A → Bool) (a : Place A) → is_live id a ≡ true → (xs : List (Place A))
       → any (named id (id a.holds)) (map held xs) ≡ false
-      → pairsWhere (isLive id) (apart id) xs ≡ true → pairsWhere (isLive id) (apart id) (replaceFirst t a xs) ≡ true
+      → pairs_where (is_live id) (apart id) xs ≡ true → pairs_where (is_live id) (apart id) (replace_first t a xs) ≡ true
   apart-filled t a l xs n e =
-      pairsWhere-pairs (isLive id) (apart id) (replaceFirst t a xs)
-      ∙ pairs-filled unlikeLive t a xs
+      pairs_where-pairs (is_live id) (apart id) (replace_first t a xs)
+      ∙ pairs-filled unlike_live t a xs
       (All-imp (Fail (λ (x : Place A). named id (id a.holds) x.holds))
-      (λ x. (unlikeLive x a ≡ true) × (unlikeLive a x ≡ true))
+      (λ x. (unlike_live x a ≡ true) × (unlike_live a x ≡ true))
       (λ x f. (
-        imp-by (isLive id x)
+        imp-by (is_live id x)
             (λ _. split (eqb (id x.holds) (id a.holds)) (λ h. clash (and_both l h) f) (λ h. ap not h)),
-        imp-by (isLive id a)
+        imp-by (is_live id a)
             (λ _.
             split (eqb (id a.holds) (id x.holds))
             (λ h. clash
@@ -75,4 +75,4 @@ module _ {A : Type 0} (id : A → ℕ) where
       ))
       xs (any-All (λ (x : Place A). named id (id a.holds) x.holds) xs
       (sym (any-map (named id (id a.holds)) held xs) ∙ n)))
-      (sym (pairsWhere-pairs (isLive id) (apart id) xs) ∙ e)
+      (sym (pairs_where-pairs (is_live id) (apart id) xs) ∙ e)

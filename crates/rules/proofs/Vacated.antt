@@ -10,20 +10,20 @@ use Rattle.lists.proofs.Bools.{and_right}
 use Rattle.lists.proofs.Lists.{Fail, any-All, All-any, All-change, any-first, map-change}
 use Rattle.lists.proofs.Changes.{first-vacated, first-apart}
 use Rattle.sigset.proofs.Laws.{has-empty}
-use Rattle.rules.specs.Types.{Process, Thread, Queue, noProcess, noThread}
-use Rattle.rules.specs.View.{isProcess, isThread, sameQueue, processQueue, threadQueue, liveProcess, liveThread}
-use Rattle.rules.specs.View.{theProcess, theThread}
-use Rattle.rules.specs.Store.{Place, Store, held, freeProcess, freeThread, processMark, threadMark, view, vacate}
+use Rattle.rules.specs.Types.{Process, Thread, Queue, no_process, no_thread}
+use Rattle.rules.specs.View.{is_process, is_thread, same_queue, process_queue, thread_queue, live_process, live_thread}
+use Rattle.rules.specs.View.{the_process, the_thread}
+use Rattle.rules.specs.Store.{Place, Store, held, free_process, free_thread, process_mark, thread_mark, view, vacate}
 use Rattle.rules.proofs.FieldsInView.{two-ids}
 use Rattle.rules.proofs.Cleared.{no-id}
 use Rattle.rules.proofs.ClausesByPlace.{GoodProcess, GoodThread, own-free-process, own-free-thread}
 
 -- ---- a free place
 
-pub good-free-process : (st : Store) → GoodProcess st freeProcess
+pub good-free-process : (st : Store) → GoodProcess st free_process
 good-free-process st = record { own = own-free-process; limit = refl }
 
-pub good-free-thread : (st : Store) → GoodThread st freeThread
+pub good-free-thread : (st : Store) → GoodThread st free_thread
 good-free-thread st = record { own = own-free-thread; owned = refl; not-ignored = refl }
 
 -- nothing is marked there
@@ -34,11 +34,11 @@ unmarked-vacated {A} free p f z xs e =
     All-any f (vacate free p xs)
     (All-change (Fail f) (λ (x : Place A). p x.holds) (λ _. free) (λ x _ _. z) xs (any-All f xs e))
 
-pub free-process-unmarked : (q : Queue) (s : ℕ) → processMark q s freeProcess ≡ false
-free-process-unmarked q s = and_right (sameQueue q (processQueue 0)) (has-empty s)
+pub free-process-unmarked : (q : Queue) (s : ℕ) → process_mark q s free_process ≡ false
+free-process-unmarked q s = and_right (same_queue q (process_queue 0)) (has-empty s)
 
-pub free-thread-unmarked : (q : Queue) (s : ℕ) → threadMark q s freeThread ≡ false
-free-thread-unmarked q s = and_right (sameQueue q (threadQueue noThread)) (has-empty s)
+pub free-thread-unmarked : (q : Queue) (s : ℕ) → thread_mark q s free_thread ≡ false
+free-thread-unmarked q s = and_right (same_queue q (thread_queue no_thread)) (has-empty s)
 
 -- ---- who stays
 
@@ -48,38 +48,38 @@ held-vacated free p xs = map-change held p (λ _. free) (λ _. free.holds) (λ x
 
 module _ (st st' : Store) where
   -- st' is st without the process n
-  module _ (n : ℕ) (e : st'.processes ≡ vacate freeProcess (isProcess n) st.processes) (k : ℕ)
+  module _ (n : ℕ) (e : st'.processes ≡ vacate free_process (is_process n) st.processes) (k : ℕ)
       (f : eqb k n ≡ false) where
-    first-process : first (isProcess k) (view st').processes ≡ first (isProcess k) (view st).processes
-    unfolding view isProcess
+    first-process : first (is_process k) (view st').processes ≡ first (is_process k) (view st).processes
+    unfolding view is_process
     first-process =
-        ap (λ (xs : List (Place Process)). first (isProcess k) (map held xs)) e
-        ∙ ap (first (isProcess k)) (held-vacated freeProcess (isProcess n) st.processes)
-        ∙ first-apart (isProcess k) (isProcess n) (λ _. noProcess) (λ p t. (two-ids k n p.id f t, no-id k))
+        ap (λ (xs : List (Place Process)). first (is_process k) (map held xs)) e
+        ∙ ap (first (is_process k)) (held-vacated free_process (is_process n) st.processes)
+        ∙ first-apart (is_process k) (is_process n) (λ _. no_process) (λ p t. (two-ids k n p.id f t, no-id k))
         (map held st.processes)
 
-    pub process-stays : theProcess (view st') k ≡ theProcess (view st) k
-    unfolding theProcess
-    process-stays = ap (λ (o : Option Process). get_or o noProcess) first-process
+    pub process-stays : the_process (view st') k ≡ the_process (view st) k
+    unfolding the_process
+    process-stays = ap (λ (o : Option Process). get_or o no_process) first-process
 
-    pub process-stays-live : liveProcess (view st') k ≡ liveProcess (view st) k
-    unfolding liveProcess
-    process-stays-live = any-first (isProcess k) (view st').processes (view st).processes first-process
+    pub process-stays-live : live_process (view st') k ≡ live_process (view st) k
+    unfolding live_process
+    process-stays-live = any-first (is_process k) (view st').processes (view st).processes first-process
 
   -- st' is st without the threads that pass t
-  module _ (t : Thread → Bool) (e : st'.threads ≡ vacate freeThread t st.threads) (k : ℕ)
-      (l : liveThread (view st) k ≡ true) (f : t (theThread (view st) k) ≡ false) where
-    first-thread : first (isThread k) (view st').threads ≡ first (isThread k) (view st).threads
-    unfolding view isThread liveThread theThread
+  module _ (t : Thread → Bool) (e : st'.threads ≡ vacate free_thread t st.threads) (k : ℕ)
+      (l : live_thread (view st) k ≡ true) (f : t (the_thread (view st) k) ≡ false) where
+    first-thread : first (is_thread k) (view st').threads ≡ first (is_thread k) (view st).threads
+    unfolding view is_thread live_thread the_thread
     first-thread =
-        ap (λ (xs : List (Place Thread)). first (isThread k) (map held xs)) e
-        ∙ ap (first (isThread k)) (held-vacated freeThread t st.threads)
-        ∙ first-vacated (isThread k) t noThread noThread (no-id k) (map held st.threads) l f
+        ap (λ (xs : List (Place Thread)). first (is_thread k) (map held xs)) e
+        ∙ ap (first (is_thread k)) (held-vacated free_thread t st.threads)
+        ∙ first-vacated (is_thread k) t no_thread no_thread (no-id k) (map held st.threads) l f
 
-    pub thread-stays : theThread (view st') k ≡ theThread (view st) k
-    unfolding theThread
-    thread-stays = ap (λ (o : Option Thread). get_or o noThread) first-thread
+    pub thread-stays : the_thread (view st') k ≡ the_thread (view st) k
+    unfolding the_thread
+    thread-stays = ap (λ (o : Option Thread). get_or o no_thread) first-thread
 
-    pub thread-stays-live : liveThread (view st') k ≡ true
-    unfolding liveThread
-    thread-stays-live = any-first (isThread k) (view st').threads (view st).threads first-thread ∙ l
+    pub thread-stays-live : live_thread (view st') k ≡ true
+    unfolding live_thread
+    thread-stays-live = any-first (is_thread k) (view st').threads (view st).threads first-thread ∙ l

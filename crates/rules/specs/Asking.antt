@@ -6,25 +6,25 @@ use Rattle.sigset.specs.Set.{has}
 use Rattle.types.specs.declared.Taken.{Taken}
 use Rattle.types.specs.declared.Taken.TheVariants as taken
 use Rattle.rules.specs.Types.{Thread, Queue}
-use Rattle.rules.specs.View.{View, theProcess, pendingIn, pendingFor}
+use Rattle.rules.specs.View.{View, the_process, pending_in, pending_for}
 
 -- what a thread accepts: "a signal that it does not block". It is demand 3's one test of it; the rule that picks a
--- signal (`canTakeSignal`) has words of its own.
+-- signal (`can_take_signal`) has words of its own.
 unfoldable pub accepts : Thread → ℕ → Bool
 accepts t s = not (has t.mask s)
 
 module _ (v : View) (t : Thread) where
   -- "its process is not stopped"
   unfoldable pub runs : Bool
-  runs = eqb (theProcess v t.process).stopped 0
+  runs = eqb (the_process v t.process).stopped 0
 
   -- "a signal that it does not block is pending for it or for its process"
-  unfoldable pub isOffered : ℕ → Bool
-  isOffered s = accepts t s && pendingFor v t s
+  unfoldable pub is_offered : ℕ → Bool
+  is_offered s = accepts t s && pending_for v t s
 
   -- "its process is not stopped and a signal that it does not block is pending for it or for its process"
-  unfoldable pub hasOffer : Bool
-  hasOffer = runs && any isOffered (range 1 signals)
+  unfoldable pub has_offer : Bool
+  has_offer = runs && any is_offered (range 1 signals)
 
   -- what is pending in the queue of that signal may go to the thread
   pub record MayTake (q : Queue) (s : ℕ) : Type 0 where
@@ -35,7 +35,7 @@ module _ (v : View) (t : Thread) where
     pub accepted : accepts t s ≡ true
     -- "while the process was not stopped"
     pub running : runs ≡ true
-    pub pending : pendingIn v q s ≡ true
+    pub pending : pending_in v q s ≡ true
 
 -- a signal is taken
 unfoldable pub is_taken : Taken → Bool

@@ -1,19 +1,19 @@
 -- "Sending".
 use Rattle.std.specs.Prelude.{ℕ, Bool, true, false, not, ◌&&◌, ◌||◌, cond, List, [], ◌∷◌, ◌++◌, eqb}
-use Rattle.limits.specs.Limits.{SIGKILL, SIGCONT, SIGSTOP, siQueue}
-use Rattle.sigset.specs.Set.{setOf, ofSignal}
+use Rattle.limits.specs.Limits.{SIGKILL, SIGCONT, SIGSTOP, si_queue}
+use Rattle.sigset.specs.Set.{set_of, of_signal}
 use Rattle.types.specs.declared.Siginfo.{Siginfo}
 use Rattle.types.specs.declared.Sent.{Sent}
 use Rattle.types.specs.declared.Sent.TheVariants.{Tested, Acted, Dropped, Absorbed, Marked, Kept}
 use Rattle.rules.specs.Types.{Process, Queue}
-use Rattle.rules.specs.Signals.{standard, stopSignal, ignored}
-use Rattle.rules.specs.View.{View, Change, removeProcess, setStopped, setMark, append, discard, queueOf, actionOf}
-use Rattle.rules.specs.View.{theProcess, pendingIn}
+use Rattle.rules.specs.Signals.{standard, stop_signal, ignored}
+use Rattle.rules.specs.View.{View, Change, remove_process, set_stopped, set_mark, append, discard, queue_of, action_of}
+use Rattle.rules.specs.View.{the_process, pending_in}
 
 -- "A sender may signal if its effective id is 0, or its real or effective id equals the target's real or saved id,
 -- or the signal is CONT and the sessions are equal."
-unfoldable pub maySignal : (sender target : Process) → ℕ → Bool
-maySignal a b s =
+unfoldable pub may_signal : (sender target : Process) → ℕ → Bool
+may_signal a b s =
     eqb a.effective 0
     || ((eqb a.real b.real || eqb a.real b.saved)
     || ((eqb a.effective b.real || eqb a.effective b.saved)
@@ -26,7 +26,7 @@ pub data Generation : Type 0 where
 module _ (v : View) where
   -- step 4: "A standard signal already pending in that queue, or a plain send whose mark is set, is "absorbed""
   unfoldable pub absorbs : (queued : Bool) → Queue → ℕ → Bool
-  absorbs queued q s = (standard s && pendingIn v q s) || (not queued && v.marks q s)
+  absorbs queued q s = (standard s && pending_in v q s) || (not queued && v.marks q s)
 
   -- Signal 0, then steps 1, 3, 4, 5.
   -- All are judged before anything changes: what step 2 discards is never the signal sent.
@@ -35,58 +35,58 @@ module _ (v : View) where
       cond (eqb s 0) testing
       (cond (eqb s SIGKILL) killing
       (cond (eqb s SIGSTOP) stopping
-      (cond (ignored (actionOf (theProcess v q.process) s) s) dropping
+      (cond (ignored (action_of (the_process v q.process) s) s) dropping
       (cond (absorbs queued q s) absorbing
       (cond queued keeping marking)))))
 
   -- the record of a queued send: "code 4 (-1, queued)", sender, the sender's real user id, value.
   -- Of a plain send only its queue and signal are used.
-  unfoldable pub infoOf : (by to thread signal value : ℕ) → Siginfo
-  infoOf by to thread signal value =
+  unfoldable pub info_of : (by to thread signal value : ℕ) → Siginfo
+  info_of by to thread signal value =
       record {
         process = to;
         thread = thread;
         signal = signal;
-        code = siQueue;
+        code = si_queue;
         sender = by;
-        uid = (theProcess v by).real;
+        uid = (the_process v by).real;
         value = value;
       }
 
 -- Steps 1 and 2: "STOP discards every pending CONT of the process and stops it."
 -- "TSTP, TTIN, TTOU discard every pending CONT of the process.
 -- CONT discards every pending stop signal of it and lets it run, blocked or ignored or not."
-unfoldable pub jobControl : (process signal : ℕ) → List Change
-jobControl p s =
-    cond (eqb s SIGCONT) (discard p (setOf stopSignal) ∷ setStopped p 0 ∷ [])
-    (cond (eqb s SIGSTOP) (discard p (ofSignal SIGCONT) ∷ setStopped p 1 ∷ [])
-    (cond (stopSignal s) (discard p (ofSignal SIGCONT) ∷ []) []))
+unfoldable pub job_control : (process signal : ℕ) → List Change
+job_control p s =
+    cond (eqb s SIGCONT) (discard p (set_of stop_signal) ∷ set_stopped p 0 ∷ [])
+    (cond (eqb s SIGSTOP) (discard p (of_signal SIGCONT) ∷ set_stopped p 1 ∷ [])
+    (cond (stop_signal s) (discard p (of_signal SIGCONT) ∷ []) []))
 
 -- step 5: "A plain send sets the mark, "marked". A queued send adds a record at the end, "kept"."
-unfoldable pub sendChanges : Generation → Siginfo → List Change
-sendChanges testing r = []
-sendChanges killing r = removeProcess r.process ∷ []
-sendChanges stopping r = jobControl r.process r.signal
-sendChanges dropping r = jobControl r.process r.signal
-sendChanges absorbing r = jobControl r.process r.signal
-sendChanges marking r = jobControl r.process r.signal ++ (setMark (queueOf r) r.signal ∷ [])
-sendChanges keeping r = jobControl r.process r.signal ++ (append r ∷ [])
+unfoldable pub send_changes : Generation → Siginfo → List Change
+send_changes testing r = []
+send_changes killing r = remove_process r.process ∷ []
+send_changes stopping r = job_control r.process r.signal
+send_changes dropping r = job_control r.process r.signal
+send_changes absorbing r = job_control r.process r.signal
+send_changes marking r = job_control r.process r.signal ++ (set_mark (queue_of r) r.signal ∷ [])
+send_changes keeping r = job_control r.process r.signal ++ (append r ∷ [])
 
-unfoldable pub sendAnswer : Generation → Sent
-sendAnswer testing = Tested
-sendAnswer killing = Acted
-sendAnswer stopping = Acted
-sendAnswer dropping = Dropped
-sendAnswer absorbing = Absorbed
-sendAnswer marking = Marked
-sendAnswer keeping = Kept
+unfoldable pub send_answer : Generation → Sent
+send_answer testing = Tested
+send_answer killing = Acted
+send_answer stopping = Acted
+send_answer dropping = Dropped
+send_answer absorbing = Absorbed
+send_answer marking = Marked
+send_answer keeping = Kept
 
 -- "a queued send needs a record"
-unfoldable pub needsRecord : Generation → Bool
-needsRecord testing = false
-needsRecord killing = false
-needsRecord stopping = false
-needsRecord dropping = false
-needsRecord absorbing = false
-needsRecord marking = false
-needsRecord keeping = true
+unfoldable pub needs_record : Generation → Bool
+needs_record testing = false
+needs_record killing = false
+needs_record stopping = false
+needs_record dropping = false
+needs_record absorbing = false
+needs_record marking = false
+needs_record keeping = true

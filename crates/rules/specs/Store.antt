@@ -1,17 +1,17 @@
 -- "The tables": the store as the lent tables say it, its view, and each change on it.
 use Rattle.std.specs.Prelude.{ℕ, ◌+◌, ◌-◌, Bool, not, ◌&&◌, ◌||◌, cond, List, [], ◌∷◌, ◌++◌, map, eqb, set, replicate}
-use Rattle.limits.specs.Limits.{processPlaces, threadPlaces, bufferRecords}
-use Rattle.lists.specs.Lists.{any, first, keep, leading, dropFirst, change, replaceFirst, count, padded}
+use Rattle.limits.specs.Limits.{process_places, thread_places, buffer_records}
+use Rattle.lists.specs.Lists.{any, first, keep, leading, drop_first, change, replace_first, count, padded}
 use Rattle.sigset.specs.declared.SigSet.{SigSet}
-use Rattle.sigset.specs.Set.{has, union, without, ofSignal, empty}
+use Rattle.sigset.specs.Set.{has, union, without, of_signal, empty}
 use Rattle.types.specs.declared.Action.{Action}
 use Rattle.types.specs.declared.Siginfo.{Siginfo}
-use Rattle.types.specs.Values.{noSiginfo}
-use Rattle.rules.specs.Types.{Process, Thread, Queue, noProcess, noThread}
-use Rattle.rules.specs.Signals.{isSignal}
-use Rattle.rules.specs.View.{View, Change, forget, newProcess, newThread, removeProcess, removeThread, setStopped}
-use Rattle.rules.specs.View.{setAction, setMask, setMark, clearMark, append, dropOldest, discard, isProcess}
-use Rattle.rules.specs.View.{isThread, belongsTo, sameQueue, processQueue, threadQueue, queueOf, inQueue}
+use Rattle.types.specs.Values.{no_siginfo}
+use Rattle.rules.specs.Types.{Process, Thread, Queue, no_process, no_thread}
+use Rattle.rules.specs.Signals.{is_signal}
+use Rattle.rules.specs.View.{View, Change, forget, new_process, new_thread, remove_process, remove_thread, set_stopped}
+use Rattle.rules.specs.View.{set_action, set_mask, set_mark, clear_mark, append, drop_oldest, discard, is_process}
+use Rattle.rules.specs.View.{is_thread, belongs_to, same_queue, process_queue, thread_queue, queue_of, in_queue}
 
 -- a place of a table: what it holds, and its marks
 pub record Place (A : Type 0) : Type 0 where
@@ -22,54 +22,54 @@ pub record Store : Type 0 where
   pub processes : List (Place Process)
   pub threads : List (Place Thread)
   -- every slot of each buffer, "one for records aimed at a thread, one for records aimed at a process"
-  pub threadBuffer : List Siginfo
-  pub processBuffer : List Siginfo
+  pub thread_buffer : List Siginfo
+  pub process_buffer : List Siginfo
 
-abbrev pub freeProcess : Place Process
-freeProcess = record { holds = noProcess; marks = empty }
+abbrev pub free_process : Place Process
+free_process = record { holds = no_process; marks = empty }
 
-abbrev pub freeThread : Place Thread
-freeThread = record { holds = noThread; marks = empty }
+abbrev pub free_thread : Place Thread
+free_thread = record { holds = no_thread; marks = empty }
 
 -- all zero
 unfoldable pub cleared : Store
 cleared =
     record {
-      processes = replicate processPlaces freeProcess;
-      threads = replicate threadPlaces freeThread;
-      threadBuffer = replicate bufferRecords noSiginfo;
-      processBuffer = replicate bufferRecords noSiginfo;
+      processes = replicate process_places free_process;
+      threads = replicate thread_places free_thread;
+      thread_buffer = replicate buffer_records no_siginfo;
+      process_buffer = replicate buffer_records no_siginfo;
     }
 
 -- ---- what is there
 
 -- a slot in use names a process
-unfoldable pub inUse : Siginfo → Bool
-inUse r = not (eqb r.process 0)
+unfoldable pub in_use : Siginfo → Bool
+in_use r = not (eqb r.process 0)
 
 -- "Used records come first, oldest first"
 unfoldable pub used : List Siginfo → List Siginfo
-used slots = leading inUse slots
+used slots = leading in_use slots
 
 -- the records of the buffer that has the queue
-unfoldable pub recordsFor : Queue → Store → List Siginfo
-recordsFor q st = used (cond (eqb q.thread 0) st.processBuffer st.threadBuffer)
+unfoldable pub records_for : Queue → Store → List Siginfo
+records_for q st = used (cond (eqb q.thread 0) st.process_buffer st.thread_buffer)
 
-abbrev pub processMark : Queue → ℕ → Place Process → Bool
-processMark q s x = sameQueue q (processQueue x.holds.id) && has x.marks s
+abbrev pub process_mark : Queue → ℕ → Place Process → Bool
+process_mark q s x = same_queue q (process_queue x.holds.id) && has x.marks s
 
-abbrev pub threadMark : Queue → ℕ → Place Thread → Bool
-threadMark q s x = sameQueue q (threadQueue x.holds) && has x.marks s
+abbrev pub thread_mark : Queue → ℕ → Place Thread → Bool
+thread_mark q s x = same_queue q (thread_queue x.holds) && has x.marks s
 
-unfoldable pub markIn : Store → Queue → ℕ → Bool
-markIn st q s = isSignal s && (any (processMark q s) st.processes || any (threadMark q s) st.threads)
+unfoldable pub mark_in : Store → Queue → ℕ → Bool
+mark_in st q s = is_signal s && (any (process_mark q s) st.processes || any (thread_mark q s) st.threads)
 
-abbrev pub ofProcess : ℕ → Siginfo → Bool
-ofProcess p r = eqb r.process p
+abbrev pub of_process : ℕ → Siginfo → Bool
+of_process p r = eqb r.process p
 
 -- how many records a process has pending, "its threads' queues counted in"
-unfoldable pub queuedIn : Store → ℕ → ℕ
-queuedIn st p = count (ofProcess p) (used st.threadBuffer) + count (ofProcess p) (used st.processBuffer)
+unfoldable pub queued_in : Store → ℕ → ℕ
+queued_in st p = count (of_process p) (used st.thread_buffer) + count (of_process p) (used st.process_buffer)
 
 abbrev pub held : {A : Type 0} → Place A → A
 held x = x.holds
@@ -79,15 +79,15 @@ view st =
     record {
       processes = map held st.processes;
       threads = map held st.threads;
-      marks = markIn st;
-      oldest = λ q s. first (inQueue q s) (recordsFor q st);
-      queued = queuedIn st;
+      marks = mark_in st;
+      oldest = λ q s. first (in_queue q s) (records_for q st);
+      queued = queued_in st;
     }
 
 -- ---- the changes
 
-abbrev pub withStopped : ℕ → Process → Process
-withStopped b p =
+abbrev pub with_stopped : ℕ → Process → Process
+with_stopped b p =
     record {
       id = p.id;
       real = p.real;
@@ -98,8 +98,8 @@ withStopped b p =
       actions = p.actions;
     }
 
-abbrev pub withAction : ℕ → Action → Process → Process
-withAction s a p =
+abbrev pub with_action : ℕ → Action → Process → Process
+with_action s a p =
     record {
       id = p.id;
       real = p.real;
@@ -110,8 +110,8 @@ withAction s a p =
       actions = set p.actions (s - 1) a;
     }
 
-abbrev pub withMask : SigSet → Thread → Thread
-withMask m t = record { id = t.id; process = t.process; mask = m }
+abbrev pub with_mask : SigSet → Thread → Thread
+with_mask m t = record { id = t.id; process = t.process; mask = m }
 
 module _ {A : Type 0} where
   -- what passes the test is amended, its marks stay
@@ -125,91 +125,91 @@ module _ {A : Type 0} where
 
   -- "What is added goes into the lowest free place, freed ones included"
   abbrev pub fill : (A → Bool) → A → List (Place A) → List (Place A)
-  fill isFree a = replaceFirst (λ (x : Place A). isFree x.holds) (record { holds = a; marks = empty })
+  fill is_free a = replace_first (λ (x : Place A). is_free x.holds) (record { holds = a; marks = empty })
 
   -- the marks change, by what the place holds
-  abbrev pub mapMarks : (A → SigSet → SigSet) → List (Place A) → List (Place A)
-  mapMarks g = map (λ (x : Place A). record { holds = x.holds; marks = g x.holds x.marks })
+  abbrev pub map_marks : (A → SigSet → SigSet) → List (Place A) → List (Place A)
+  map_marks g = map (λ (x : Place A). record { holds = x.holds; marks = g x.holds x.marks })
 
-abbrev pub isFreeProcess : Process → Bool
-isFreeProcess p = eqb p.id 0
+abbrev pub is_free_process : Process → Bool
+is_free_process p = eqb p.id 0
 
-abbrev pub isFreeThread : Thread → Bool
-isFreeThread t = eqb t.id 0
+abbrev pub is_free_thread : Thread → Bool
+is_free_thread t = eqb t.id 0
 
-abbrev pub onProcesses : (List (Place Process) → List (Place Process)) → Store → Store
-onProcesses g st =
+abbrev pub on_processes : (List (Place Process) → List (Place Process)) → Store → Store
+on_processes g st =
     record {
       processes = g st.processes;
       threads = st.threads;
-      threadBuffer = st.threadBuffer;
-      processBuffer = st.processBuffer;
+      thread_buffer = st.thread_buffer;
+      process_buffer = st.process_buffer;
     }
 
-abbrev pub onThreads : (List (Place Thread) → List (Place Thread)) → Store → Store
-onThreads g st =
+abbrev pub on_threads : (List (Place Thread) → List (Place Thread)) → Store → Store
+on_threads g st =
     record {
       processes = st.processes;
       threads = g st.threads;
-      threadBuffer = st.threadBuffer;
-      processBuffer = st.processBuffer;
+      thread_buffer = st.thread_buffer;
+      process_buffer = st.process_buffer;
     }
 
-abbrev pub onMarks : (Queue → SigSet → SigSet) → Store → Store
-onMarks g st =
+abbrev pub on_marks : (Queue → SigSet → SigSet) → Store → Store
+on_marks g st =
     record {
-      processes = mapMarks (λ (p : Process). g (processQueue p.id)) st.processes;
-      threads = mapMarks (λ (t : Thread). g (threadQueue t)) st.threads;
-      threadBuffer = st.threadBuffer;
-      processBuffer = st.processBuffer;
+      processes = map_marks (λ (p : Process). g (process_queue p.id)) st.processes;
+      threads = map_marks (λ (t : Thread). g (thread_queue t)) st.threads;
+      thread_buffer = st.thread_buffer;
+      process_buffer = st.process_buffer;
     }
 
 -- the records change; "the rest is zero"
-unfoldable pub onSlots : (List Siginfo → List Siginfo) → List Siginfo → List Siginfo
-onSlots g slots = padded noSiginfo bufferRecords (g (used slots))
+unfoldable pub on_slots : (List Siginfo → List Siginfo) → List Siginfo → List Siginfo
+on_slots g slots = padded no_siginfo buffer_records (g (used slots))
 
-abbrev pub onBuffers : (List Siginfo → List Siginfo) → Store → Store
-onBuffers g st =
+abbrev pub on_buffers : (List Siginfo → List Siginfo) → Store → Store
+on_buffers g st =
     record {
       processes = st.processes;
       threads = st.threads;
-      threadBuffer = onSlots g st.threadBuffer;
-      processBuffer = onSlots g st.processBuffer;
+      thread_buffer = on_slots g st.thread_buffer;
+      process_buffer = on_slots g st.process_buffer;
     }
 
 -- the buffer that has the queue changes
-abbrev pub onBuffer : Queue → (List Siginfo → List Siginfo) → Store → Store
-onBuffer q g st =
+abbrev pub on_buffer : Queue → (List Siginfo → List Siginfo) → Store → Store
+on_buffer q g st =
     record {
       processes = st.processes;
       threads = st.threads;
-      threadBuffer = cond (eqb q.thread 0) st.threadBuffer (onSlots g st.threadBuffer);
-      processBuffer = cond (eqb q.thread 0) (onSlots g st.processBuffer) st.processBuffer;
+      thread_buffer = cond (eqb q.thread 0) st.thread_buffer (on_slots g st.thread_buffer);
+      process_buffer = cond (eqb q.thread 0) (on_slots g st.process_buffer) st.process_buffer;
     }
 
 -- the records that a discard leaves
-abbrev pub leftBy : ℕ → SigSet → Siginfo → Bool
-leftBy p signals r = not (eqb r.process p && has signals r.signal)
+abbrev pub left_by : ℕ → SigSet → Siginfo → Bool
+left_by p signals r = not (eqb r.process p && has signals r.signal)
 
 unfoldable pub apply : Change → Store → Store
 apply forget st = cleared
-apply (newProcess p) st = onProcesses (fill isFreeProcess p) st
-apply (newThread t) st = onThreads (fill isFreeThread t) st
-apply (removeProcess n) st =
-    onProcesses (vacate freeProcess (isProcess n))
-    (onThreads (vacate freeThread (belongsTo n)) (onBuffers (keep (λ (r : Siginfo). not (eqb r.process n))) st))
-apply (removeThread n) st =
-    onThreads (vacate freeThread (isThread n)) (onBuffers (keep (λ (r : Siginfo). not (eqb r.thread n))) st)
-apply (setStopped n b) st = onProcesses (amend (isProcess n) (withStopped b)) st
-apply (setAction n s a) st = onProcesses (amend (isProcess n) (withAction s a)) st
-apply (setMask n m) st = onThreads (amend (isThread n) (withMask m)) st
-apply (setMark q s) st = onMarks (λ q' m. cond (sameQueue q' q) (union m (ofSignal s)) m) st
-apply (clearMark q s) st = onMarks (λ q' m. cond (sameQueue q' q) (without m (ofSignal s)) m) st
-apply (append r) st = onBuffer (queueOf r) (λ rs. rs ++ (r ∷ [])) st
-apply (dropOldest q s) st = onBuffer q (dropFirst (inQueue q s)) st
+apply (new_process p) st = on_processes (fill is_free_process p) st
+apply (new_thread t) st = on_threads (fill is_free_thread t) st
+apply (remove_process n) st =
+    on_processes (vacate free_process (is_process n))
+    (on_threads (vacate free_thread (belongs_to n)) (on_buffers (keep (λ (r : Siginfo). not (eqb r.process n))) st))
+apply (remove_thread n) st =
+    on_threads (vacate free_thread (is_thread n)) (on_buffers (keep (λ (r : Siginfo). not (eqb r.thread n))) st)
+apply (set_stopped n b) st = on_processes (amend (is_process n) (with_stopped b)) st
+apply (set_action n s a) st = on_processes (amend (is_process n) (with_action s a)) st
+apply (set_mask n m) st = on_threads (amend (is_thread n) (with_mask m)) st
+apply (set_mark q s) st = on_marks (λ q' m. cond (same_queue q' q) (union m (of_signal s)) m) st
+apply (clear_mark q s) st = on_marks (λ q' m. cond (same_queue q' q) (without m (of_signal s)) m) st
+apply (append r) st = on_buffer (queue_of r) (λ rs. rs ++ (r ∷ [])) st
+apply (drop_oldest q s) st = on_buffer q (drop_first (in_queue q s)) st
 apply (discard p signals) st =
-    onBuffers (keep (leftBy p signals)) (onMarks (λ q m. cond (eqb q.process p) (without m signals) m) st)
+    on_buffers (keep (left_by p signals)) (on_marks (λ q m. cond (eqb q.process p) (without m signals) m) st)
 
-unfoldable pub applyAll : List Change → Store → Store
-applyAll [] st = st
-applyAll (c ∷ cs) st = applyAll cs (apply c st)
+unfoldable pub apply_all : List Change → Store → Store
+apply_all [] st = st
+apply_all (c ∷ cs) st = apply_all cs (apply c st)

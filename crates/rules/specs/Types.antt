@@ -9,7 +9,7 @@ use Rattle.types.specs.declared.Siginfo.{Siginfo}
 use Rattle.types.specs.declared.NewProcess.{NewProcess}
 use Rattle.types.specs.declared.Next as declared
 use Rattle.types.specs.declared.Next.TheVariants as next
-use Rattle.types.specs.Values.{defaultAction}
+use Rattle.types.specs.Values.{default_action}
 
 -- ---- "The tables"
 
@@ -37,8 +37,8 @@ pub record Queue : Type 0 where
   pub thread : ℕ
 
 -- what a free place holds
-abbrev pub noProcess : Process
-noProcess =
+abbrev pub no_process : Process
+no_process =
     record {
       id = 0;
       real = 0;
@@ -46,20 +46,20 @@ noProcess =
       saved = 0;
       session = 0;
       stopped = 0;
-      actions = replicate signals defaultAction;
+      actions = replicate signals default_action;
     }
 
-abbrev pub noThread : Thread
-noThread = record { id = 0; process = 0; mask = empty }
+abbrev pub no_thread : Thread
+no_thread = record { id = 0; process = 0; mask = empty }
 
 -- ---- the calls, each with its arguments in the documented order
 
 pub data Call : Type 0 where
   clear : Call
-  addProcess : (new : NewProcess) → Call
-  addThread : (creator id : ℕ) → Call
-  endProcess : (id : ℕ) → Call
-  endThread : (id : ℕ) → Call
+  add_process : (new : NewProcess) → Call
+  add_thread : (creator id : ℕ) → Call
+  end_process : (id : ℕ) → Call
+  end_thread : (id : ℕ) → Call
   kill : (by to thread signal : ℕ) → Call
   sigqueue : (by to thread signal value : ℕ) → Call
   -- without a new action it enquires
@@ -75,17 +75,17 @@ pub data Call : Type 0 where
 
 pub data Kind : Call → Type 0 where
   clearing : Kind clear
-  adding : (new : NewProcess) → Kind (addProcess new)
+  adding : (new : NewProcess) → Kind (add_process new)
   queueing : (by to thread signal value : ℕ) → Kind (sigqueue by to thread signal value)
   taking : (thread : ℕ) → Kind (take thread)
   other : {c : Call} → Kind c
 
 abbrev pub kind_of : (c : Call) → Kind c
 kind_of clear = clearing
-kind_of (addProcess new) = adding new
-kind_of (addThread creator id) = other
-kind_of (endProcess id) = other
-kind_of (endThread id) = other
+kind_of (add_process new) = adding new
+kind_of (add_thread creator id) = other
+kind_of (end_process id) = other
+kind_of (end_thread id) = other
 kind_of (kill by to t s) = other
 kind_of (sigqueue by to t s value) = queueing by to t s value
 kind_of (sigaction p s new) = other
@@ -100,12 +100,12 @@ kind_of (sigreturn t saved) = other
 
 -- what a thread takes next: nothing, the mark of a signal in a queue, or the oldest record of a signal in a queue
 pub data Next : Type 0 where
-  noNext : Next
-  nextMark : (queue : Queue) (signal : ℕ) → Next
-  nextRecord : (queue : Queue) (signal : ℕ) (info : Siginfo) → Next
+  no_next : Next
+  next_mark : (queue : Queue) (signal : ℕ) → Next
+  next_record : (queue : Queue) (signal : ℕ) (info : Siginfo) → Next
 
 -- what a look tells of it: a record is the oldest of its own queue and signal
 unfoldable pub told : Next → declared.Next
-told noNext = next.Nothing
-told (nextMark q s) = next.Mark q.process q.thread s
-told (nextRecord q s r) = next.Record r
+told no_next = next.Nothing
+told (next_mark q s) = next.Mark q.process q.thread s
+told (next_record q s r) = next.Record r

@@ -6,9 +6,9 @@ use Rattle.std.proofs.Math.Option.{Option}
 use Rattle.sigset.specs.declared.SigSet.{SigSet}
 use Rattle.types.specs.declared.Action.{Action}
 use Rattle.types.specs.declared.Siginfo.{Siginfo}
-use Rattle.types.specs.Values.{defaultAction}
+use Rattle.types.specs.Values.{default_action}
 use Rattle.lists.specs.Lists.{any, first, is_some}
-use Rattle.rules.specs.Types.{Process, Thread, Queue, noProcess, noThread}
+use Rattle.rules.specs.Types.{Process, Thread, Queue, no_process, no_thread}
 
 pub record View : Type 0 where
   -- the places of each table, a free one with id 0
@@ -25,20 +25,20 @@ pub data Change : Type 0 where
   -- all of the store is cleared
   forget : Change
   -- the lowest free place is filled
-  newProcess : Process → Change
-  newThread : Thread → Change
+  new_process : Process → Change
+  new_thread : Thread → Change
   -- the process with its threads, or the thread: its queues are emptied, its places become zero
-  removeProcess : (process : ℕ) → Change
-  removeThread : (thread : ℕ) → Change
-  setStopped : (process stopped : ℕ) → Change
-  setAction : (process signal : ℕ) → Action → Change
-  setMask : (thread : ℕ) → SigSet → Change
-  setMark : Queue → (signal : ℕ) → Change
-  clearMark : Queue → (signal : ℕ) → Change
+  remove_process : (process : ℕ) → Change
+  remove_thread : (thread : ℕ) → Change
+  set_stopped : (process stopped : ℕ) → Change
+  set_action : (process signal : ℕ) → Action → Change
+  set_mask : (thread : ℕ) → SigSet → Change
+  set_mark : Queue → (signal : ℕ) → Change
+  clear_mark : Queue → (signal : ℕ) → Change
   -- a record at the end of its queue
   append : Siginfo → Change
   -- the oldest record of the queue and the signal goes
-  dropOldest : Queue → (signal : ℕ) → Change
+  drop_oldest : Queue → (signal : ℕ) → Change
   -- the signals of the set go from every queue of the process
   discard : (process : ℕ) → SigSet → Change
 
@@ -49,62 +49,62 @@ Stage = View → List Change
 -- ---- processes, threads and queues by id
 
 -- 0 is no id
-unfoldable pub isProcess : ℕ → Process → Bool
-isProcess n p = not (eqb n 0) && eqb p.id n
+unfoldable pub is_process : ℕ → Process → Bool
+is_process n p = not (eqb n 0) && eqb p.id n
 
-unfoldable pub isThread : ℕ → Thread → Bool
-isThread n t = not (eqb n 0) && eqb t.id n
+unfoldable pub is_thread : ℕ → Thread → Bool
+is_thread n t = not (eqb n 0) && eqb t.id n
 
 -- a thread of the process
-unfoldable pub belongsTo : ℕ → Thread → Bool
-belongsTo n t = not (eqb n 0) && eqb t.process n
+unfoldable pub belongs_to : ℕ → Thread → Bool
+belongs_to n t = not (eqb n 0) && eqb t.process n
 
-unfoldable pub sameQueue : Queue → Queue → Bool
-sameQueue a b = eqb a.process b.process && eqb a.thread b.thread
+unfoldable pub same_queue : Queue → Queue → Bool
+same_queue a b = eqb a.process b.process && eqb a.thread b.thread
 
-abbrev pub processQueue : ℕ → Queue
-processQueue p = record { process = p; thread = 0 }
+abbrev pub process_queue : ℕ → Queue
+process_queue p = record { process = p; thread = 0 }
 
-abbrev pub threadQueue : Thread → Queue
-threadQueue t = record { process = t.process; thread = t.id }
+abbrev pub thread_queue : Thread → Queue
+thread_queue t = record { process = t.process; thread = t.id }
 
 -- what a send is aimed at: thread 0 is the process itself
-abbrev pub targetQueue : (to thread : ℕ) → Queue
-targetQueue to t = record { process = to; thread = t }
+abbrev pub target_queue : (to thread : ℕ) → Queue
+target_queue to t = record { process = to; thread = t }
 
-abbrev pub queueOf : Siginfo → Queue
-queueOf r = record { process = r.process; thread = r.thread }
+abbrev pub queue_of : Siginfo → Queue
+queue_of r = record { process = r.process; thread = r.thread }
 
 -- the record is of the queue and the signal
-unfoldable pub inQueue : Queue → ℕ → Siginfo → Bool
-inQueue q s r = sameQueue q (queueOf r) && eqb r.signal s
+unfoldable pub in_queue : Queue → ℕ → Siginfo → Bool
+in_queue q s r = same_queue q (queue_of r) && eqb r.signal s
 
-unfoldable pub actionOf : Process → ℕ → Action
-actionOf p s = get_or p.actions (s - 1) defaultAction
+unfoldable pub action_of : Process → ℕ → Action
+action_of p s = get_or p.actions (s - 1) default_action
 
 -- ---- what is in view
 
 module _ (v : View) where
-  unfoldable pub liveProcess : ℕ → Bool
-  liveProcess n = any (isProcess n) v.processes
+  unfoldable pub live_process : ℕ → Bool
+  live_process n = any (is_process n) v.processes
 
-  unfoldable pub liveThread : ℕ → Bool
-  liveThread n = any (isThread n) v.threads
+  unfoldable pub live_thread : ℕ → Bool
+  live_thread n = any (is_thread n) v.threads
 
-  unfoldable pub theProcess : ℕ → Process
-  theProcess n = Option.get_or (first (isProcess n) v.processes) noProcess
+  unfoldable pub the_process : ℕ → Process
+  the_process n = Option.get_or (first (is_process n) v.processes) no_process
 
-  unfoldable pub theThread : ℕ → Thread
-  theThread n = Option.get_or (first (isThread n) v.threads) noThread
+  unfoldable pub the_thread : ℕ → Thread
+  the_thread n = Option.get_or (first (is_thread n) v.threads) no_thread
 
   -- the action of a thread's process
-  unfoldable pub threadAction : Thread → ℕ → Action
-  threadAction t s = actionOf (theProcess t.process) s
+  unfoldable pub thread_action : Thread → ℕ → Action
+  thread_action t s = action_of (the_process t.process) s
 
   -- the signal is pending in the queue, by a record or by a mark
-  unfoldable pub pendingIn : Queue → ℕ → Bool
-  pendingIn q s = is_some (v.oldest q s) || v.marks q s
+  unfoldable pub pending_in : Queue → ℕ → Bool
+  pending_in q s = is_some (v.oldest q s) || v.marks q s
 
   -- the signal is pending for the thread or for its process
-  unfoldable pub pendingFor : Thread → ℕ → Bool
-  pendingFor t s = pendingIn (threadQueue t) s || pendingIn (processQueue t.process) s
+  unfoldable pub pending_for : Thread → ℕ → Bool
+  pending_for t s = pending_in (thread_queue t) s || pending_in (process_queue t.process) s

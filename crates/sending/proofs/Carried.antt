@@ -12,18 +12,18 @@ use Rattle.limits.specs.Limits.{SIGCONT, SIGSTOP}
 use Rattle.lists.proofs.Bools.{split, or-fst-false, or-snd-false, cond-true, cond-false}
 use Rattle.sigset.specs.declared.SigSet.{SigSet}
 use Rattle.types.specs.declared.Siginfo.{Siginfo}
-use Rattle.rules.specs.Signals.{stopSignal}
-use Rattle.rules.specs.View.{View, Change, removeProcess, setStopped, setMark, append, discard, targetQueue, queueOf}
+use Rattle.rules.specs.Signals.{stop_signal}
+use Rattle.rules.specs.View.{View, Change, remove_process, set_stopped, set_mark, append, discard, target_queue, queue_of}
 use Rattle.types.specs.declared.Reply.TheVariants.{Sent}
-use Rattle.rules.specs.Sending.{Generation, generation, infoOf, jobControl, sendChanges, sendAnswer}
+use Rattle.rules.specs.Sending.{Generation, generation, info_of, job_control, send_changes, send_answer}
 use Rattle.rules.specs.Calls.{send, changes, reply}
 use Rattle.sound.specs.Lent.{Lent, view_of}
-use Rattle.answers.specs.Step.{refusalOn}
+use Rattle.answers.specs.Step.{refusal_on}
 use Rattle.effects.specs.Changes.{Ready}
 use Rattle.effects.proofs.Makes.{ready-part}
-use Rattle.sending.specs.Generations.{generationOf}
-use Rattle.sending.specs.JobControl.{controls, discardedBy}
-use Rattle.sending.specs.Decisions.{sendCall, Decided}
+use Rattle.sending.specs.Generations.{generation_of}
+use Rattle.sending.specs.JobControl.{controls, discarded_by}
+use Rattle.sending.specs.Decisions.{send_call, Decided}
 use Rattle.sending.specs.declared.Generation as declared
 use Rattle.sending.specs.declared.Generation.TheVariants as cases
 use Rattle.sending.specs.declared.Decision as decided
@@ -33,20 +33,20 @@ use Rattle.sending.specs.contracts.Generation.{the_type}
 -- ---- job control, by the signal
 
 module _ (p s : ℕ) where
-  pub leaves : controls s ≡ false → jobControl p s ≡ []
-  unfolding jobControl controls
+  pub leaves : controls s ≡ false → job_control p s ≡ []
+  unfolding job_control controls
   leaves n =
       let m = or-snd-false (eqb s SIGCONT) _ n in
       rw (or-fst-false (eqb s SIGCONT) _ n, or-fst-false (eqb s SIGSTOP) _ m, or-snd-false (eqb s SIGSTOP) _ m)
 
   -- what comes after the discard: 1 stops the process, 0 lets it run
-  abbrev pub stateChange : List Change
-  stateChange = cond (eqb s SIGCONT || eqb s SIGSTOP) (setStopped p (bool_byte (eqb s SIGSTOP)) ∷ []) []
+  abbrev pub state_change : List Change
+  state_change = cond (eqb s SIGCONT || eqb s SIGSTOP) (set_stopped p (bool_byte (eqb s SIGSTOP)) ∷ []) []
 
   -- `x` is what code has of the signals to discard
-  module _ (k : controls s ≡ true) (x : SigSet) (h : x ≡ discardedBy s) where
-    pub discards-first : jobControl p s ≡ discard p x ∷ stateChange
-    unfolding jobControl controls discardedBy
+  module _ (k : controls s ≡ true) (x : SigSet) (h : x ≡ discarded_by s) where
+    pub discards-first : job_control p s ≡ discard p x ∷ state_change
+    unfolding job_control controls discarded_by
     discards-first =
         split (eqb s SIGCONT)
         (λ a. rw (h, a, ap (λ (n : ℕ). eqb n SIGSTOP) (eqb-true s SIGCONT a)))
@@ -54,55 +54,55 @@ module _ (p s : ℕ) where
         split (eqb s SIGSTOP)
         (λ b. rw (h, a, b))
         (λ b.
-        let g : stopSignal s ≡ true = rw (a, b) at k in
+        let g : stop_signal s ≡ true = rw (a, b) at k in
         rw (h, a, b, g)))
 
     pub discards-then-sets : (eqb s SIGCONT || eqb s SIGSTOP) ≡ true
-        → jobControl p s ≡ discard p x ∷ setStopped p (bool_byte (eqb s SIGSTOP)) ∷ []
+        → job_control p s ≡ discard p x ∷ set_stopped p (bool_byte (eqb s SIGSTOP)) ∷ []
     discards-then-sets t = discards-first ∙ ap (λ (cs : List Change). discard p x ∷ cs) (cond-true _ _ t)
 
-    pub discards-only : (eqb s SIGCONT || eqb s SIGSTOP) ≡ false → jobControl p s ≡ discard p x ∷ []
+    pub discards-only : (eqb s SIGCONT || eqb s SIGSTOP) ≡ false → job_control p s ≡ discard p x ∷ []
     discards-only n = discards-first ∙ ap (λ (cs : List Change). discard p x ∷ cs) (cond-false _ _ n)
 
 -- ---- the changes, by the generation
 
 module _ (f : declared.Generation) (r : Siginfo) where
-  pub of-testing : f ≡ cases.Testing → sendChanges (generationOf f) r ≡ []
-  unfolding sendChanges generationOf
-  of-testing e = ap (λ g. sendChanges (generationOf g) r) e
+  pub of-testing : f ≡ cases.Testing → send_changes (generation_of f) r ≡ []
+  unfolding send_changes generation_of
+  of-testing e = ap (λ g. send_changes (generation_of g) r) e
 
-  pub of-killing : f ≡ cases.Killing → sendChanges (generationOf f) r ≡ removeProcess r.process ∷ []
-  unfolding sendChanges generationOf
-  of-killing e = ap (λ g. sendChanges (generationOf g) r) e
+  pub of-killing : f ≡ cases.Killing → send_changes (generation_of f) r ≡ remove_process r.process ∷ []
+  unfolding send_changes generation_of
+  of-killing e = ap (λ g. send_changes (generation_of g) r) e
 
   pub of-marking : f ≡ cases.Marking
-      → sendChanges (generationOf f) r ≡ jobControl r.process r.signal ++ (setMark (queueOf r) r.signal ∷ [])
-  unfolding sendChanges generationOf
-  of-marking e = ap (λ g. sendChanges (generationOf g) r) e
+      → send_changes (generation_of f) r ≡ job_control r.process r.signal ++ (set_mark (queue_of r) r.signal ∷ [])
+  unfolding send_changes generation_of
+  of-marking e = ap (λ g. send_changes (generation_of g) r) e
 
   pub of-keeping : f ≡ cases.Keeping
-      → sendChanges (generationOf f) r ≡ jobControl r.process r.signal ++ (append r ∷ [])
-  unfolding sendChanges generationOf
-  of-keeping e = ap (λ g. sendChanges (generationOf g) r) e
+      → send_changes (generation_of f) r ≡ job_control r.process r.signal ++ (append r ∷ [])
+  unfolding send_changes generation_of
+  of-keeping e = ap (λ g. send_changes (generation_of g) r) e
 
 -- every generation but testing and killing begins with job control
 pub control-ready : (f : declared.Generation) (r : Siginfo) {l : Lent}
     → OneOf (2 ∷ 3 ∷ 4 ∷ 5 ∷ 6 ∷ []) (tag_of the_type f)
-    → Ready (sendChanges (generationOf f) r) l → Ready (jobControl r.process r.signal) l
-unfolding sendChanges generationOf
+    → Ready (send_changes (generation_of f) r) l → Ready (job_control r.process r.signal) l
+unfolding send_changes generation_of
 control-ready cases.Testing r k h = absurd (miss (2 ∷ 3 ∷ 4 ∷ 5 ∷ 6 ∷ []) 0 tt k)
 control-ready cases.Killing r k h = absurd (miss (2 ∷ 3 ∷ 4 ∷ 5 ∷ 6 ∷ []) 1 tt k)
 control-ready cases.Stopping r k h = h
 control-ready cases.Dropping r k h = h
 control-ready cases.Absorbing r k h = h
-control-ready cases.Marking r k h = ready-part (setMark (queueOf r) r.signal ∷ []) h refl
+control-ready cases.Marking r k h = ready-part (set_mark (queue_of r) r.signal ∷ []) h refl
 control-ready cases.Keeping r k h = ready-part (append r ∷ []) h refl
 
 -- stopping, dropping and absorbing: those that neither of the two tests of code names
 pub of-control : (f : declared.Generation) (r : Siginfo) → OneOf (2 ∷ 3 ∷ 4 ∷ 5 ∷ 6 ∷ []) (tag_of the_type f)
     → OneOf (0 ∷ 1 ∷ 2 ∷ 3 ∷ 4 ∷ []) (tag_of the_type f)
-    → sendChanges (generationOf f) r ≡ jobControl r.process r.signal
-unfolding sendChanges generationOf
+    → send_changes (generation_of f) r ≡ job_control r.process r.signal
+unfolding send_changes generation_of
 of-control cases.Testing r k m = absurd (miss (2 ∷ 3 ∷ 4 ∷ 5 ∷ 6 ∷ []) 0 tt k)
 of-control cases.Killing r k m = absurd (miss (2 ∷ 3 ∷ 4 ∷ 5 ∷ 6 ∷ []) 1 tt k)
 of-control cases.Stopping r k m = refl
@@ -116,27 +116,27 @@ of-control cases.Keeping r k m = absurd (miss (0 ∷ 1 ∷ 2 ∷ 3 ∷ 4 ∷ [])
 module _ (v : View) (by to t s value : ℕ) where
   -- a plain send has no value
   pub send-makes : (queued : Bool) → (queued ≡ false → value ≡ 0) → (f : Generation) (r : Siginfo)
-      → f ≡ generation v queued (targetQueue to t) s → r ≡ infoOf v by to t s value
-      → changes v (sendCall queued by to t s value) ≡ sendChanges f r
+      → f ≡ generation v queued (target_queue to t) s → r ≡ info_of v by to t s value
+      → changes v (send_call queued by to t s value) ≡ send_changes f r
   unfolding changes send
-  send-makes true z f r e h = sym (ap₂ sendChanges e h)
-  send-makes false z f r e h = sym (ap₂ sendChanges e (h ∙ ap (infoOf v by to t s) (z refl)))
+  send-makes true z f r e h = sym (ap₂ send_changes e h)
+  send-makes false z f r e h = sym (ap₂ send_changes e (h ∙ ap (info_of v by to t s) (z refl)))
 
-  pub send-answers : (queued : Bool) (f : Generation) → f ≡ generation v queued (targetQueue to t) s
-      → Sent (sendAnswer f) ≡ reply v (sendCall queued by to t s value)
+  pub send-answers : (queued : Bool) (f : Generation) → f ≡ generation v queued (target_queue to t) s
+      → Sent (send_answer f) ≡ reply v (send_call queued by to t s value)
   unfolding reply
-  send-answers true f e = ap (λ x. Sent (sendAnswer x)) e
-  send-answers false f e = ap (λ x. Sent (sendAnswer x)) e
+  send-answers true f e = ap (λ x. Sent (send_answer x)) e
+  send-answers false f e = ap (λ x. Sent (send_answer x)) e
 
 module _ (l : Lent) (queued : Bool) (by to t s value : ℕ) (d : decided.Decision)
     (h : Decided l queued by to t s value d) where
   pub when-refused : (n : ℕ) → d ≡ decisions.Refused n
-      → (n ≡ refusalOn (sendCall queued by to t s value) l) × (n ≡ 0 → ⊥)
+      → (n ≡ refusal_on (send_call queued by to t s value) l) × (n ≡ 0 → ⊥)
   unfolding Decided
   when-refused n e = subst (Decided l queued by to t s value) e h
 
   pub when-allowed : (f : declared.Generation) (r : Siginfo) → d ≡ decisions.Allowed f r
-      → (refusalOn (sendCall queued by to t s value) l ≡ 0)
-      × ((generationOf f ≡ generation (view_of l) queued (targetQueue to t) s) × (r ≡ infoOf (view_of l) by to t s value))
+      → (refusal_on (send_call queued by to t s value) l ≡ 0)
+      × ((generation_of f ≡ generation (view_of l) queued (target_queue to t) s) × (r ≡ info_of (view_of l) by to t s value))
   unfolding Decided
   when-allowed f r e = subst (Decided l queued by to t s value) e h

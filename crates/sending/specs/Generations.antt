@@ -3,11 +3,11 @@ use Rattle.rules.specs.Sending.{Generation, testing, killing, stopping, dropping
 use Rattle.sending.specs.declared.Generation as declared
 use Rattle.sending.specs.declared.Generation.TheVariants as cases
 
-unfoldable pub generationOf : declared.Generation → Generation
-generationOf cases.Testing = testing
-generationOf cases.Killing = killing
-generationOf cases.Stopping = stopping
-generationOf cases.Dropping = dropping
-generationOf cases.Absorbing = absorbing
-generationOf cases.Marking = marking
-generationOf cases.Keeping = keeping
+unfoldable pub generation_of : declared.Generation → Generation
+generation_of cases.Testing = testing
+generation_of cases.Killing = killing
+generation_of cases.Stopping = stopping
+generation_of cases.Dropping = dropping
+generation_of cases.Absorbing = absorbing
+generation_of cases.Marking = marking
+generation_of cases.Keeping = keeping

@@ -1,18 +1,18 @@
 // Sends: kill, without a value, and queue, with one.
 ghost use Rattle.std.specs.Prelude.{◌≡◌, true, false, ◌&&◌, leb, ◌≤◌};
-ghost use Rattle.limits.specs.Limits.{signals, recordLimit};
-ghost use Rattle.sigset.specs.Set.{setOf};
-ghost use Rattle.rules.specs.Signals.{stopSignal};
+ghost use Rattle.limits.specs.Limits.{signals, record_limit};
+ghost use Rattle.sigset.specs.Set.{set_of};
+ghost use Rattle.rules.specs.Signals.{stop_signal};
 ghost use Rattle.rules.specs.Types as call;
-ghost use Rattle.rules.specs.View.{targetQueue};
-ghost use Rattle.rules.specs.Sending.{absorbs, generation, infoOf, jobControl, sendChanges, sendAnswer, needsRecord};
-ghost use Rattle.rules.specs.Refusals.{badTarget};
-ghost use Rattle.sound.specs.Lent.{view_of, soundTables, given, before, WithQueue, WithProcess};
+ghost use Rattle.rules.specs.View.{target_queue};
+ghost use Rattle.rules.specs.Sending.{absorbs, generation, info_of, job_control, send_changes, send_answer, needs_record};
+ghost use Rattle.rules.specs.Refusals.{bad_target};
+ghost use Rattle.sound.specs.Lent.{view_of, sound_tables, given, before, WithQueue, WithProcess};
 ghost use Rattle.effects.specs.Changes.{ready, changed};
-ghost use Rattle.answers.specs.Step.{refusalOn, stepped};
-ghost use Rattle.sending.specs.Generations.{generationOf};
-ghost use Rattle.sending.specs.JobControl.{controls, discardedBy};
-ghost use Rattle.sending.specs.Decisions.{sendCall, Decided};
+ghost use Rattle.answers.specs.Step.{refusal_on, stepped};
+ghost use Rattle.sending.specs.Generations.{generation_of};
+ghost use Rattle.sending.specs.JobControl.{controls, discarded_by};
+ghost use Rattle.sending.specs.Decisions.{send_call, Decided};
 
 use limits::{
     EAGAIN, EFAULT, EINVAL, EPERM, ESRCH, RECORD_LIMIT, SI_QUEUE, SIGCONT, SIGKILL, SIGNALS,
@@ -53,9 +53,9 @@ fn is_absorbed(
     thread: u32,
     signal: u32,
 ) -> bool
-    requires with_queue { WithQueue (targetQueue process thread) (given ps ts tb pb) }
+    requires with_queue { WithQueue (target_queue process thread) (given ps ts tb pb) }
     requires le_signal { (1 ≤ signal) × (signal ≤ signals) }
-    ensures { result ≡ absorbs (view_of (before ps ts tb pb)) queued (targetQueue process thread) signal }
+    ensures { result ≡ absorbs (view_of (before ps ts tb pb)) queued (target_queue process thread) signal }
 {
     let pending = view::pending_of(ps, ts, tb, pb, process, thread);
     let marks = view::marks_of(ps, ts, tb, pb, process, thread);
@@ -73,10 +73,10 @@ fn generation_of(
     thread: u32,
     signal: u32,
 ) -> Generation
-    requires with_queue { WithQueue (targetQueue process thread) (given ps ts tb pb) }
+    requires with_queue { WithQueue (target_queue process thread) (given ps ts tb pb) }
     requires signal_le_signals { signal ≤ signals }
-    ensures { generationOf result
-        ≡ generation (view_of (before ps ts tb pb)) queued (targetQueue process thread) signal }
+    ensures { generation_of result
+        ≡ generation (view_of (before ps ts tb pb)) queued (target_queue process thread) signal }
 {
     if signal == 0 {
         return Generation::Testing;
@@ -112,7 +112,7 @@ fn info(
     value: u64,
 ) -> Siginfo
     requires { WithProcess by (given ps ts tb pb) }
-    ensures { result ≡ infoOf (view_of (before ps ts tb pb)) by to thread signal value }
+    ensures { result ≡ info_of (view_of (before ps ts tb pb)) by to thread signal value }
 {
     Siginfo {
         process: to,
@@ -129,7 +129,7 @@ fn info(
 
 // The stop signals that can be pending.
 fn stop_signals() -> SigSet
-    ensures { result ≡ setOf stopSignal }
+    ensures { result ≡ set_of stop_signal }
 {
     let tty = SigSet::union(SigSet::of_signal(SIGTTIN), SigSet::of_signal(SIGTTOU));
     SigSet::union(SigSet::of_signal(SIGTSTP), tty)
@@ -144,7 +144,7 @@ fn is_job_control(s: u32) -> bool
 
 // What a signal of job control discards: CONT the stop signals, the others CONT.
 fn discarded_by(s: u32) -> SigSet
-    ensures { result ≡ discardedBy s }
+    ensures { result ≡ discarded_by s }
 {
     if s == SIGCONT {
         return stop_signals();
@@ -161,8 +161,8 @@ fn job_control(
     process: u32,
     signal: u32,
 )
-    requires { ready (jobControl process signal) ps ts tb pb }
-    ensures { changed (jobControl process signal) ps ts tb pb }
+    requires { ready (job_control process signal) ps ts tb pb }
+    ensures { changed (job_control process signal) ps ts tb pb }
 {
     if !is_job_control(signal) {
         return;
@@ -175,8 +175,8 @@ fn job_control(
 
 // Generates the signal. Job control comes first, whatever becomes pending.
 fn generate(ps: &mut [u64], ts: &mut [u64], tb: &mut [u8], pb: &mut [u8], f: Generation, r: Siginfo)
-    requires { ready (sendChanges (generationOf f) r) ps ts tb pb }
-    ensures { changed (sendChanges (generationOf f) r) ps ts tb pb }
+    requires { ready (send_changes (generation_of f) r) ps ts tb pb }
+    ensures { changed (send_changes (generation_of f) r) ps ts tb pb }
 {
     match f {
         Generation::Testing => return,
@@ -195,7 +195,7 @@ fn generate(ps: &mut [u64], ts: &mut [u64], tb: &mut [u8], pb: &mut [u8], f: Gen
 }
 
 fn sent(f: Generation) -> Sent
-    ensures { result ≡ sendAnswer (generationOf f) }
+    ensures { result ≡ send_answer (generation_of f) }
 {
     match f {
         Generation::Testing => Sent::Tested,
@@ -212,8 +212,8 @@ fn sent(f: Generation) -> Sent
 
 // Is the target not a live process, or the thread neither 0 nor a live thread of it?
 fn is_bad_target(ps: &[u64], ts: &[u64], tb: &[u8], pb: &[u8], to: u32, thread: u32) -> bool
-    requires { soundTables (given ps ts tb pb) ≡ true }
-    ensures { result ≡ badTarget (view_of (before ps ts tb pb)) to thread }
+    requires { sound_tables (given ps ts tb pb) ≡ true }
+    ensures { result ≡ bad_target (view_of (before ps ts tb pb)) to thread }
 {
     if !view::is_process(ps, to) {
         return true;
@@ -238,7 +238,7 @@ fn kill_refusal(
     thread: u32,
     signal: u32,
 ) -> u32
-    ensures { result ≡ refusalOn (call.kill by to thread signal) (before ps ts tb pb) }
+    ensures { result ≡ refusal_on (call.kill by to thread signal) (before ps ts tb pb) }
 {
     if !sound::sound(ps, ts, tb, pb) {
         return EFAULT;
@@ -258,8 +258,8 @@ fn kill_refusal(
 // Is the send kept, and has the process all the records that it may have? The buffers are counted
 // only for a send that is kept.
 fn has_no_room(ps: &[u64], ts: &[u64], tb: &[u8], pb: &[u8], f: Generation, to: u32) -> bool
-    requires { soundTables (given ps ts tb pb) ≡ true }
-    ensures { result ≡ (needsRecord (generationOf f) && leb recordLimit ((view_of (before ps ts tb pb)).queued to)) }
+    requires { sound_tables (given ps ts tb pb) ≡ true }
+    ensures { result ≡ (needs_record (generation_of f) && leb record_limit ((view_of (before ps ts tb pb)).queued to)) }
 {
     match f {
         Generation::Keeping => RECORD_LIMIT <= queue::count_of(tb, to) + queue::count_of(pb, to),
@@ -309,7 +309,7 @@ fn send(
     value: u64,
 ) -> Answer
     requires { queued ≡ false → value ≡ 0 }
-    ensures { stepped (sendCall queued by to thread signal value) result ps ts tb pb }
+    ensures { stepped (send_call queued by to thread signal value) result ps ts tb pb }
 {
     let decision = judge(ps, ts, tb, pb, queued, by, to, thread, signal, value);
     match decision {

@@ -16,7 +16,7 @@ use Rattle.lists.specs.Lists.{all}
 use Rattle.lists.proofs.Bools.{same_test, and-fst, and-snd, and_both}
 use Rattle.lists.proofs.Lists.{All-each, All-take, All-drop}
 use Rattle.lists.proofs.Rows.{take-spell, stores4, sets-append}
-use Rattle.siginfo.specs.Bytes.{u32Bytes, le, encode, Bytes}
+use Rattle.siginfo.specs.Bytes.{u32_bytes, le, encode, Bytes}
 
 -- ---- bytes, by index and from every index
 
@@ -113,11 +113,11 @@ encode-halves m n x =
 -- ---- numbers read
 
 -- as code reads one a byte at a time
-pub read-bytes : (b : List ℕ) (at x₀ x₁ x₂ x₃ : ℕ) → at + u32Bytes ≤ length b
+pub read-bytes : (b : List ℕ) (at x₀ x₁ x₂ x₃ : ℕ) → at + u32_bytes ≤ length b
     → x₀ ≡ get_or b at 0 → x₁ ≡ get_or b (at + 1) 0 → x₂ ≡ get_or b (at + 2) 0 → x₃ ≡ get_or b (at + 3) 0
-    → x₀ + 256 * (x₁ + 256 * (x₂ + 256 * x₃)) ≡ le (take u32Bytes (drop at b))
+    → x₀ + 256 * (x₁ + 256 * (x₂ + 256 * x₃)) ≡ le (take u32_bytes (drop at b))
 unfolding le
-read-bytes b at x₀ x₁ x₂ x₃ h e₀ e₁ e₂ e₃ = rw (take-spell u32Bytes at b h, ← e₀, ← e₁, ← e₂, ← e₃) (omega arith)
+read-bytes b at x₀ x₁ x₂ x₃ h e₀ e₁ e₂ e₃ = rw (take-spell u32_bytes at b h, ← e₀, ← e₁, ← e₂, ← e₃) (omega arith)
 
 -- as code reads one in two parts
 pub read-halves : (b : List ℕ) (at m n : ℕ) → at + m ≤ length b
@@ -148,7 +148,7 @@ le-part b at n h =
 pub store_bytes : (b : List ℕ) (at x : ℕ)
     → set (set (set (set b at (x % 256)) (at + 1) (x / 256 % 256)) (at + 2) (x / 256 / 256 % 256)) (at + 3)
     (x / 256 / 256 / 256 % 256)
-    ≡ sets b at (encode u32Bytes x)
+    ≡ sets b at (encode u32_bytes x)
 unfolding encode
 store_bytes b at x = stores4 b at (x % 256) (x / 256 % 256) (x / 256 / 256 % 256) (x / 256 / 256 / 256 % 256)
 

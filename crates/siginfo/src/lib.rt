@@ -1,9 +1,9 @@
 // A record of a buffer: 32 bytes, little-endian, read and written by value.
 ghost use Rattle.std.specs.Prelude.{◌≡◌, ◌+◌, ◌*◌, ◌≤◌, ◌<◌, length, take, drop};
 ghost use Rattle.std.proofs.lemmas.List.Edits.{sets};
-ghost use Rattle.limits.specs.Limits.{recordBytes};
+ghost use Rattle.limits.specs.Limits.{record_bytes};
 ghost use Rattle.lists.specs.Rows.{row};
-ghost use Rattle.siginfo.specs.Bytes.{u32Bytes, u64Bytes, le, encode, siginfoOf, bytes_of};
+ghost use Rattle.siginfo.specs.Bytes.{u32_bytes, u64_bytes, le, encode, siginfo_of, bytes_of};
 
 use limits::{
     RECORD_BYTES, RECORD_CODE, RECORD_PROCESS, RECORD_SENDER, RECORD_SIGNAL, RECORD_THREAD,
@@ -18,8 +18,8 @@ fn wide(x: u8) -> u32
 }
 
 pub fn read_u32(b: &[u8], at: usize) -> u32
-    requires { at + u32Bytes ≤ length b.now }
-    ensures { result ≡ le (take u32Bytes (drop at b.now)) }
+    requires { at + u32_bytes ≤ length b.now }
+    ensures { result ≡ le (take u32_bytes (drop at b.now)) }
 {
     let b0 = wide(b[at]);
     let b1 = wide(b[at + 1]);
@@ -29,8 +29,8 @@ pub fn read_u32(b: &[u8], at: usize) -> u32
 }
 
 pub fn read_u64(b: &[u8], at: usize) -> u64
-    requires { at + u64Bytes ≤ length b.now }
-    ensures { result ≡ le (take u64Bytes (drop at b.now)) }
+    requires { at + u64_bytes ≤ length b.now }
+    ensures { result ≡ le (take u64_bytes (drop at b.now)) }
 {
     let lo = read_u32(b, at);
     let hi = read_u32(b, at + 4);
@@ -38,8 +38,8 @@ pub fn read_u64(b: &[u8], at: usize) -> u64
 }
 
 pub fn write_u32(b: &mut [u8], at: usize, x: u32)
-    requires { at + u32Bytes ≤ length b.old }
-    ensures { b.new ≡ sets b.old at (encode u32Bytes x) }
+    requires { at + u32_bytes ≤ length b.old }
+    ensures { b.new ≡ sets b.old at (encode u32_bytes x) }
 {
     b[at] = (x % 256) as u8;
     b[at + 1] = (x / 256 % 256) as u8;
@@ -48,8 +48,8 @@ pub fn write_u32(b: &mut [u8], at: usize, x: u32)
 }
 
 pub fn write_u64(b: &mut [u8], at: usize, x: u64)
-    requires { at + u64Bytes ≤ length b.old }
-    ensures { b.new ≡ sets b.old at (encode u64Bytes x) }
+    requires { at + u64_bytes ≤ length b.old }
+    ensures { b.new ≡ sets b.old at (encode u64_bytes x) }
 {
     write_u32(b, at, (x % 4294967296) as u32);
     write_u32(b, at + 4, (x / 4294967296) as u32);
@@ -57,8 +57,8 @@ pub fn write_u64(b: &mut [u8], at: usize, x: u64)
 
 // The record in a slot, whatever its bytes are.
 pub fn read(b: &[u8], slot: usize) -> Siginfo
-    requires { slot * recordBytes + recordBytes ≤ length b.now }
-    ensures { result ≡ siginfoOf (row recordBytes b.now slot) }
+    requires { slot * record_bytes + record_bytes ≤ length b.now }
+    ensures { result ≡ siginfo_of (row record_bytes b.now slot) }
 {
     let at = slot * RECORD_BYTES;
     Siginfo {
@@ -74,8 +74,8 @@ pub fn read(b: &[u8], slot: usize) -> Siginfo
 
 // The record into a slot; no other byte changes.
 pub fn write(b: &mut [u8], slot: usize, r: Siginfo)
-    requires { slot * recordBytes + recordBytes ≤ length b.old }
-    ensures { b.new ≡ sets b.old (slot * recordBytes) (bytes_of r) }
+    requires { slot * record_bytes + record_bytes ≤ length b.old }
+    ensures { b.new ≡ sets b.old (slot * record_bytes) (bytes_of r) }
 {
     let at = slot * RECORD_BYTES;
     write_u32(b, at + RECORD_PROCESS, r.process);

@@ -15,8 +15,8 @@ use lib.Bits.{bit_and, bit_or, or_shr, or_mod, or_lt, and_shr, and_mod, and_lt}
 use borrow.Author.Tests.{eq-eqb, ne_eqb, eqb-true}
 use Rattle.limits.specs.Limits.{signals, SIGKILL, SIGSTOP}
 use Rattle.sigset.specs.declared.SigSet.{SigSet}
-use Rattle.sigset.specs.Set.{Signal, bits, has, sum_of, setOf, empty, ofSignal, union, without, intersect}
-use Rattle.sigset.specs.Set.{isUnmaskable, unmaskable, maskable, or_else, lowestIn, lowestOf, lowest}
+use Rattle.sigset.specs.Set.{Signal, bits, has, sum_of, set_of, empty, of_signal, union, without, intersect}
+use Rattle.sigset.specs.Set.{is_unmaskable, unmaskable, maskable, or_else, lowest_in, lowest_of, lowest}
 
 -- ---- the sum of the members
 
@@ -89,26 +89,26 @@ sum-has a (suc k) =
 -- ---- membership decides a set
 
 -- the one law: a set has what its test says
-pub has-set : (p : ℕ → Bool) (s : ℕ) → Signal s → has (setOf p) s ≡ p s
-unfolding setOf has
+pub has-set : (p : ℕ → Bool) (s : ℕ) → Signal s → has (set_of p) s ≡ p s
+unfolding set_of has
 has-set p zero h = absurd (not-suc-le-zero h.low)
 has-set p (suc i) h = ap (λ (d : ℕ). eqb d 1) (sum-digit p signals i h.high) ∙ bit-eqb (p (suc i))
 
-pub set-lt : (p : ℕ → Bool) → (setOf p).0 < 2 ^ signals
-unfolding setOf
+pub set-lt : (p : ℕ → Bool) → (set_of p).0 < 2 ^ signals
+unfolding set_of
 set-lt p = sum_lt p signals
 
 -- two tests that agree on the signals give one set
-pub set-cong : (p q : ℕ → Bool) → ((s : ℕ) → Signal s → p s ≡ q s) → setOf p ≡ setOf q
-unfolding setOf
+pub set-cong : (p q : ℕ → Bool) → ((s : ℕ) → Signal s → p s ≡ q s) → set_of p ≡ set_of q
+unfolding set_of
 set-cong p q h = ap bits (sum-cong p q signals (λ s l g. h s (record { low = l; high = g })))
 
-pub set-of-has : (a : SigSet) → a.0 < 2 ^ signals → setOf (has a) ≡ a
-unfolding setOf
+pub set-of-has : (a : SigSet) → a.0 < 2 ^ signals → set_of (has a) ≡ a
+unfolding set_of
 set-of-has a h = ap bits (sum-has a signals ∙ mod-eq_of_lt h)
 
 -- a set that has what the test says is the test's set
-pub is_set : (a : SigSet) (p : ℕ → Bool) → a.0 < 2 ^ signals → ((s : ℕ) → Signal s → has a s ≡ p s) → a ≡ setOf p
+pub is_set : (a : SigSet) (p : ℕ → Bool) → a.0 < 2 ^ signals → ((s : ℕ) → Signal s → has a s ≡ p s) → a ≡ set_of p
 is_set a p l h = sym (set-of-has a l) ∙ set-cong (has a) p h
 
 pub ext : (a b : SigSet) → a.0 < 2 ^ signals → b.0 < 2 ^ signals → ((s : ℕ) → Signal s → has a s ≡ has b s) → a ≡ b
@@ -131,8 +131,8 @@ unfolding has
 has-empty zero = refl
 has-empty (suc k) = ap (λ (x : ℕ). eqb (x % 2) 1) (zero-div (2 ^ k))
 
-pub has_of : (x s : ℕ) → Signal s → has (ofSignal x) s ≡ eqb s x
-unfolding ofSignal
+pub has_of : (x s : ℕ) → Signal s → has (of_signal x) s ≡ eqb s x
+unfolding of_signal
 has_of x = has-set (λ t. eqb t x)
 
 pub has-union : (a b : SigSet) (s : ℕ) → Signal s → has (union a b) s ≡ (has a s || has b s)
@@ -147,16 +147,16 @@ pub has-intersect : (a b : SigSet) (s : ℕ) → Signal s → has (intersect a b
 unfolding intersect
 has-intersect a b = has-set (λ t. has a t && has b t)
 
-pub has-unmaskable : (s : ℕ) → Signal s → has unmaskable s ≡ isUnmaskable s
+pub has-unmaskable : (s : ℕ) → Signal s → has unmaskable s ≡ is_unmaskable s
 unfolding unmaskable
-has-unmaskable = has-set isUnmaskable
+has-unmaskable = has-set is_unmaskable
 
-pub has-maskable : (a : SigSet) (s : ℕ) → Signal s → has (maskable a) s ≡ (has a s && not (isUnmaskable s))
+pub has-maskable : (a : SigSet) (s : ℕ) → Signal s → has (maskable a) s ≡ (has a s && not (is_unmaskable s))
 unfolding maskable
 has-maskable a s h = has-without a unmaskable s h ∙ ap (λ (y : Bool). has a s && not y) (has-unmaskable s h)
 
 -- what holds of KILL and of STOP holds of every signal of the pair
-pub each-unmaskable : (P : ℕ → Type 0) → P SIGKILL → P SIGSTOP → (s : ℕ) → isUnmaskable s ≡ true → P s
+pub each-unmaskable : (P : ℕ → Type 0) → P SIGKILL → P SIGSTOP → (s : ℕ) → is_unmaskable s ≡ true → P s
 each-unmaskable P k t s u = go (eqb s SIGKILL) refl
   where
     stop : (b : Bool) → b ≡ eqb s SIGKILL → b ≡ false → eqb s SIGSTOP ≡ true
@@ -171,8 +171,8 @@ without-out a u s h e = has-without a u s h ∙ ap (λ (y : Bool). has a s && no
 
 -- ---- each has a bit for a signal and no more
 
-pub of_lt : (x : ℕ) → (ofSignal x).0 < 2 ^ signals
-unfolding ofSignal
+pub of_lt : (x : ℕ) → (of_signal x).0 < 2 ^ signals
+unfolding of_signal
 of_lt x = set-lt _
 
 pub union-lt : (a b : SigSet) → (union a b).0 < 2 ^ signals
@@ -249,7 +249,7 @@ module _ (op : ℕ → ℕ → ℕ) (f : Bool → Bool → Bool)
       ∙ one (eqb (a.0 / 2 ^ k % 2) 1) (eqb (b.0 / 2 ^ k % 2) 1)
 
   op-is : (a b : SigSet) → a.0 < 2 ^ signals → b.0 < 2 ^ signals
-      → bits (op a.0 b.0) ≡ setOf (λ s. f (has a s) (has b s))
+      → bits (op a.0 b.0) ≡ set_of (λ s. f (has a s) (has b s))
   op-is a b la lb = is_set (bits (op a.0 b.0)) _ (fits signals a.0 b.0 la lb) (op-has a b)
 
 -- `a | b`
@@ -335,23 +335,23 @@ sum_one p k (suc m) h y o = ⊎_elim last (λ g. before g (sum_one p k m g y o))
     before : k < m → sum_of p m ≡ 2 ^ k → sum_of p (suc m) ≡ 2 ^ k
     before g ih = rw (ih, o (suc m) (λ f. omega arith)) (omega arith)
 
-pub set-none : (p : ℕ → Bool) → ((s : ℕ) → Signal s → p s ≡ false) → setOf p ≡ empty
+pub set-none : (p : ℕ → Bool) → ((s : ℕ) → Signal s → p s ≡ false) → set_of p ≡ empty
 set-none p h = sym (is_set empty p (omega arith) (λ s g. has-empty s ∙ sym (h s g)))
 
-pub of_none : (x : ℕ) → (Signal x → ⊥) → ofSignal x ≡ empty
-unfolding ofSignal
+pub of_none : (x : ℕ) → (Signal x → ⊥) → of_signal x ≡ empty
+unfolding of_signal
 of_none x h = set-none (λ t. eqb t x) (λ s g. ne_eqb s x (λ e. h (subst (λ (y : ℕ). Signal y) e g)))
 
 -- `1 << (x - 1)`
-pub of_is : (x : ℕ) → Signal x → ofSignal x ≡ bits (2 ^ (x - 1))
-unfolding ofSignal setOf
+pub of_is : (x : ℕ) → Signal x → of_signal x ≡ bits (2 ^ (x - 1))
+unfolding of_signal set_of
 of_is x h =
     let e : suc (x - 1) ≡ x = omega arith in
     ap bits (sum_one (λ t. eqb t x) (x - 1) signals (omega arith) (eq-eqb (suc (x - 1)) x e)
     (λ s n. ne_eqb s x (λ g. n (g ∙ sym e))))
 
 pub unmaskable-is : unmaskable ≡ bits 262400
-unfolding unmaskable setOf sum_of
+unfolding unmaskable set_of sum_of
 unmaskable-is = refl
 
 -- ---- the lowest
@@ -366,26 +366,26 @@ record First (p : ℕ → Bool) (n r : ℕ) : Type 0 where
 abbrev None : (ℕ → Bool) → ℕ → Type 0
 None p n = (s : ℕ) → 1 ≤ s → s ≤ n → p s ≡ false
 
-orElse-pos : (r b : ℕ) → 1 ≤ r → or_else r b ≡ r
-orElse-pos zero b h = absurd (not-suc-le-zero h)
-orElse-pos (suc r) b h = refl
+or_else-pos : (r b : ℕ) → 1 ≤ r → or_else r b ≡ r
+or_else-pos zero b h = absurd (not-suc-le-zero h)
+or_else-pos (suc r) b h = refl
 
--- what lowestIn answers: 0 where none passes, else the first that does
-answer : (p : ℕ → Bool) (n : ℕ) → ((lowestIn p n ≡ 0) × None p n) ⊎ First p n (lowestIn p n)
-unfolding lowestIn
+-- what lowest_in answers: 0 where none passes, else the first that does
+answer : (p : ℕ → Bool) (n : ℕ) → ((lowest_in p n ≡ 0) × None p n) ⊎ First p n (lowest_in p n)
+unfolding lowest_in
 answer p zero = inl (refl, λ s l g. absurd (omega arith))
 answer p (suc k) = ⊎_elim (λ z. here z (p (suc k)) refl) (λ f. inr (before f)) (answer p k)
   where
-    before : First p k (lowestIn p k) → First p (suc k) (lowestIn p (suc k))
+    before : First p k (lowest_in p k) → First p (suc k) (lowest_in p (suc k))
     before f =
-        subst (First p (suc k)) (sym (orElse-pos (lowestIn p k) _ f.from))
+        subst (First p (suc k)) (sym (or_else-pos (lowest_in p k) _ f.from))
         (record { from = f.from; to = omega (arith, f.to); passes = f.passes; below = f.below })
 
-    value : lowestIn p k ≡ 0 → (b : Bool) → p (suc k) ≡ b → lowestIn p (suc k) ≡ cond b (suc k) 0
+    value : lowest_in p k ≡ 0 → (b : Bool) → p (suc k) ≡ b → lowest_in p (suc k) ≡ cond b (suc k) 0
     value z b y = ap₂ (λ (x : ℕ) (c : Bool). or_else x (cond c (suc k) 0)) z y
 
-    here : (lowestIn p k ≡ 0) × None p k → (b : Bool) → p (suc k) ≡ b
-        → ((lowestIn p (suc k) ≡ 0) × None p (suc k)) ⊎ First p (suc k) (lowestIn p (suc k))
+    here : (lowest_in p k ≡ 0) × None p k → (b : Bool) → p (suc k) ≡ b
+        → ((lowest_in p (suc k) ≡ 0) × None p (suc k)) ⊎ First p (suc k) (lowest_in p (suc k))
     here z true y =
         inr
         (subst (First p (suc k)) (sym (value z.0 true y))
@@ -407,55 +407,55 @@ first_one p n r q f g = omega (arith, least r q f g, least q r g f)
 signal : (p : ℕ → Bool) (r : ℕ) → First p signals r → Signal r
 signal p r f = record { low = f.from; high = f.to }
 
-pub lowestOf-zero : (p : ℕ → Bool) → lowestOf p ≡ 0 → (s : ℕ) → Signal s → p s ≡ false
-unfolding lowestOf
-lowestOf-zero p e s h =
+pub lowest_of-zero : (p : ℕ → Bool) → lowest_of p ≡ 0 → (s : ℕ) → Signal s → p s ≡ false
+unfolding lowest_of
+lowest_of-zero p e s h =
     ⊎_elim (λ z. z.1 s h.low h.high) (λ f. absurd (omega (arith, e, f.from))) (answer p signals)
 
-pub lowestOf-found : (p : ℕ → Bool) → (lowestOf p ≡ 0 → ⊥)
-    → Signal (lowestOf p) × (p (lowestOf p) ≡ true) × ((s : ℕ) → 1 ≤ s → s < lowestOf p → p s ≡ false)
-unfolding lowestOf
-lowestOf-found p n =
+pub lowest_of-found : (p : ℕ → Bool) → (lowest_of p ≡ 0 → ⊥)
+    → Signal (lowest_of p) × (p (lowest_of p) ≡ true) × ((s : ℕ) → 1 ≤ s → s < lowest_of p → p s ≡ false)
+unfolding lowest_of
+lowest_of-found p n =
     ⊎_elim (λ z. absurd (n z.0)) (λ f. (signal p _ f, f.passes, f.below)) (answer p signals)
 
-pub lowestOf-none : (p : ℕ → Bool) → ((s : ℕ) → Signal s → p s ≡ false) → lowestOf p ≡ 0
-unfolding lowestOf
-lowestOf-none p h =
+pub lowest_of-none : (p : ℕ → Bool) → ((s : ℕ) → Signal s → p s ≡ false) → lowest_of p ≡ 0
+unfolding lowest_of
+lowest_of-none p h =
     ⊎_elim (λ z. z.0) (λ f. absurd (true≢false (sym f.passes ∙ h _ (signal p _ f)))) (answer p signals)
 
-pub lowestOf-is : (p : ℕ → Bool) (r : ℕ) → Signal r → p r ≡ true → ((s : ℕ) → 1 ≤ s → s < r → p s ≡ false)
-    → lowestOf p ≡ r
-unfolding lowestOf
-lowestOf-is p r h y o =
+pub lowest_of-is : (p : ℕ → Bool) (r : ℕ) → Signal r → p r ≡ true → ((s : ℕ) → 1 ≤ s → s < r → p s ≡ false)
+    → lowest_of p ≡ r
+unfolding lowest_of
+lowest_of-is p r h y o =
     ⊎_elim
     (λ z. absurd (true≢false (sym y ∙ z.1 r h.low h.high)))
     (λ f. first_one p signals _ r f (record { from = h.low; to = h.high; passes = y; below = o }))
     (answer p signals)
 
 -- two tests that agree on the signals have one lowest
-pub lowestOf-cong : (p q : ℕ → Bool) → ((s : ℕ) → Signal s → p s ≡ q s) → lowestOf p ≡ lowestOf q
-unfolding lowestOf
-lowestOf-cong p q h =
+pub lowest_of-cong : (p q : ℕ → Bool) → ((s : ℕ) → Signal s → p s ≡ q s) → lowest_of p ≡ lowest_of q
+unfolding lowest_of
+lowest_of-cong p q h =
     ⊎_elim
-    (λ z. lowestOf-none p (λ s g. h s g ∙ z.1 s g.low g.high) ∙ sym z.0)
-    (λ f. lowestOf-is p _ (signal q _ f) (h _ (signal q _ f) ∙ f.passes)
+    (λ z. lowest_of-none p (λ s g. h s g ∙ z.1 s g.low g.high) ∙ sym z.0)
+    (λ f. lowest_of-is p _ (signal q _ f) (h _ (signal q _ f) ∙ f.passes)
     (λ s l g. h s (record { low = l; high = omega (arith, f.to) }) ∙ f.below s l g))
     (answer q signals)
 
 pub lowest-zero : (a : SigSet) → lowest a ≡ 0 → (s : ℕ) → Signal s → has a s ≡ false
 unfolding lowest
-lowest-zero a = lowestOf-zero (has a)
+lowest-zero a = lowest_of-zero (has a)
 
 pub lowest-found : (a : SigSet) → (lowest a ≡ 0 → ⊥)
     → Signal (lowest a) × (has a (lowest a) ≡ true) × ((s : ℕ) → 1 ≤ s → s < lowest a → has a s ≡ false)
 unfolding lowest
-lowest-found a = lowestOf-found (has a)
+lowest-found a = lowest_of-found (has a)
 
 pub lowest-none : (a : SigSet) → ((s : ℕ) → Signal s → has a s ≡ false) → lowest a ≡ 0
 unfolding lowest
-lowest-none a = lowestOf-none (has a)
+lowest-none a = lowest_of-none (has a)
 
 pub lowest-is : (a : SigSet) (r : ℕ) → Signal r → has a r ≡ true → ((s : ℕ) → 1 ≤ s → s < r → has a s ≡ false)
     → lowest a ≡ r
 unfolding lowest
-lowest-is a = lowestOf-is (has a)
+lowest-is a = lowest_of-is (has a)

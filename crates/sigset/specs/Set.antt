@@ -24,32 +24,32 @@ sum_of p zero = 0
 sum_of p (suc k) = sum_of p k + cond (p (suc k)) 1 0 * 2 ^ k
 
 -- the set of the signals that pass the test
-unfoldable pub setOf : (ℕ → Bool) → SigSet
-setOf p = bits (sum_of p signals)
+unfoldable pub set_of : (ℕ → Bool) → SigSet
+set_of p = bits (sum_of p signals)
 
 abbrev pub empty : SigSet
 empty = bits 0
 
 -- the set that has s alone; empty where s is no signal
-unfoldable pub ofSignal : ℕ → SigSet
-ofSignal s = setOf (λ t. eqb t s)
+unfoldable pub of_signal : ℕ → SigSet
+of_signal s = set_of (λ t. eqb t s)
 
 unfoldable pub union : SigSet → SigSet → SigSet
-union a b = setOf (λ s. has a s || has b s)
+union a b = set_of (λ s. has a s || has b s)
 
 -- the members of a that are not in b
 unfoldable pub without : SigSet → SigSet → SigSet
-without a b = setOf (λ s. has a s && not (has b s))
+without a b = set_of (λ s. has a s && not (has b s))
 
 unfoldable pub intersect : SigSet → SigSet → SigSet
-intersect a b = setOf (λ s. has a s && has b s)
+intersect a b = set_of (λ s. has a s && has b s)
 
 -- "the unmaskable pair"
-abbrev pub isUnmaskable : ℕ → Bool
-isUnmaskable s = eqb s SIGKILL || eqb s SIGSTOP
+abbrev pub is_unmaskable : ℕ → Bool
+is_unmaskable s = eqb s SIGKILL || eqb s SIGSTOP
 
 unfoldable pub unmaskable : SigSet
-unmaskable = setOf isUnmaskable
+unmaskable = set_of is_unmaskable
 
 -- the set without 9 and 19
 unfoldable pub maskable : SigSet → SigSet
@@ -61,14 +61,14 @@ or_else zero b = b
 or_else (suc a) b = suc a
 
 -- the lowest number from 1 to n that passes the test, or 0
-unfoldable pub lowestIn : (ℕ → Bool) → ℕ → ℕ
-lowestIn p zero = 0
-lowestIn p (suc k) = or_else (lowestIn p k) (cond (p (suc k)) (suc k) 0)
+unfoldable pub lowest_in : (ℕ → Bool) → ℕ → ℕ
+lowest_in p zero = 0
+lowest_in p (suc k) = or_else (lowest_in p k) (cond (p (suc k)) (suc k) 0)
 
 -- the lowest signal that passes the test, or 0
-unfoldable pub lowestOf : (ℕ → Bool) → ℕ
-lowestOf p = lowestIn p signals
+unfoldable pub lowest_of : (ℕ → Bool) → ℕ
+lowest_of p = lowest_in p signals
 
 -- the lowest member, or 0
 unfoldable pub lowest : SigSet → ℕ
-lowest a = lowestOf (has a)
+lowest a = lowest_of (has a)

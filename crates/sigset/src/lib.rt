@@ -1,6 +1,6 @@
 // Signal sets. Signal s, from 1 to 64, is bit s - 1.
 ghost use Rattle.std.specs.Prelude.{◌≡◌};
-ghost use Rattle.sigset.specs.Set.{has, union, without, intersect, maskable, ofSignal, lowest, bits};
+ghost use Rattle.sigset.specs.Set.{has, union, without, intersect, maskable, of_signal, lowest, bits};
 
 use limits::{SIGKILL, SIGNALS, SIGSTOP};
 
@@ -15,7 +15,7 @@ impl SigSet {
 
     // The set that has s alone; empty where s is no signal.
     pub fn of_signal(s: u32) -> SigSet
-        ensures { result ≡ ofSignal s }
+        ensures { result ≡ of_signal s }
     {
         if s == 0 {
             return SigSet::EMPTY;

@@ -6,144 +6,144 @@ use Prim.Native.Nat.{ℕ, ◌≤◌, ◌<◌}
 use lib.Dec.{eqb}
 use lib.ListN.{length}
 use borrow.Author.Tests.{eqb-true, eq-eqb}
-use Rattle.limits.specs.Limits.{processPlaces, processTable, threadPlaces, threadTable, bufferRecords, bufferBytes}
-use Rattle.limits.specs.Limits.{recordLimit}
+use Rattle.limits.specs.Limits.{process_places, process_table, thread_places, thread_table, buffer_records, buffer_bytes}
+use Rattle.limits.specs.Limits.{record_limit}
 use Rattle.lists.specs.Lists.{any, count, find}
 use Rattle.lists.proofs.Bools.{and-fst, and-snd, and_both}
 use Rattle.lists.proofs.Finds.{any-inside}
-use Rattle.rules.specs.View.{isProcess, isThread, liveProcess, liveThread, theProcess, theThread}
-use Rattle.rules.specs.Store.{queuedIn, view}
+use Rattle.rules.specs.View.{is_process, is_thread, live_process, live_thread, the_process, the_thread}
+use Rattle.rules.specs.Store.{queued_in, view}
 use Rattle.rules.specs.Sound.{sound}
 use Rattle.rules.proofs.Facts as rule
 use Rattle.rules.proofs.Marks.{the-process, the-thread}
 use Rattle.rules.proofs.Room as rooms
-use Rattle.queue.specs.Queue.{recordsOf, isLaid}
-use Rattle.tables.specs.Tables.{heldProcesses, heldThreads, processAt, threadAt}
-use Rattle.tables.proofs.Words.{length-heldProcesses, length-heldThreads}
-use Rattle.sound.specs.Lent.{Lent, decoded, view_of, lengthsAre, soundTables}
+use Rattle.queue.specs.Queue.{records_of, is_laid}
+use Rattle.tables.specs.Tables.{held_processes, held_threads, process_at, thread_at}
+use Rattle.tables.proofs.Words.{length-held_processes, length-held_threads}
+use Rattle.sound.specs.Lent.{Lent, decoded, view_of, lengths_are, sound_tables}
 
 -- ---- lengths
 
-module _ (l : Lent) (e : lengthsAre l ≡ true) where
-  pub right-processes : length l.processes ≡ processTable
-  unfolding lengthsAre
+module _ (l : Lent) (e : lengths_are l ≡ true) where
+  pub right-processes : length l.processes ≡ process_table
+  unfolding lengths_are
   right-processes =
-      eqb-true (length l.processes) processTable (and-fst (eqb (length l.processes) processTable) _ e)
+      eqb-true (length l.processes) process_table (and-fst (eqb (length l.processes) process_table) _ e)
 
-  pub right-threads : length l.threads ≡ threadTable
-  unfolding lengthsAre
+  pub right-threads : length l.threads ≡ thread_table
+  unfolding lengths_are
   right-threads =
-      eqb-true (length l.threads) threadTable
-      (and-fst (eqb (length l.threads) threadTable) _ (and-snd (eqb (length l.processes) processTable) _ e))
+      eqb-true (length l.threads) thread_table
+      (and-fst (eqb (length l.threads) thread_table) _ (and-snd (eqb (length l.processes) process_table) _ e))
 
-  right-buffers : (eqb (length l.threadBuffer) bufferBytes && eqb (length l.processBuffer) bufferBytes) ≡ true
-  unfolding lengthsAre
+  right-buffers : (eqb (length l.thread_buffer) buffer_bytes && eqb (length l.process_buffer) buffer_bytes) ≡ true
+  unfolding lengths_are
   right-buffers =
-      and-snd (eqb (length l.threads) threadTable) _ (and-snd (eqb (length l.processes) processTable) _ e)
+      and-snd (eqb (length l.threads) thread_table) _ (and-snd (eqb (length l.processes) process_table) _ e)
 
-  pub right-thread-buffer : length l.threadBuffer ≡ bufferBytes
+  pub right-thread-buffer : length l.thread_buffer ≡ buffer_bytes
   right-thread-buffer =
-      eqb-true (length l.threadBuffer) bufferBytes
-      (and-fst (eqb (length l.threadBuffer) bufferBytes) (eqb (length l.processBuffer) bufferBytes) right-buffers)
+      eqb-true (length l.thread_buffer) buffer_bytes
+      (and-fst (eqb (length l.thread_buffer) buffer_bytes) (eqb (length l.process_buffer) buffer_bytes) right-buffers)
 
-  pub right-process-buffer : length l.processBuffer ≡ bufferBytes
+  pub right-process-buffer : length l.process_buffer ≡ buffer_bytes
   right-process-buffer =
-      eqb-true (length l.processBuffer) bufferBytes
-      (and-snd (eqb (length l.threadBuffer) bufferBytes) (eqb (length l.processBuffer) bufferBytes) right-buffers)
+      eqb-true (length l.process_buffer) buffer_bytes
+      (and-snd (eqb (length l.thread_buffer) buffer_bytes) (eqb (length l.process_buffer) buffer_bytes) right-buffers)
 
 -- tables that are as long as those
 -- each table is as long as it was
 pub record AsLong (l l' : Lent) : Type 0 where
   pub processes : length l'.processes ≡ length l.processes
   pub threads : length l'.threads ≡ length l.threads
-  pub threadBuffer : length l'.threadBuffer ≡ length l.threadBuffer
-  pub processBuffer : length l'.processBuffer ≡ length l.processBuffer
+  pub thread_buffer : length l'.thread_buffer ≡ length l.thread_buffer
+  pub process_buffer : length l'.process_buffer ≡ length l.process_buffer
 
-pub as_long : (l l' : Lent) → AsLong l l' → lengthsAre l ≡ true → lengthsAre l' ≡ true
-unfolding lengthsAre
-as_long l l' s e = rw (s.processes, s.threads, s.threadBuffer, s.processBuffer) e
+pub as_long : (l l' : Lent) → AsLong l l' → lengths_are l ≡ true → lengths_are l' ≡ true
+unfolding lengths_are
+as_long l l' s e = rw (s.processes, s.threads, s.thread_buffer, s.process_buffer) e
 
-module _ (l : Lent) (e : soundTables l ≡ true) where
-  pub right-lengths : lengthsAre l ≡ true
-  unfolding soundTables
-  right-lengths = and-fst (lengthsAre l) _ e
+module _ (l : Lent) (e : sound_tables l ≡ true) where
+  pub right-lengths : lengths_are l ≡ true
+  unfolding sound_tables
+  right-lengths = and-fst (lengths_are l) _ e
 
   pub store-sound : sound (decoded l) ≡ true
-  unfolding soundTables
-  store-sound = and-snd (lengthsAre l) _ e
+  unfolding sound_tables
+  store-sound = and-snd (lengths_are l) _ e
 
-  pub processes-long : length l.processes ≡ processTable
+  pub processes-long : length l.processes ≡ process_table
   processes-long = right-processes l right-lengths
 
-  pub threads-long : length l.threads ≡ threadTable
+  pub threads-long : length l.threads ≡ thread_table
   threads-long = right-threads l right-lengths
 
-  pub thread-buffer-long : length l.threadBuffer ≡ bufferBytes
+  pub thread-buffer-long : length l.thread_buffer ≡ buffer_bytes
   thread-buffer-long = right-thread-buffer l right-lengths
 
-  pub process-buffer-long : length l.processBuffer ≡ bufferBytes
+  pub process-buffer-long : length l.process_buffer ≡ buffer_bytes
   process-buffer-long = right-process-buffer l right-lengths
 
   -- ---- buffers
 
-  pub thread-buffer-laid : isLaid l.threadBuffer ≡ true
-  unfolding isLaid decoded
+  pub thread-buffer-laid : is_laid l.thread_buffer ≡ true
+  unfolding is_laid decoded
   thread-buffer-laid =
-      and_both (eq-eqb (length l.threadBuffer) bufferBytes thread-buffer-long)
+      and_both (eq-eqb (length l.thread_buffer) buffer_bytes thread-buffer-long)
       (rule.thread-rest (decoded l) store-sound)
 
-  pub process-buffer-laid : isLaid l.processBuffer ≡ true
-  unfolding isLaid decoded
+  pub process-buffer-laid : is_laid l.process_buffer ≡ true
+  unfolding is_laid decoded
   process-buffer-laid =
-      and_both (eq-eqb (length l.processBuffer) bufferBytes process-buffer-long)
+      and_both (eq-eqb (length l.process_buffer) buffer_bytes process-buffer-long)
       (rule.process-rest (decoded l) store-sound)
 
   -- a process below its limit finds a free slot in either buffer
-  pub room : (p : ℕ) → liveProcess (view_of l) p ≡ true → queuedIn (decoded l) p < recordLimit
-      → (length (recordsOf l.threadBuffer) < bufferRecords) × (length (recordsOf l.processBuffer) < bufferRecords)
-  unfolding recordsOf decoded
+  pub room : (p : ℕ) → live_process (view_of l) p ≡ true → queued_in (decoded l) p < record_limit
+      → (length (records_of l.thread_buffer) < buffer_records) × (length (records_of l.process_buffer) < buffer_records)
+  unfolding records_of decoded
   room p live q = rooms.room (decoded l) store-sound p live q
 
   -- ---- places
 
-  pub one-process : (n : ℕ) → count (isProcess n) (heldProcesses l.processes) ≤ 1
+  pub one-process : (n : ℕ) → count (is_process n) (held_processes l.processes) ≤ 1
   unfolding decoded view
   one-process = rule.one-process (decoded l) store-sound
 
-  pub one-thread : (n : ℕ) → count (isThread n) (heldThreads l.threads) ≤ 1
+  pub one-thread : (n : ℕ) → count (is_thread n) (held_threads l.threads) ≤ 1
   unfolding decoded view
   one-thread = rule.one-thread (decoded l) store-sound
 
 -- ---- a live id is found, and what is found is the one that the rules mean; this asks no soundness
 
 module _ (l : Lent) where
-  pub process-listed : (n : ℕ) → liveProcess (view_of l) n ≡ true
-      → any (isProcess n) (heldProcesses l.processes) ≡ true
-  unfolding liveProcess view decoded
+  pub process-listed : (n : ℕ) → live_process (view_of l) n ≡ true
+      → any (is_process n) (held_processes l.processes) ≡ true
+  unfolding live_process view decoded
   process-listed n live = live
 
-  pub thread-listed : (n : ℕ) → liveThread (view_of l) n ≡ true → any (isThread n) (heldThreads l.threads) ≡ true
-  unfolding liveThread view decoded
+  pub thread-listed : (n : ℕ) → live_thread (view_of l) n ≡ true → any (is_thread n) (held_threads l.threads) ≡ true
+  unfolding live_thread view decoded
   thread-listed n live = live
 
-  pub process-found : (n : ℕ) → liveProcess (view_of l) n ≡ true
-      → find (isProcess n) (heldProcesses l.processes) < processPlaces
-  unfolding liveProcess view decoded
+  pub process-found : (n : ℕ) → live_process (view_of l) n ≡ true
+      → find (is_process n) (held_processes l.processes) < process_places
+  unfolding live_process view decoded
   process-found n live =
-      any-inside (isProcess n) (heldProcesses l.processes) processPlaces (length-heldProcesses l.processes) live
+      any-inside (is_process n) (held_processes l.processes) process_places (length-held_processes l.processes) live
 
-  pub thread-found : (n : ℕ) → liveThread (view_of l) n ≡ true
-      → find (isThread n) (heldThreads l.threads) < threadPlaces
-  unfolding liveThread view decoded
+  pub thread-found : (n : ℕ) → live_thread (view_of l) n ≡ true
+      → find (is_thread n) (held_threads l.threads) < thread_places
+  unfolding live_thread view decoded
   thread-found n live =
-      any-inside (isThread n) (heldThreads l.threads) threadPlaces (length-heldThreads l.threads) live
+      any-inside (is_thread n) (held_threads l.threads) thread_places (length-held_threads l.threads) live
 
   pub process-there : (n : ℕ)
-      → theProcess (view_of l) n ≡ (processAt l.processes (find (isProcess n) (heldProcesses l.processes))).holds
+      → the_process (view_of l) n ≡ (process_at l.processes (find (is_process n) (held_processes l.processes))).holds
   unfolding decoded
   process-there n = the-process (decoded l) n
 
   pub thread-there : (n : ℕ)
-      → theThread (view_of l) n ≡ (threadAt l.threads (find (isThread n) (heldThreads l.threads))).holds
+      → the_thread (view_of l) n ≡ (thread_at l.threads (find (is_thread n) (held_threads l.threads))).holds
   unfolding decoded
   thread-there n = the-thread (decoded l) n

@@ -1,8 +1,8 @@
 // Is the store sound? One test of the four lent tables, for any words, any bytes and any lengths.
 ghost use Rattle.std.specs.Prelude.{◌≡◌, true, length};
-ghost use Rattle.limits.specs.Limits.{processTable, threadTable};
-ghost use Rattle.queue.specs.Queue.{isLaid};
-ghost use Rattle.sound.specs.Lent.{soundTables, before};
+ghost use Rattle.limits.specs.Limits.{process_table, thread_table};
+ghost use Rattle.queue.specs.Queue.{is_laid};
+ghost use Rattle.sound.specs.Lent.{sound_tables, before};
 
 use hints::HINT_SLOTS;
 use limits::{
@@ -11,9 +11,9 @@ use limits::{
 
 // Places, then records, of tables of the right lengths, with nothing behind their records.
 fn contents_ok(ps: &[u64], ts: &[u64], tb: &[u8], pb: &[u8]) -> bool
-    requires ps_len { (length ps.now ≡ processTable) × (length ts.now ≡ threadTable) }
-    requires tb_value { (isLaid tb.now ≡ true) × (isLaid pb.now ≡ true) }
-    ensures { result ≡ soundTables (before ps ts tb pb) }
+    requires ps_len { (length ps.now ≡ process_table) × (length ts.now ≡ thread_table) }
+    requires tb_value { (is_laid tb.now ≡ true) × (is_laid pb.now ≡ true) }
+    ensures { result ≡ sound_tables (before ps ts tb pb) }
 {
     let mut ph = [0u16; HINT_SLOTS];
     let mut th = [0u16; HINT_SLOTS];
@@ -29,7 +29,7 @@ fn contents_ok(ps: &[u64], ts: &[u64], tb: &[u8], pb: &[u8]) -> bool
 
 // Is the store sound? Any words, any bytes and any lengths are answered.
 pub fn sound(ps: &[u64], ts: &[u64], tb: &[u8], pb: &[u8]) -> bool
-    ensures { result ≡ soundTables (before ps ts tb pb) }
+    ensures { result ≡ sound_tables (before ps ts tb pb) }
 {
     if (ps.len() != PROCESS_TABLE) | (ts.len() != THREAD_TABLE) {
         return false;
@@ -46,7 +46,7 @@ pub fn sound(ps: &[u64], ts: &[u64], tb: &[u8], pb: &[u8]) -> bool
 // The same for a host that links it.
 #[unsafe(no_mangle)]
 pub extern "C" fn rrezhbuta_sound(ps: &[u64], ts: &[u64], tb: &[u8], pb: &[u8]) -> bool
-    ensures { result ≡ soundTables (before ps ts tb pb) }
+    ensures { result ≡ sound_tables (before ps ts tb pb) }
 {
     sound(ps, ts, tb, pb)
 }

@@ -8,76 +8,76 @@ use native.Mathlib.Omega.{arith}
 use lib.Dec.{eqb}
 use lib.ListN.{length, get_or, take, drop, set, replicate, length-drop, length-replicate, get_or-map}
 use lib.Seq.{sets, get_or-take, take-set-lt, drop-set-lt, drop-drop}
-use Rattle.limits.specs.Limits.{processId, processReal, processEffective, processSaved, processSession, threadId}
-use Rattle.limits.specs.Limits.{threadProcess, threadMask, processPlaces, processWords, processTable, headWords}
-use Rattle.limits.specs.Limits.{signals, actionWords, threadPlaces, threadWords, threadTable}
+use Rattle.limits.specs.Limits.{process_id, process_real, process_effective, process_saved, process_session, thread_id}
+use Rattle.limits.specs.Limits.{thread_process, thread_mask, process_places, process_words, process_table, head_words}
+use Rattle.limits.specs.Limits.{signals, action_words, thread_places, thread_words, thread_table}
 use Rattle.lists.specs.Lists.{find}
 use Rattle.lists.specs.Rows.{row, rows, flat}
 use Rattle.lists.proofs.Lists.{Fail, All-any, All-every, All-replicate}
-use Rattle.lists.proofs.Rows.{getD-row, get_d_rows, rows-sets, rows-put, take-sets-le, drop-sets-add, take-drop-take}
-use Rattle.lists.proofs.Rows.{spellFrom, take-spellFrom, setsFrom, sets-at, set-again, sets-whole, flat-replicate}
+use Rattle.lists.proofs.Rows.{get_d-row, get_d_rows, rows-sets, rows-put, take-sets-le, drop-sets-add, take-drop-take}
+use Rattle.lists.proofs.Rows.{spell_from, take-spell_from, sets_from, sets-at, set-again, sets-whole, flat-replicate}
 use Rattle.lists.proofs.Finds.{find_absent, find-alike}
 use Rattle.sigset.specs.declared.SigSet.{SigSet}
 use Rattle.types.specs.declared.Action.{Action}
 use Rattle.types.specs.declared.NewProcess.{NewProcess}
-use Rattle.types.specs.Values.{defaultAction}
-use Rattle.rules.specs.Types.{Process, Thread, noProcess, noThread}
-use Rattle.rules.specs.View.{isProcess, isThread, actionOf}
-use Rattle.rules.specs.Adding.{addedProcess}
-use Rattle.rules.specs.Store.{Place, held, freeProcess, freeThread}
-use Rattle.tables.specs.Tables.{actionFrom, actionTo, headTo, headed, processFrom, processTo, threadFrom}
-use Rattle.tables.specs.Tables.{threadTo, processesOf, processWordsOf, threadsOf, threadWordsOf, processAt}
-use Rattle.tables.specs.Tables.{threadAt, heldProcesses, heldThreads, withField, withThreadField, hasProcessId}
-use Rattle.tables.specs.Tables.{hasThreadId, acted, placed, threadPlaced}
+use Rattle.types.specs.Values.{default_action}
+use Rattle.rules.specs.Types.{Process, Thread, no_process, no_thread}
+use Rattle.rules.specs.View.{is_process, is_thread, action_of}
+use Rattle.rules.specs.Adding.{added_process}
+use Rattle.rules.specs.Store.{Place, held, free_process, free_thread}
+use Rattle.tables.specs.Tables.{action_from, action_to, head_to, headed, process_from, process_to, thread_from}
+use Rattle.tables.specs.Tables.{thread_to, processes_of, process_words_of, threads_of, thread_words_of, process_at}
+use Rattle.tables.specs.Tables.{thread_at, held_processes, held_threads, with_field, with_thread_field, has_process_id}
+use Rattle.tables.specs.Tables.{has_thread_id, acted, placed, thread_placed}
 use Rattle.tables.proofs.Words.{ActionsLong, free-process-words, free-thread-words, words-forth}
 use Rattle.tables.proofs.Words.{thread-words-forth, process-from, thread-from, head-from, length-process-row}
 use Rattle.tables.proofs.Words.{length-thread-row, thread-row, zero-process, zero-thread, thread-back}
-use Rattle.tables.proofs.Words.{action-forth, length-actionTo}
+use Rattle.tables.proofs.Words.{action-forth, length-action_to}
 
 -- where the action of a signal begins
-abbrev pub actionBase : ℕ → ℕ → ℕ
-actionBase place signal = place * processWords + headWords + (signal - 1) * actionWords
+abbrev pub action_base : ℕ → ℕ → ℕ
+action_base place signal = place * process_words + head_words + (signal - 1) * action_words
 
 -- ---- reads
 
-module _ (ws : List ℕ) (long : length ws ≡ processTable) (place : ℕ) (h : place < processPlaces) where
-  head-words : headTo (processAt ws place) ≡ take headWords (row processWords ws place)
+module _ (ws : List ℕ) (long : length ws ≡ process_table) (place : ℕ) (h : place < process_places) where
+  head-words : head_to (process_at ws place) ≡ take head_words (row process_words ws place)
   head-words =
-      ap headTo (process-from ws place h) ∙ head-from (row processWords ws place) (length-process-row ws long place h)
+      ap head_to (process-from ws place h) ∙ head-from (row process_words ws place) (length-process-row ws long place h)
 
-  pub field-word : (field : ℕ) → field < headWords
-      → get_or (headTo (processAt ws place)) field 0 ≡ get_or ws (place * processWords + field) 0
+  pub field-word : (field : ℕ) → field < head_words
+      → get_or (head_to (process_at ws place)) field 0 ≡ get_or ws (place * process_words + field) 0
   field-word field hf =
       ap (λ l. get_or l field 0) head-words
-      ∙ get_or-take headWords (row processWords ws place) field 0 hf
-      ∙ getD-row processWords ws place field (omega arith)
+      ∙ get_or-take head_words (row process_words ws place) field 0 hf
+      ∙ get_d-row process_words ws place field (omega arith)
 
   action-row : (signal : ℕ) → 1 ≤ signal → signal ≤ signals
-      → row actionWords (drop headWords (row processWords ws place)) (signal - 1)
-      ≡ take actionWords (drop (actionBase place signal) ws)
+      → row action_words (drop head_words (row process_words ws place)) (signal - 1)
+      ≡ take action_words (drop (action_base place signal) ws)
   action-row signal low high =
-      let o : ℕ = (signal - 1) * actionWords in
-      ap (take actionWords) (drop-drop o headWords (row processWords ws place))
-      ∙ take-drop-take actionWords (headWords + o) processWords (drop (place * processWords) ws) (omega arith)
-      ∙ ap (take actionWords) (drop-drop (headWords + o) (place * processWords) ws)
-      ∙ ap (λ k. take actionWords (drop k ws)) (sym (add_assoc (place * processWords) headWords o))
+      let o : ℕ = (signal - 1) * action_words in
+      ap (take action_words) (drop-drop o head_words (row process_words ws place))
+      ∙ take-drop-take action_words (head_words + o) process_words (drop (place * process_words) ws) (omega arith)
+      ∙ ap (take action_words) (drop-drop (head_words + o) (place * process_words) ws)
+      ∙ ap (λ k. take action_words (drop k ws)) (sym (add_assoc (place * process_words) head_words o))
 
-  pub action-words : (signal b : ℕ) → 1 ≤ signal → signal ≤ signals → b ≡ actionBase place signal
-      → actionOf (processAt ws place).holds signal ≡ actionFrom (spellFrom actionWords b 0 ws)
-  unfolding actionOf processFrom headed
+  pub action-words : (signal b : ℕ) → 1 ≤ signal → signal ≤ signals → b ≡ action_base place signal
+      → action_of (process_at ws place).holds signal ≡ action_from (spell_from action_words b 0 ws)
+  unfolding action_of process_from headed
   action-words signal b low high e =
-      ap (λ (x : Place Process). get_or x.holds.actions (signal - 1) defaultAction) (process-from ws place h)
-      ∙ get_d_rows actionFrom actionWords signals (drop headWords (row processWords ws place)) (signal - 1) defaultAction
+      ap (λ (x : Place Process). get_or x.holds.actions (signal - 1) default_action) (process-from ws place h)
+      ∙ get_d_rows action_from action_words signals (drop head_words (row process_words ws place)) (signal - 1) default_action
       (omega arith)
-      ∙ ap actionFrom
-      (action-row signal low high ∙ ap (λ k. take actionWords (drop k ws)) (sym e)
-      ∙ take-spellFrom actionWords b ws (omega arith))
+      ∙ ap action_from
+      (action-row signal low high ∙ ap (λ k. take action_words (drop k ws)) (sym e)
+      ∙ take-spell_from action_words b ws (omega arith))
 
-pub thread-field-word : (ws : List ℕ) → length ws ≡ threadTable → (place : ℕ) → place < threadPlaces → (field : ℕ)
-    → field < threadWords
-    → get_or (threadTo (threadAt ws place)) field 0 ≡ get_or ws (place * threadWords + field) 0
+pub thread-field-word : (ws : List ℕ) → length ws ≡ thread_table → (place : ℕ) → place < thread_places → (field : ℕ)
+    → field < thread_words
+    → get_or (thread_to (thread_at ws place)) field 0 ≡ get_or ws (place * thread_words + field) 0
 thread-field-word ws long place h field hf =
-    ap (λ l. get_or l field 0) (thread-row ws long place h) ∙ getD-row threadWords ws place field hf
+    ap (λ l. get_or l field 0) (thread-row ws long place h) ∙ get_d-row thread_words ws place field hf
 
 -- what a place holds, with the marks forgotten
 pub held_at : {A : Type 0} (xs : List (Place A)) (i : ℕ) (d : Place A)
@@ -86,203 +86,203 @@ held_at xs i d = get_or-map held xs i d
 
 -- ---- stores into the words of one place
 
-module _ (l : List ℕ) (long : length l ≡ processWords) where
-  field-set : (k v : ℕ) → k < headWords → processFrom (set l k v) ≡ withField k v (processFrom l)
-  unfolding withField processFrom headed
+module _ (l : List ℕ) (long : length l ≡ process_words) where
+  field-set : (k v : ℕ) → k < head_words → process_from (set l k v) ≡ with_field k v (process_from l)
+  unfolding with_field process_from headed
   field-set k v hk =
-      ap₂ (λ x y. headed x (rows actionFrom actionWords signals y)) (take-set-lt headWords l k v hk)
-      (drop-set-lt headWords l k v hk)
-      ∙ ap (λ x. headed (set x k v) (rows actionFrom actionWords signals (drop headWords l))) (sym (head-from l long))
+      ap₂ (λ x y. headed x (rows action_from action_words signals y)) (take-set-lt head_words l k v hk)
+      (drop-set-lt head_words l k v hk)
+      ∙ ap (λ x. headed (set x k v) (rows action_from action_words signals (drop head_words l))) (sym (head-from l long))
 
   action-set : (signal : ℕ) (a : Action) → 1 ≤ signal → signal ≤ signals
-      → processFrom (sets l (headWords + (signal - 1) * actionWords) (actionTo a)) ≡ acted signal a (processFrom l)
-  unfolding processFrom headed
+      → process_from (sets l (head_words + (signal - 1) * action_words) (action_to a)) ≡ acted signal a (process_from l)
+  unfolding process_from headed
   action-set signal a low high =
       let i : ℕ = signal - 1 in
-      let o : ℕ = headWords + i * actionWords in
-      let acts : List ℕ = drop headWords l in
-      let e : rows actionFrom actionWords signals (drop headWords (sets l o (actionTo a)))
-      ≡ set (rows actionFrom actionWords signals acts) i a =
-      ap (rows actionFrom actionWords signals) (drop-sets-add headWords l (i * actionWords) (actionTo a))
-      ∙ rows-put actionFrom actionWords signals acts i (actionTo a) (omega arith) (rw length-drop (omega arith))
-      (length-actionTo a)
-      ∙ ap (set (rows actionFrom actionWords signals acts) i) (action-forth a) in
-      ap₂ headed (take-sets-le headWords l o (actionTo a) (omega arith)) e
+      let o : ℕ = head_words + i * action_words in
+      let acts : List ℕ = drop head_words l in
+      let e : rows action_from action_words signals (drop head_words (sets l o (action_to a)))
+      ≡ set (rows action_from action_words signals acts) i a =
+      ap (rows action_from action_words signals) (drop-sets-add head_words l (i * action_words) (action_to a))
+      ∙ rows-put action_from action_words signals acts i (action_to a) (omega arith) (rw length-drop (omega arith))
+      (length-action_to a)
+      ∙ ap (set (rows action_from action_words signals acts) i) (action-forth a) in
+      ap₂ headed (take-sets-le head_words l o (action_to a) (omega arith)) e
 
-thread-field-set : (l : List ℕ) → length l ≡ threadWords → (k v : ℕ)
-    → threadFrom (set l k v) ≡ withThreadField k v (threadFrom l)
-unfolding withThreadField
-thread-field-set l long k v = ap (λ x. threadFrom (set x k v)) (sym (thread-back l long))
+thread-field-set : (l : List ℕ) → length l ≡ thread_words → (k v : ℕ)
+    → thread_from (set l k v) ≡ with_thread_field k v (thread_from l)
+unfolding with_thread_field
+thread-field-set l long k v = ap (λ x. thread_from (set x k v)) (sym (thread-back l long))
 
 -- ---- stores into a table
 
-module _ (ws : List ℕ) (long : length ws ≡ processTable) (place : ℕ) (h : place < processPlaces) where
+module _ (ws : List ℕ) (long : length ws ≡ process_table) (place : ℕ) (h : place < process_places) where
   -- a run of stores inside a place
-  process-sets : (o : ℕ) (vs : List ℕ) → o + length vs ≤ processWords
-      → processesOf (sets ws (place * processWords + o) vs)
-      ≡ set (processesOf ws) place (processFrom (sets (row processWords ws place) o vs))
-  unfolding processesOf
-  process-sets o vs fits = rows-sets processFrom processWords processPlaces ws place o vs h fits
+  process-sets : (o : ℕ) (vs : List ℕ) → o + length vs ≤ process_words
+      → processes_of (sets ws (place * process_words + o) vs)
+      ≡ set (processes_of ws) place (process_from (sets (row process_words ws place) o vs))
+  unfolding processes_of
+  process-sets o vs fits = rows-sets process_from process_words process_places ws place o vs h fits
 
-  pub field_put : (field v : ℕ) → field < headWords
-      → processesOf (set ws (place * processWords + field) v)
-      ≡ set (processesOf ws) place (withField field v (processAt ws place))
+  pub field_put : (field v : ℕ) → field < head_words
+      → processes_of (set ws (place * process_words + field) v)
+      ≡ set (processes_of ws) place (with_field field v (process_at ws place))
   field_put field v hf =
       process-sets field (v ∷ []) (omega arith)
-      ∙ ap (set (processesOf ws) place)
-      (field-set (row processWords ws place) (length-process-row ws long place h) field v hf
-      ∙ ap (withField field v) (sym (process-from ws place h)))
+      ∙ ap (set (processes_of ws) place)
+      (field-set (row process_words ws place) (length-process-row ws long place h) field v hf
+      ∙ ap (with_field field v) (sym (process-from ws place h)))
 
-  pub action-put : (signal b : ℕ) (a : Action) → 1 ≤ signal → signal ≤ signals → b ≡ actionBase place signal
-      → processesOf (setsFrom ws b 0 (actionTo a)) ≡ set (processesOf ws) place (acted signal a (processAt ws place))
+  pub action-put : (signal b : ℕ) (a : Action) → 1 ≤ signal → signal ≤ signals → b ≡ action_base place signal
+      → processes_of (sets_from ws b 0 (action_to a)) ≡ set (processes_of ws) place (acted signal a (process_at ws place))
   action-put signal b a low high e =
-      let o : ℕ = (signal - 1) * actionWords in
-      ap processesOf (sets-at ws b (actionTo a))
-      ∙ ap (λ k. processesOf (sets ws k (actionTo a))) (e ∙ add_assoc (place * processWords) headWords o)
-      ∙ process-sets (headWords + o) (actionTo a) (rw length-actionTo (omega arith))
-      ∙ ap (set (processesOf ws) place)
-      (action-set (row processWords ws place) (length-process-row ws long place h) signal a low high
+      let o : ℕ = (signal - 1) * action_words in
+      ap processes_of (sets-at ws b (action_to a))
+      ∙ ap (λ k. processes_of (sets ws k (action_to a))) (e ∙ add_assoc (place * process_words) head_words o)
+      ∙ process-sets (head_words + o) (action_to a) (rw length-action_to (omega arith))
+      ∙ ap (set (processes_of ws) place)
+      (action-set (row process_words ws place) (length-process-row ws long place h) signal a low high
       ∙ ap (acted signal a) (sym (process-from ws place h)))
 
-  pub process-cleared : (after : List ℕ) → after ≡ sets ws (place * processWords) (replicate processWords 0)
-      → processesOf after ≡ set (processesOf ws) place freeProcess
-  unfolding processesOf
+  pub process-cleared : (after : List ℕ) → after ≡ sets ws (place * process_words) (replicate process_words 0)
+      → processes_of after ≡ set (processes_of ws) place free_process
+  unfolding processes_of
   process-cleared after e =
-      ap processesOf e
-      ∙ rows-put processFrom processWords processPlaces ws place (replicate processWords 0) h (omega arith)
-      (length-replicate {A = ℕ} processWords 0)
-      ∙ ap (set (processesOf ws) place) zero-process
+      ap processes_of e
+      ∙ rows-put process_from process_words process_places ws place (replicate process_words 0) h (omega arith)
+      (length-replicate {A = ℕ} process_words 0)
+      ∙ ap (set (processes_of ws) place) zero-process
 
-module _ (ws : List ℕ) (long : length ws ≡ threadTable) (place : ℕ) (h : place < threadPlaces) where
-  pub thread-field-put : (field v : ℕ) → field < threadWords
-      → threadsOf (set ws (place * threadWords + field) v)
-      ≡ set (threadsOf ws) place (withThreadField field v (threadAt ws place))
-  unfolding threadsOf
+module _ (ws : List ℕ) (long : length ws ≡ thread_table) (place : ℕ) (h : place < thread_places) where
+  pub thread-field-put : (field v : ℕ) → field < thread_words
+      → threads_of (set ws (place * thread_words + field) v)
+      ≡ set (threads_of ws) place (with_thread_field field v (thread_at ws place))
+  unfolding threads_of
   thread-field-put field v hf =
-      rows-sets threadFrom threadWords threadPlaces ws place field (v ∷ []) h (omega arith)
-      ∙ ap (set (threadsOf ws) place)
-      (thread-field-set (row threadWords ws place) (length-thread-row ws long place h) field v
-      ∙ ap (withThreadField field v) (sym (thread-from ws place h)))
+      rows-sets thread_from thread_words thread_places ws place field (v ∷ []) h (omega arith)
+      ∙ ap (set (threads_of ws) place)
+      (thread-field-set (row thread_words ws place) (length-thread-row ws long place h) field v
+      ∙ ap (with_thread_field field v) (sym (thread-from ws place h)))
 
-  pub thread-cleared : (after : List ℕ) → after ≡ sets ws (place * threadWords) (replicate threadWords 0)
-      → threadsOf after ≡ set (threadsOf ws) place freeThread
-  unfolding threadsOf
+  pub thread-cleared : (after : List ℕ) → after ≡ sets ws (place * thread_words) (replicate thread_words 0)
+      → threads_of after ≡ set (threads_of ws) place free_thread
+  unfolding threads_of
   thread-cleared after e =
-      ap threadsOf e
-      ∙ rows-put threadFrom threadWords threadPlaces ws place (replicate threadWords 0) h (omega arith)
-      (length-replicate {A = ℕ} threadWords 0)
-      ∙ ap (set (threadsOf ws) place) zero-thread
+      ap threads_of e
+      ∙ rows-put thread_from thread_words thread_places ws place (replicate thread_words 0) h (omega arith)
+      (length-replicate {A = ℕ} thread_words 0)
+      ∙ ap (set (threads_of ws) place) zero-thread
 
 -- ---- every place cleared
 
-pub processes-cleared : (ws after : List ℕ) → length ws ≡ processTable → after ≡ sets ws 0 (replicate processTable 0)
-    → processesOf after ≡ replicate processPlaces freeProcess
-unfolding processWordsOf
+pub processes-cleared : (ws after : List ℕ) → length ws ≡ process_table → after ≡ sets ws 0 (replicate process_table 0)
+    → processes_of after ≡ replicate process_places free_process
+unfolding process_words_of
 processes-cleared ws after long e =
-    let xs : List (Place Process) = replicate processPlaces freeProcess in
-    let z : flat processTo xs ≡ replicate processTable 0 =
-    flat-replicate processTo freeProcess processWords 0 free-process-words processPlaces in
-    ap processesOf
-    (e ∙ sets-whole (replicate processTable 0) ws (long ∙ sym (length-replicate {A = ℕ} processTable 0)) ∙ sym z)
-    ∙ words-forth xs (length-replicate processPlaces freeProcess)
-    (All-replicate ActionsLong freeProcess (length-replicate signals defaultAction) processPlaces)
+    let xs : List (Place Process) = replicate process_places free_process in
+    let z : flat process_to xs ≡ replicate process_table 0 =
+    flat-replicate process_to free_process process_words 0 free-process-words process_places in
+    ap processes_of
+    (e ∙ sets-whole (replicate process_table 0) ws (long ∙ sym (length-replicate {A = ℕ} process_table 0)) ∙ sym z)
+    ∙ words-forth xs (length-replicate process_places free_process)
+    (All-replicate ActionsLong free_process (length-replicate signals default_action) process_places)
 
-pub threads-cleared : (ws after : List ℕ) → length ws ≡ threadTable → after ≡ sets ws 0 (replicate threadTable 0)
-    → threadsOf after ≡ replicate threadPlaces freeThread
-unfolding threadWordsOf
+pub threads-cleared : (ws after : List ℕ) → length ws ≡ thread_table → after ≡ sets ws 0 (replicate thread_table 0)
+    → threads_of after ≡ replicate thread_places free_thread
+unfolding thread_words_of
 threads-cleared ws after long e =
-    let xs : List (Place Thread) = replicate threadPlaces freeThread in
-    let z : flat threadTo xs ≡ replicate threadTable 0 =
-    flat-replicate threadTo freeThread threadWords 0 free-thread-words threadPlaces in
-    ap threadsOf
-    (e ∙ sets-whole (replicate threadTable 0) ws (long ∙ sym (length-replicate {A = ℕ} threadTable 0)) ∙ sym z)
-    ∙ thread-words-forth xs (length-replicate threadPlaces freeThread)
+    let xs : List (Place Thread) = replicate thread_places free_thread in
+    let z : flat thread_to xs ≡ replicate thread_table 0 =
+    flat-replicate thread_to free_thread thread_words 0 free-thread-words thread_places in
+    ap threads_of
+    (e ∙ sets-whole (replicate thread_table 0) ws (long ∙ sym (length-replicate {A = ℕ} thread_table 0)) ∙ sym z)
+    ∙ thread-words-forth xs (length-replicate thread_places free_thread)
 
 -- ---- a free place filled, one field after the other
 
-abbrev withFields : NewProcess → Place Process
-withFields new =
-    withField processSession new.session
-    (withField processSaved new.saved
-    (withField processEffective new.effective
-    (withField processReal new.real (withField processId new.id freeProcess))))
+abbrev with_fields : NewProcess → Place Process
+with_fields new =
+    with_field process_session new.session
+    (with_field process_saved new.saved
+    (with_field process_effective new.effective
+    (with_field process_real new.real (with_field process_id new.id free_process))))
 
-added-fields : (new : NewProcess) → withFields new ≡ placed (addedProcess new)
-unfolding withField headed headTo addedProcess
+added-fields : (new : NewProcess) → with_fields new ≡ placed (added_process new)
+unfolding with_field headed head_to added_process
 added-fields new = refl
 
-abbrev withThreadFields : (id process mask : ℕ) → Place Thread
-withThreadFields id process mask =
-    withThreadField threadMask mask (withThreadField threadProcess process (withThreadField threadId id freeThread))
+abbrev with_thread_fields : (id process mask : ℕ) → Place Thread
+with_thread_fields id process mask =
+    with_thread_field thread_mask mask (with_thread_field thread_process process (with_thread_field thread_id id free_thread))
 
-thread-fields : (id process : ℕ) (mask : SigSet) → withThreadFields id process mask.0 ≡ threadPlaced id process mask
-unfolding withThreadField threadFrom threadTo
+thread-fields : (id process : ℕ) (mask : SigSet) → with_thread_fields id process mask.0 ≡ thread_placed id process mask
+unfolding with_thread_field thread_from thread_to
 thread-fields id process mask = refl
 
 -- the table after a field of a place is put
-abbrev putField : List (Place Process) → (place field v : ℕ) → List (Place Process)
-putField xs place field v = set xs place (withField field v (get_or xs place freeProcess))
+abbrev put_field : List (Place Process) → (place field v : ℕ) → List (Place Process)
+put_field xs place field v = set xs place (with_field field v (get_or xs place free_process))
 
-abbrev putThreadField : List (Place Thread) → (place field v : ℕ) → List (Place Thread)
-putThreadField xs place field v = set xs place (withThreadField field v (get_or xs place freeThread))
+abbrev put_thread_field : List (Place Thread) → (place field v : ℕ) → List (Place Thread)
+put_thread_field xs place field v = set xs place (with_thread_field field v (get_or xs place free_thread))
 
 pub process-filled : (xs x₀ x₁ x₂ x₃ x₄ x₅ : List (Place Process)) (place : ℕ) (new : NewProcess) → place < length xs
-    → x₀ ≡ set xs place freeProcess → x₁ ≡ putField x₀ place processId new.id → x₂
-    ≡ putField x₁ place processReal new.real
-    → x₃ ≡ putField x₂ place processEffective new.effective → x₄ ≡ putField x₃ place processSaved new.saved
-    → x₅ ≡ putField x₄ place processSession new.session → x₅ ≡ set xs place (placed (addedProcess new))
+    → x₀ ≡ set xs place free_process → x₁ ≡ put_field x₀ place process_id new.id → x₂
+    ≡ put_field x₁ place process_real new.real
+    → x₃ ≡ put_field x₂ place process_effective new.effective → x₄ ≡ put_field x₃ place process_saved new.saved
+    → x₅ ≡ put_field x₄ place process_session new.session → x₅ ≡ set xs place (placed (added_process new))
 process-filled xs x₀ x₁ x₂ x₃ x₄ x₅ place new h e₀ e₁ e₂ e₃ e₄ e₅ =
-    set-again freeProcess (withField processSession new.session) xs x₄ x₅ place _ h
-    (set-again freeProcess (withField processSaved new.saved) xs x₃ x₄ place _ h
-    (set-again freeProcess (withField processEffective new.effective) xs x₂ x₃ place _ h
-    (set-again freeProcess (withField processReal new.real) xs x₁ x₂ place _ h
-    (set-again freeProcess (withField processId new.id) xs x₀ x₁ place _ h e₀ e₁) e₂) e₃) e₄) e₅
+    set-again free_process (with_field process_session new.session) xs x₄ x₅ place _ h
+    (set-again free_process (with_field process_saved new.saved) xs x₃ x₄ place _ h
+    (set-again free_process (with_field process_effective new.effective) xs x₂ x₃ place _ h
+    (set-again free_process (with_field process_real new.real) xs x₁ x₂ place _ h
+    (set-again free_process (with_field process_id new.id) xs x₀ x₁ place _ h e₀ e₁) e₂) e₃) e₄) e₅
     ∙ ap (set xs place) (added-fields new)
 
 pub thread-filled : (xs x₀ x₁ x₂ x₃ : List (Place Thread)) (place : ℕ) (id process : ℕ) (mask : SigSet)
     → place < length xs
-    → x₀ ≡ set xs place freeThread → x₁ ≡ putThreadField x₀ place threadId id
-    → x₂ ≡ putThreadField x₁ place threadProcess process
-    → x₃ ≡ putThreadField x₂ place threadMask mask.0
-    → x₃ ≡ set xs place (threadPlaced id process mask)
+    → x₀ ≡ set xs place free_thread → x₁ ≡ put_thread_field x₀ place thread_id id
+    → x₂ ≡ put_thread_field x₁ place thread_process process
+    → x₃ ≡ put_thread_field x₂ place thread_mask mask.0
+    → x₃ ≡ set xs place (thread_placed id process mask)
 thread-filled xs x₀ x₁ x₂ x₃ place id process mask h e₀ e₁ e₂ e₃ =
-    set-again freeThread (withThreadField threadMask mask.0) xs x₂ x₃ place _ h
-    (set-again freeThread (withThreadField threadProcess process) xs x₁ x₂ place _ h
-    (set-again freeThread (withThreadField threadId id) xs x₀ x₁ place _ h e₀ e₁) e₂) e₃
+    set-again free_thread (with_thread_field thread_mask mask.0) xs x₂ x₃ place _ h
+    (set-again free_thread (with_thread_field thread_process process) xs x₁ x₂ place _ h
+    (set-again free_thread (with_thread_field thread_id id) xs x₀ x₁ place _ h e₀ e₁) e₂) e₃
     ∙ ap (set xs place) (thread-fields id process mask)
 
 -- ---- searches
 
 -- the test of a place, by the word w that is read of it
-pub process-test : (ws : List ℕ) (i id w : ℕ) → w ≡ get_or (headTo (processAt ws i)) processId 0
-    → hasProcessId id (get_or (heldProcesses ws) i noProcess) ≡ eqb w id
-unfolding hasProcessId headTo
+pub process-test : (ws : List ℕ) (i id w : ℕ) → w ≡ get_or (head_to (process_at ws i)) process_id 0
+    → has_process_id id (get_or (held_processes ws) i no_process) ≡ eqb w id
+unfolding has_process_id head_to
 process-test ws i id w e =
-    ap (λ (p : Process). eqb p.id id) (held_at (processesOf ws) i freeProcess) ∙ ap (λ k. eqb k id) (sym e)
+    ap (λ (p : Process). eqb p.id id) (held_at (processes_of ws) i free_process) ∙ ap (λ k. eqb k id) (sym e)
 
-pub thread-test : (ws : List ℕ) (i id w : ℕ) → w ≡ get_or (threadTo (threadAt ws i)) threadId 0
-    → hasThreadId id (get_or (heldThreads ws) i noThread) ≡ eqb w id
-unfolding hasThreadId threadTo
+pub thread-test : (ws : List ℕ) (i id w : ℕ) → w ≡ get_or (thread_to (thread_at ws i)) thread_id 0
+    → has_thread_id id (get_or (held_threads ws) i no_thread) ≡ eqb w id
+unfolding has_thread_id thread_to
 thread-test ws i id w e =
-    ap (λ (t : Thread). eqb t.id id) (held_at (threadsOf ws) i freeThread) ∙ ap (λ k. eqb k id) (sym e)
+    ap (λ (t : Thread). eqb t.id id) (held_at (threads_of ws) i free_thread) ∙ ap (λ k. eqb k id) (sym e)
 
 -- 0 is no id
 
 module _ (xs : List Process) where
-  pub find-live : (n : ℕ) → not (eqb n 0) ≡ true → find (isProcess n) xs ≡ find (hasProcessId n) xs
-  unfolding isProcess hasProcessId
-  find-live n e = find-alike (isProcess n) (hasProcessId n) xs (λ p. ap (λ b. b && eqb p.id n) e)
+  pub find-live : (n : ℕ) → not (eqb n 0) ≡ true → find (is_process n) xs ≡ find (has_process_id n) xs
+  unfolding is_process has_process_id
+  find-live n e = find-alike (is_process n) (has_process_id n) xs (λ p. ap (λ b. b && eqb p.id n) e)
 
-  pub find-zero : find (isProcess 0) xs ≡ length xs
-  unfolding isProcess
-  find-zero = find_absent (isProcess 0) xs (All-any (isProcess 0) xs (All-every (Fail (isProcess 0)) (λ _. refl) xs))
+  pub find-zero : find (is_process 0) xs ≡ length xs
+  unfolding is_process
+  find-zero = find_absent (is_process 0) xs (All-any (is_process 0) xs (All-every (Fail (is_process 0)) (λ _. refl) xs))
 
 module _ (xs : List Thread) where
-  pub find-live-thread : (n : ℕ) → not (eqb n 0) ≡ true → find (isThread n) xs ≡ find (hasThreadId n) xs
-  unfolding isThread hasThreadId
-  find-live-thread n e = find-alike (isThread n) (hasThreadId n) xs (λ t. ap (λ b. b && eqb t.id n) e)
+  pub find-live-thread : (n : ℕ) → not (eqb n 0) ≡ true → find (is_thread n) xs ≡ find (has_thread_id n) xs
+  unfolding is_thread has_thread_id
+  find-live-thread n e = find-alike (is_thread n) (has_thread_id n) xs (λ t. ap (λ b. b && eqb t.id n) e)
 
-  pub find-zero-thread : find (isThread 0) xs ≡ length xs
-  unfolding isThread
+  pub find-zero-thread : find (is_thread 0) xs ≡ length xs
+  unfolding is_thread
   find-zero-thread =
-      find_absent (isThread 0) xs (All-any (isThread 0) xs (All-every (Fail (isThread 0)) (λ _. refl) xs))
+      find_absent (is_thread 0) xs (All-any (is_thread 0) xs (All-every (Fail (is_thread 0)) (λ _. refl) xs))

@@ -1,30 +1,30 @@
 -- What the words of the process table and of the thread table say, place by place, and the words of a list of places.
 use Rattle.std.specs.Prelude.{ℕ, List, [], ◌∷◌, ◌++◌, map, Bool, eqb, get_or, take, drop, set}
-use Rattle.limits.specs.Limits.{processPlaces, threadPlaces, signals, processId, processReal, processEffective}
-use Rattle.limits.specs.Limits.{processSaved, processSession, processStopped, processMarks, headWords, actionHandler}
-use Rattle.limits.specs.Limits.{actionFlags, actionMask, actionWords, threadId, threadProcess, threadMask, threadMarks}
-use Rattle.limits.specs.Limits.{threadWords, processWords}
+use Rattle.limits.specs.Limits.{process_places, thread_places, signals, process_id, process_real, process_effective}
+use Rattle.limits.specs.Limits.{process_saved, process_session, process_stopped, process_marks, head_words, action_handler}
+use Rattle.limits.specs.Limits.{action_flags, action_mask, action_words, thread_id, thread_process, thread_mask, thread_marks}
+use Rattle.limits.specs.Limits.{thread_words, process_words}
 use Rattle.lists.specs.Rows.{rows, flat}
 use Rattle.sigset.specs.declared.SigSet.{SigSet}
 use Rattle.sigset.specs.Set.{bits, empty}
 use Rattle.types.specs.declared.Action.{Action}
 use Rattle.rules.specs.Types.{Process, Thread}
-use Rattle.rules.specs.Store.{Place, held, freeProcess, freeThread, withAction}
+use Rattle.rules.specs.Store.{Place, held, free_process, free_thread, with_action}
 
 -- ---- the words of one place
 
 -- an action is "a 64-bit handler number .., flags, and a mask"
-unfoldable pub actionFrom : List ℕ → Action
-actionFrom l =
-    record { handler = get_or l actionHandler 0; flags = get_or l actionFlags 0; mask = bits (get_or l actionMask 0) }
+unfoldable pub action_from : List ℕ → Action
+action_from l =
+    record { handler = get_or l action_handler 0; flags = get_or l action_flags 0; mask = bits (get_or l action_mask 0) }
 
-unfoldable pub actionTo : Action → List ℕ
-actionTo a = a.handler ∷ a.flags ∷ a.mask.0 ∷ []
+unfoldable pub action_to : Action → List ℕ
+action_to a = a.handler ∷ a.flags ∷ a.mask.0 ∷ []
 
 -- a process place is "id, real, effective and saved user ids, session id, stopped or not, marks",
 -- its head, and then "64 actions"
-unfoldable pub headTo : Place Process → List ℕ
-headTo x =
+unfoldable pub head_to : Place Process → List ℕ
+head_to x =
     x.holds.id ∷ x.holds.real ∷ x.holds.effective ∷ x.holds.saved ∷ x.holds.session ∷ x.holds.stopped
     ∷ x.marks.0 ∷ []
 
@@ -33,88 +33,88 @@ headed l actions =
     record {
       holds =
           record {
-            id = get_or l processId 0;
-            real = get_or l processReal 0;
-            effective = get_or l processEffective 0;
-            saved = get_or l processSaved 0;
-            session = get_or l processSession 0;
-            stopped = get_or l processStopped 0;
+            id = get_or l process_id 0;
+            real = get_or l process_real 0;
+            effective = get_or l process_effective 0;
+            saved = get_or l process_saved 0;
+            session = get_or l process_session 0;
+            stopped = get_or l process_stopped 0;
             actions = actions;
           };
-      marks = bits (get_or l processMarks 0);
+      marks = bits (get_or l process_marks 0);
     }
 
-unfoldable pub processFrom : List ℕ → Place Process
-processFrom l = headed (take headWords l) (rows actionFrom actionWords signals (drop headWords l))
+unfoldable pub process_from : List ℕ → Place Process
+process_from l = headed (take head_words l) (rows action_from action_words signals (drop head_words l))
 
-unfoldable pub processTo : Place Process → List ℕ
-processTo x = headTo x ++ flat actionTo x.holds.actions
+unfoldable pub process_to : Place Process → List ℕ
+process_to x = head_to x ++ flat action_to x.holds.actions
 
 -- a thread place is "id, process id, mask, marks"
-unfoldable pub threadFrom : List ℕ → Place Thread
-threadFrom l =
+unfoldable pub thread_from : List ℕ → Place Thread
+thread_from l =
     record {
-      holds = record { id = get_or l threadId 0; process = get_or l threadProcess 0; mask = bits (get_or l threadMask 0) };
-      marks = bits (get_or l threadMarks 0);
+      holds = record { id = get_or l thread_id 0; process = get_or l thread_process 0; mask = bits (get_or l thread_mask 0) };
+      marks = bits (get_or l thread_marks 0);
     }
 
-unfoldable pub threadTo : Place Thread → List ℕ
-threadTo x = x.holds.id ∷ x.holds.process ∷ x.holds.mask.0 ∷ x.marks.0 ∷ []
+unfoldable pub thread_to : Place Thread → List ℕ
+thread_to x = x.holds.id ∷ x.holds.process ∷ x.holds.mask.0 ∷ x.marks.0 ∷ []
 
 -- ---- the tables
 
-unfoldable pub processesOf : List ℕ → List (Place Process)
-processesOf ws = rows processFrom processWords processPlaces ws
+unfoldable pub processes_of : List ℕ → List (Place Process)
+processes_of ws = rows process_from process_words process_places ws
 
-unfoldable pub processWordsOf : List (Place Process) → List ℕ
-processWordsOf xs = flat processTo xs
+unfoldable pub process_words_of : List (Place Process) → List ℕ
+process_words_of xs = flat process_to xs
 
-unfoldable pub threadsOf : List ℕ → List (Place Thread)
-threadsOf ws = rows threadFrom threadWords threadPlaces ws
+unfoldable pub threads_of : List ℕ → List (Place Thread)
+threads_of ws = rows thread_from thread_words thread_places ws
 
-unfoldable pub threadWordsOf : List (Place Thread) → List ℕ
-threadWordsOf xs = flat threadTo xs
+unfoldable pub thread_words_of : List (Place Thread) → List ℕ
+thread_words_of xs = flat thread_to xs
 
 -- what is in the places, without the marks
-abbrev pub heldProcesses : List ℕ → List Process
-heldProcesses ws = map held (processesOf ws)
+abbrev pub held_processes : List ℕ → List Process
+held_processes ws = map held (processes_of ws)
 
-abbrev pub heldThreads : List ℕ → List Thread
-heldThreads ws = map held (threadsOf ws)
+abbrev pub held_threads : List ℕ → List Thread
+held_threads ws = map held (threads_of ws)
 
 -- one place
-abbrev pub processAt : List ℕ → ℕ → Place Process
-processAt ws place = get_or (processesOf ws) place freeProcess
+abbrev pub process_at : List ℕ → ℕ → Place Process
+process_at ws place = get_or (processes_of ws) place free_process
 
-abbrev pub threadAt : List ℕ → ℕ → Place Thread
-threadAt ws place = get_or (threadsOf ws) place freeThread
+abbrev pub thread_at : List ℕ → ℕ → Place Thread
+thread_at ws place = get_or (threads_of ws) place free_thread
 
 -- ---- one word of a place changed: at a named offset this computes to the record with that field changed
 
-unfoldable pub withField : ℕ → ℕ → Place Process → Place Process
-withField k v x = headed (set (headTo x) k v) x.holds.actions
+unfoldable pub with_field : ℕ → ℕ → Place Process → Place Process
+with_field k v x = headed (set (head_to x) k v) x.holds.actions
 
-unfoldable pub withThreadField : ℕ → ℕ → Place Thread → Place Thread
-withThreadField k v x = threadFrom (set (threadTo x) k v)
+unfoldable pub with_thread_field : ℕ → ℕ → Place Thread → Place Thread
+with_thread_field k v x = thread_from (set (thread_to x) k v)
 
 -- ---- what is searched for
 
 -- the place has this id; a free one has 0
-unfoldable pub hasProcessId : ℕ → Process → Bool
-hasProcessId n p = eqb p.id n
+unfoldable pub has_process_id : ℕ → Process → Bool
+has_process_id n p = eqb p.id n
 
-unfoldable pub hasThreadId : ℕ → Thread → Bool
-hasThreadId n t = eqb t.id n
+unfoldable pub has_thread_id : ℕ → Thread → Bool
+has_thread_id n t = eqb t.id n
 
 -- ---- what is put into a place
 
 -- the action of a signal changed
 abbrev pub acted : ℕ → Action → Place Process → Place Process
-acted s a x = record { holds = withAction s a x.holds; marks = x.marks }
+acted s a x = record { holds = with_action s a x.holds; marks = x.marks }
 
 -- with nothing pending
 abbrev pub placed : {A : Type 0} → A → Place A
 placed a = record { holds = a; marks = empty }
 
-abbrev pub threadPlaced : (id process : ℕ) → SigSet → Place Thread
-threadPlaced id process mask = placed (record { id = id; process = process; mask = mask })
+abbrev pub thread_placed : (id process : ℕ) → SigSet → Place Thread
+thread_placed id process mask = placed (record { id = id; process = process; mask = mask })

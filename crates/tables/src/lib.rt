@@ -1,15 +1,15 @@
 // The process table and the thread table as words: a place found by id, read, written, filled and cleared.
 ghost use Rattle.std.specs.Prelude.{◌≡◌, ◌+◌, ◌-◌, ◌*◌, ◌≤◌, ◌<◌, length, get_or, set, replicate};
 ghost use Rattle.std.proofs.lemmas.List.Edits.{sets};
-ghost use Rattle.limits.specs.Limits.{processPlaces, processTable, threadPlaces, threadTable, signals, processWords};
-ghost use Rattle.limits.specs.Limits.{headWords, actionWords, threadWords};
+ghost use Rattle.limits.specs.Limits.{process_places, process_table, thread_places, thread_table, signals, process_words};
+ghost use Rattle.limits.specs.Limits.{head_words, action_words, thread_words};
 ghost use Rattle.lists.specs.Lists.{find};
-ghost use Rattle.rules.specs.View.{isProcess, isThread, actionOf};
-ghost use Rattle.rules.specs.Store.{freeProcess, freeThread, isFreeProcess, isFreeThread};
-ghost use Rattle.rules.specs.Adding.{addedProcess};
-ghost use Rattle.tables.specs.Tables.{processesOf, threadsOf, heldProcesses, heldThreads, processAt, threadAt};
-ghost use Rattle.tables.specs.Tables.{headTo, threadTo, withField, withThreadField, hasProcessId, hasThreadId};
-ghost use Rattle.tables.specs.Tables.{placed, acted, threadPlaced};
+ghost use Rattle.rules.specs.View.{is_process, is_thread, action_of};
+ghost use Rattle.rules.specs.Store.{free_process, free_thread, is_free_process, is_free_thread};
+ghost use Rattle.rules.specs.Adding.{added_process};
+ghost use Rattle.tables.specs.Tables.{processes_of, threads_of, held_processes, held_threads, process_at, thread_at};
+ghost use Rattle.tables.specs.Tables.{head_to, thread_to, with_field, with_thread_field, has_process_id, has_thread_id};
+ghost use Rattle.tables.specs.Tables.{placed, acted, thread_placed};
 
 use limits::{
     ACTION_FLAGS, ACTION_HANDLER, ACTION_MASK, ACTION_WORDS, HEAD_WORDS, PROCESS_EFFECTIVE,
@@ -24,31 +24,31 @@ use types::{Action, NewProcess};
 //      four, at its named offset
 
 pub fn field_at(ps: &[u64], place: usize, field: usize) -> u64
-    requires { (length ps.now ≡ processTable) × ((place < processPlaces) × (field < headWords)) }
-    ensures { result ≡ get_or (headTo (processAt ps.now place)) field 0 }
+    requires { (length ps.now ≡ process_table) × ((place < process_places) × (field < head_words)) }
+    ensures { result ≡ get_or (head_to (process_at ps.now place)) field 0 }
 {
     ps[place * PROCESS_WORDS + field]
 }
 
 pub fn put_field(ps: &mut [u64], place: usize, field: usize, value: u64)
-    requires { (length ps.old ≡ processTable) × ((place < processPlaces) × (field < headWords)) }
-    ensures { processesOf ps.new
-        ≡ set (processesOf ps.old) place (withField field value (processAt ps.old place)) }
+    requires { (length ps.old ≡ process_table) × ((place < process_places) × (field < head_words)) }
+    ensures { processes_of ps.new
+        ≡ set (processes_of ps.old) place (with_field field value (process_at ps.old place)) }
 {
     ps[place * PROCESS_WORDS + field] = value;
 }
 
 pub fn thread_field_at(ts: &[u64], place: usize, field: usize) -> u64
-    requires { (length ts.now ≡ threadTable) × ((place < threadPlaces) × (field < threadWords)) }
-    ensures { result ≡ get_or (threadTo (threadAt ts.now place)) field 0 }
+    requires { (length ts.now ≡ thread_table) × ((place < thread_places) × (field < thread_words)) }
+    ensures { result ≡ get_or (thread_to (thread_at ts.now place)) field 0 }
 {
     ts[place * THREAD_WORDS + field]
 }
 
 pub fn put_thread_field(ts: &mut [u64], place: usize, field: usize, value: u64)
-    requires { (length ts.old ≡ threadTable) × ((place < threadPlaces) × (field < threadWords)) }
-    ensures { threadsOf ts.new
-        ≡ set (threadsOf ts.old) place (withThreadField field value (threadAt ts.old place)) }
+    requires { (length ts.old ≡ thread_table) × ((place < thread_places) × (field < thread_words)) }
+    ensures { threads_of ts.new
+        ≡ set (threads_of ts.old) place (with_thread_field field value (thread_at ts.old place)) }
 {
     ts[place * THREAD_WORDS + field] = value;
 }
@@ -57,15 +57,15 @@ pub fn put_thread_field(ts: &mut [u64], place: usize, field: usize, value: u64)
 
 // Where its words begin.
 fn action_base(place: usize, signal: u32) -> usize
-    requires { (place < processPlaces) × ((1 ≤ signal) × (signal ≤ signals)) }
-    ensures { result ≡ place * processWords + headWords + (signal - 1) * actionWords }
+    requires { (place < process_places) × ((1 ≤ signal) × (signal ≤ signals)) }
+    ensures { result ≡ place * process_words + head_words + (signal - 1) * action_words }
 {
     place * PROCESS_WORDS + HEAD_WORDS + (signal - 1) as usize * ACTION_WORDS
 }
 
 pub fn action_at(ps: &[u64], place: usize, signal: u32) -> Action
-    requires { (length ps.now ≡ processTable) × ((place < processPlaces) × ((1 ≤ signal) × (signal ≤ signals))) }
-    ensures { result ≡ actionOf (processAt ps.now place).holds signal }
+    requires { (length ps.now ≡ process_table) × ((place < process_places) × ((1 ≤ signal) × (signal ≤ signals))) }
+    ensures { result ≡ action_of (process_at ps.now place).holds signal }
 {
     let from = action_base(place, signal);
     Action {
@@ -76,9 +76,9 @@ pub fn action_at(ps: &[u64], place: usize, signal: u32) -> Action
 }
 
 pub fn put_action(ps: &mut [u64], place: usize, signal: u32, a: Action)
-    requires { (length ps.old ≡ processTable) × ((place < processPlaces) × ((1 ≤ signal) × (signal ≤ signals))) }
-    ensures { processesOf ps.new
-        ≡ set (processesOf ps.old) place (acted signal a (processAt ps.old place)) }
+    requires { (length ps.old ≡ process_table) × ((place < process_places) × ((1 ≤ signal) × (signal ≤ signals))) }
+    ensures { processes_of ps.new
+        ≡ set (processes_of ps.old) place (acted signal a (process_at ps.old place)) }
 {
     let to = action_base(place, signal);
     let mask = a.mask;
@@ -91,8 +91,8 @@ pub fn put_action(ps: &mut [u64], place: usize, signal: u32, a: Action)
 
 // The lowest place that has this id, or the number of places.
 fn process_place(ps: &[u64], id: u64) -> usize
-    requires { length ps.now ≡ processTable }
-    ensures { result ≡ find (hasProcessId id) (heldProcesses ps.now) }
+    requires { length ps.now ≡ process_table }
+    ensures { result ≡ find (has_process_id id) (held_processes ps.now) }
 {
     let mut i = 0;
     while i < PROCESS_PLACES {
@@ -105,8 +105,8 @@ fn process_place(ps: &[u64], id: u64) -> usize
 }
 
 pub fn thread_place(ts: &[u64], id: u64) -> usize
-    requires { length ts.now ≡ threadTable }
-    ensures { result ≡ find (hasThreadId id) (heldThreads ts.now) }
+    requires { length ts.now ≡ thread_table }
+    ensures { result ≡ find (has_thread_id id) (held_threads ts.now) }
 {
     let mut i = 0;
     while i < THREAD_PLACES {
@@ -120,8 +120,8 @@ pub fn thread_place(ts: &[u64], id: u64) -> usize
 
 // The place of a live process, or the number of places.
 pub fn find_process(ps: &[u64], id: u64) -> usize
-    requires { length ps.now ≡ processTable }
-    ensures { result ≡ find (isProcess id) (heldProcesses ps.now) }
+    requires { length ps.now ≡ process_table }
+    ensures { result ≡ find (is_process id) (held_processes ps.now) }
 {
     if id == 0 {
         return PROCESS_PLACES;
@@ -130,8 +130,8 @@ pub fn find_process(ps: &[u64], id: u64) -> usize
 }
 
 pub fn find_thread(ts: &[u64], id: u64) -> usize
-    requires { length ts.now ≡ threadTable }
-    ensures { result ≡ find (isThread id) (heldThreads ts.now) }
+    requires { length ts.now ≡ thread_table }
+    ensures { result ≡ find (is_thread id) (held_threads ts.now) }
 {
     if id == 0 {
         return THREAD_PLACES;
@@ -141,15 +141,15 @@ pub fn find_thread(ts: &[u64], id: u64) -> usize
 
 // The lowest free place, or the number of places.
 pub fn free_process(ps: &[u64]) -> usize
-    requires { length ps.now ≡ processTable }
-    ensures { result ≡ find isFreeProcess (heldProcesses ps.now) }
+    requires { length ps.now ≡ process_table }
+    ensures { result ≡ find is_free_process (held_processes ps.now) }
 {
     process_place(ps, 0)
 }
 
 pub fn free_thread(ts: &[u64]) -> usize
-    requires { length ts.now ≡ threadTable }
-    ensures { result ≡ find isFreeThread (heldThreads ts.now) }
+    requires { length ts.now ≡ thread_table }
+    ensures { result ≡ find is_free_thread (held_threads ts.now) }
 {
     thread_place(ts, 0)
 }
@@ -169,39 +169,39 @@ fn clear(ws: &mut [u64], from: usize, n: usize)
 }
 
 pub fn clear_process(ps: &mut [u64], place: usize)
-    requires { (length ps.old ≡ processTable) × (place < processPlaces) }
-    ensures { processesOf ps.new ≡ set (processesOf ps.old) place freeProcess }
+    requires { (length ps.old ≡ process_table) × (place < process_places) }
+    ensures { processes_of ps.new ≡ set (processes_of ps.old) place free_process }
 {
     clear(ps, place * PROCESS_WORDS, PROCESS_WORDS);
 }
 
 pub fn clear_thread(ts: &mut [u64], place: usize)
-    requires { (length ts.old ≡ threadTable) × (place < threadPlaces) }
-    ensures { threadsOf ts.new ≡ set (threadsOf ts.old) place freeThread }
+    requires { (length ts.old ≡ thread_table) × (place < thread_places) }
+    ensures { threads_of ts.new ≡ set (threads_of ts.old) place free_thread }
 {
     clear(ts, place * THREAD_WORDS, THREAD_WORDS);
 }
 
 // Every place of a table, whatever it held.
 pub fn clear_processes(ps: &mut [u64])
-    requires { length ps.old ≡ processTable }
-    ensures { processesOf ps.new ≡ replicate processPlaces freeProcess }
+    requires { length ps.old ≡ process_table }
+    ensures { processes_of ps.new ≡ replicate process_places free_process }
 {
     clear(ps, 0, PROCESS_TABLE);
 }
 
 pub fn clear_threads(ts: &mut [u64])
-    requires { length ts.old ≡ threadTable }
-    ensures { threadsOf ts.new ≡ replicate threadPlaces freeThread }
+    requires { length ts.old ≡ thread_table }
+    ensures { threads_of ts.new ≡ replicate thread_places free_thread }
 {
     clear(ts, 0, THREAD_TABLE);
 }
 
 // A new process into a place, whatever it held.
 pub fn fill_process(ps: &mut [u64], place: usize, new: NewProcess)
-    requires { (length ps.old ≡ processTable) × (place < processPlaces) }
-    ensures { processesOf ps.new
-        ≡ set (processesOf ps.old) place (placed (addedProcess new)) }
+    requires { (length ps.old ≡ process_table) × (place < process_places) }
+    ensures { processes_of ps.new
+        ≡ set (processes_of ps.old) place (placed (added_process new)) }
 {
     let id = new.id as u64;
     let real = new.real as u64;
@@ -218,9 +218,9 @@ pub fn fill_process(ps: &mut [u64], place: usize, new: NewProcess)
 
 // A new thread into a place, whatever it held.
 pub fn fill_thread(ts: &mut [u64], place: usize, id: u32, process: u32, mask: SigSet)
-    requires { (length ts.old ≡ threadTable) × (place < threadPlaces) }
-    ensures { threadsOf ts.new
-        ≡ set (threadsOf ts.old) place (threadPlaced id process mask) }
+    requires { (length ts.old ≡ thread_table) × (place < thread_places) }
+    ensures { threads_of ts.new
+        ≡ set (threads_of ts.old) place (thread_placed id process mask) }
 {
     clear_thread(ts, place);
     put_thread_field(ts, place, THREAD_ID, id as u64);

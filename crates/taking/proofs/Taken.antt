@@ -13,134 +13,134 @@ use Rattle.sigset.specs.declared.SigSet.{SigSet}
 use Rattle.sigset.specs.Set.{Signal}
 use Rattle.types.specs.declared.Action.{Action}
 use Rattle.types.specs.declared.Siginfo.{Siginfo}
-use Rattle.rules.specs.Types.{Thread, Queue, Next, noNext, nextMark, nextRecord}
-use Rattle.rules.specs.View.{View, actionOf, liveThread, theProcess, theThread, threadAction}
+use Rattle.rules.specs.Types.{Thread, Queue, Next, no_next, next_mark, next_record}
+use Rattle.rules.specs.View.{View, action_of, live_thread, the_process, the_thread, thread_action}
 use Rattle.rules.specs.Store.{Store, view}
-use Rattle.rules.specs.Taking.{nextSignal, nextQueue, nextIn, next, markInfo, deliver, delivered, takeChanges}
-use Rattle.rules.specs.Taking.{takeAnswer}
+use Rattle.rules.specs.Taking.{next_signal, next_queue, next_in, next, mark_info, deliver, delivered, take_changes}
+use Rattle.rules.specs.Taking.{take_answer}
 use Rattle.rules.proofs.Marks.{the-thread-id}
 use Rattle.rules.proofs.TakeFits.{take-fits}
-use Rattle.sound.specs.Lent.{Lent, decoded, view_of, soundTables}
+use Rattle.sound.specs.Lent.{Lent, decoded, view_of, sound_tables}
 use Rattle.sound.proofs.Facts.{store-sound}
 use Rattle.answers.specs.Answers.{next_of}
 use Rattle.types.specs.declared.Taken.{Taken}
 use Rattle.types.specs.declared.Next as declared
 use Rattle.types.specs.declared.Next.TheVariants as cases
-use Rattle.effects.specs.Effects.{threadOf}
+use Rattle.effects.specs.Effects.{thread_of}
 use Rattle.effects.specs.Changes.{Ready}
 use Rattle.effects.proofs.Makes.{ready-as}
-use Rattle.view.specs.Named.{processNamed, threadNamed}
+use Rattle.view.specs.Named.{process_named, thread_named}
 use Rattle.view.proofs.Live.{owner-is}
 use Rattle.next.proofs.Nexts.{next-is-signal}
-use Rattle.taking.specs.Takes.{isNothing, infoIn, dequeueChanges}
+use Rattle.taking.specs.Takes.{is_nothing, info_in, dequeue_changes}
 use Rattle.effects.specs.Changes.{Ready}
 use Rattle.effects.proofs.Makes.{ready-as}
 
 -- ---- what is taken is a signal
 
-unfoldable signalIn : Next → ℕ
-signalIn noNext = 0
-signalIn (nextMark q s) = s
-signalIn (nextRecord q s r) = s
+unfoldable signal_in : Next → ℕ
+signal_in no_next = 0
+signal_in (next_mark q s) = s
+signal_in (next_record q s r) = s
 
-signal-of : (x : declared.Next) → signalIn (next_of x) ≡ (infoIn (next_of x)).signal
-unfolding signalIn next_of infoIn markInfo
+signal-of : (x : declared.Next) → signal_in (next_of x) ≡ (info_in (next_of x)).signal
+unfolding signal_in next_of info_in mark_info
 signal-of cases.Nothing = refl
 signal-of (cases.Mark process thread s) = refl
 signal-of (cases.Record r) = refl
 
-signal-in : (v : View) (q : Queue) (s : ℕ) (o : Option Siginfo) → signalIn (nextIn v q s o) ≡ s
-unfolding signalIn nextIn
+signal-in : (v : View) (q : Queue) (s : ℕ) (o : Option Siginfo) → signal_in (next_in v q s o) ≡ s
+unfolding signal_in next_in
 signal-in v q s none = refl
 signal-in v q s (some r) = refl
 
-next-signal : (v : View) (t : Thread) → isNothing (next v t) ≡ false → Signal (signalIn (next v t))
-unfolding next isNothing
+next-signal : (v : View) (t : Thread) → is_nothing (next v t) ≡ false → Signal (signal_in (next v t))
+unfolding next is_nothing
 next-signal v t n =
-    let s : ℕ = nextSignal v t in
+    let s : ℕ = next_signal v t in
     split (eqb s 0)
-    (λ z. clash (ap isNothing (cond-true _ _ z)) n)
+    (λ z. clash (ap is_nothing (cond-true _ _ z)) n)
     (λ z.
     subst Signal
-    (sym (ap signalIn (cond-false _ _ z) ∙ signal-in v (nextQueue v t s) s (v.oldest (nextQueue v t s) s)))
+    (sym (ap signal_in (cond-false _ _ z) ∙ signal-in v (next_queue v t s) s (v.oldest (next_queue v t s) s)))
     (next-is-signal v t s refl (eqb-false s 0 z)))
 
 -- ---- what leaves, then what is delivered
 
 module _ (v : View) (t : Thread) where
-  takes : (x : declared.Next) → isNothing (next_of x) ≡ false
-      → takeChanges v t (next_of x) ≡ dequeueChanges (next_of x)
-      ++ deliver t (threadAction v t (infoIn (next_of x)).signal) (infoIn (next_of x)).signal
-  unfolding next_of isNothing takeChanges dequeueChanges infoIn markInfo
+  takes : (x : declared.Next) → is_nothing (next_of x) ≡ false
+      → take_changes v t (next_of x) ≡ dequeue_changes (next_of x)
+      ++ deliver t (thread_action v t (info_in (next_of x)).signal) (info_in (next_of x)).signal
+  unfolding next_of is_nothing take_changes dequeue_changes info_in mark_info
   takes cases.Nothing n = clash refl n
   takes (cases.Mark process thread s) n = refl
   takes (cases.Record r) n = refl
 
-  answers : (x : declared.Next) → isNothing (next_of x) ≡ false
-      → takeAnswer v t (next_of x) ≡ delivered t (threadAction v t (infoIn (next_of x)).signal) (infoIn (next_of x))
-  unfolding next_of isNothing takeAnswer infoIn markInfo
+  answers : (x : declared.Next) → is_nothing (next_of x) ≡ false
+      → take_answer v t (next_of x) ≡ delivered t (thread_action v t (info_in (next_of x)).signal) (info_in (next_of x))
+  unfolding next_of is_nothing take_answer info_in mark_info
   answers cases.Nothing n = clash refl n
   answers (cases.Mark process thread s) n = refl
   answers (cases.Record r) n = refl
 
 -- all that the code has of a take before it changes anything: whom it takes for, what is next, its record, its action
 pub record Known (l : Lent) (t u : Thread) (x : declared.Next) (r : Siginfo) (a : Action) : Type 0 where
-  pub ready : Ready (takeChanges (view_of l) t (next_of x)) l
-  pub parts : takeChanges (view_of l) t (next_of x) ≡ dequeueChanges (next_of x) ++ deliver u a r.signal
-  pub answering : takeAnswer (view_of l) t (next_of x) ≡ delivered u a r
+  pub ready : Ready (take_changes (view_of l) t (next_of x)) l
+  pub parts : take_changes (view_of l) t (next_of x) ≡ dequeue_changes (next_of x) ++ deliver u a r.signal
+  pub answering : take_answer (view_of l) t (next_of x) ≡ delivered u a r
 
 -- of the thread, the answer reads the mask alone
 pub answered : {l : Lent} {t u : Thread} {x : declared.Next} {r : Siginfo} {a : Action} → Known l t u x r a
-    → (z : Taken) → z ≡ delivered (threadOf 0 0 u.mask) a r → z ≡ takeAnswer (view_of l) t (next_of x)
+    → (z : Taken) → z ≡ delivered (thread_of 0 0 u.mask) a r → z ≡ take_answer (view_of l) t (next_of x)
 unfolding delivered
 answered d z h = h ∙ sym d.answering
 
 -- ---- sound tables, and what is read of them for a live thread
 
-module _ (l : Lent) (e : soundTables l ≡ true) (thread : ℕ) (live : liveThread (view_of l) thread ≡ true) where
+module _ (l : Lent) (e : sound_tables l ≡ true) (thread : ℕ) (live : live_thread (view_of l) thread ≡ true) where
   abbrev st : Store
   st = decoded l
 
   abbrev t : Thread
-  t = theThread (view st) thread
+  t = the_thread (view st) thread
 
-  module _ (p : ℕ) (i : p ≡ (threadNamed l.threads thread).process) where
-    thread-read : (m : SigSet) → m ≡ (threadNamed l.threads thread).mask → t ≡ threadOf thread p m
-    unfolding theThread view decoded
-    thread-read m k = λ j. threadOf (the-thread-id st thread live j) (owner-is l thread p i j) (sym k j)
+  module _ (p : ℕ) (i : p ≡ (thread_named l.threads thread).process) where
+    thread-read : (m : SigSet) → m ≡ (thread_named l.threads thread).mask → t ≡ thread_of thread p m
+    unfolding the_thread view decoded
+    thread-read m k = λ j. thread_of (the-thread-id st thread live j) (owner-is l thread p i j) (sym k j)
 
-    action-read : (s : ℕ) (a : Action) → a ≡ actionOf (processNamed l.processes p) s → a ≡ threadAction (view st) t s
-    unfolding threadAction theProcess theThread view decoded
-    action-read s a g = g ∙ ap (λ (n : ℕ). actionOf (processNamed l.processes n) s) i
+    action-read : (s : ℕ) (a : Action) → a ≡ action_of (process_named l.processes p) s → a ≡ thread_action (view st) t s
+    unfolding thread_action the_process the_thread view decoded
+    action-read s a g = g ∙ ap (λ (n : ℕ). action_of (process_named l.processes n) s) i
 
-  module _ (x : declared.Next) (n : next_of x ≡ next (view st) t) (y : isNothing (next_of x) ≡ false) (r : Siginfo)
-      (h : r ≡ infoIn (next_of x)) where
+  module _ (x : declared.Next) (n : next_of x ≡ next (view st) t) (y : is_nothing (next_of x) ≡ false) (r : Siginfo)
+      (h : r ≡ info_in (next_of x)) where
     pub signal-named : (1 ≤ r.signal) × (r.signal ≤ signals)
     signal-named =
         let g : Signal r.signal =
-        subst Signal (ap signalIn (sym n) ∙ signal-of x ∙ ap (λ (z : Siginfo). z.signal) (sym h))
-        (next-signal (view st) t (ap isNothing (sym n) ∙ y)) in
+        subst Signal (ap signal_in (sym n) ∙ signal-of x ∙ ap (λ (z : Siginfo). z.signal) (sym h))
+        (next-signal (view st) t (ap is_nothing (sym n) ∙ y)) in
         (g.low, g.high)
 
-    pub known : (p : ℕ) → p ≡ (threadNamed l.threads thread).process
-        → (m : SigSet) → m ≡ (threadNamed l.threads thread).mask → (a : Action)
-        → a ≡ actionOf (processNamed l.processes p) r.signal
-        → Known l t (threadOf thread p m) x r a
+    pub known : (p : ℕ) → p ≡ (thread_named l.threads thread).process
+        → (m : SigSet) → m ≡ (thread_named l.threads thread).mask → (a : Action)
+        → a ≡ action_of (process_named l.processes p) r.signal
+        → Known l t (thread_of thread p m) x r a
     known p i m k a g =
         let v : View = view st in
-        let q : t ≡ threadOf thread p m = thread-read p i m k in
-        let b : threadAction v t r.signal ≡ a = sym (action-read p i r.signal a g) in
+        let q : t ≡ thread_of thread p m = thread-read p i m k in
+        let b : thread_action v t r.signal ≡ a = sym (action-read p i r.signal a g) in
         record {
           ready =
               ready-as (record { sound = e; fit = take-fits st (store-sound l e) thread live })
-              (sym (ap (takeChanges v t) n));
+              (sym (ap (take_changes v t) n));
           parts =
               takes v t x y
-              ∙ ap (λ (z : Siginfo). dequeueChanges (next_of x) ++ deliver t (threadAction v t z.signal) z.signal)
+              ∙ ap (λ (z : Siginfo). dequeue_changes (next_of x) ++ deliver t (thread_action v t z.signal) z.signal)
               (sym h)
-              ∙ ap₂ (λ (w : Thread) (c : Action). dequeueChanges (next_of x) ++ deliver w c r.signal) q b;
+              ∙ ap₂ (λ (w : Thread) (c : Action). dequeue_changes (next_of x) ++ deliver w c r.signal) q b;
           answering =
               answers v t x y
-              ∙ ap (λ (z : Siginfo). delivered t (threadAction v t z.signal) z) (sym h)
+              ∙ ap (λ (z : Siginfo). delivered t (thread_action v t z.signal) z) (sym h)
               ∙ ap₂ (λ (w : Thread) (c : Action). delivered w c r) q b;
         }

@@ -2,14 +2,14 @@
 ghost use Rattle.std.specs.Prelude.{◌≡◌};
 ghost use Rattle.rules.specs.Types as call;
 ghost use Rattle.rules.specs.Signals.{outcome};
-ghost use Rattle.rules.specs.View.{targetQueue};
-ghost use Rattle.rules.specs.Taking.{markInfo, handlerMask, resets, reset, outcomeChanges, outcomeAnswer, deliver};
+ghost use Rattle.rules.specs.View.{target_queue};
+ghost use Rattle.rules.specs.Taking.{mark_info, handler_mask, resets, reset, outcome_changes, outcome_answer, deliver};
 ghost use Rattle.rules.specs.Taking.{delivered};
 ghost use Rattle.answers.specs.Answers.{next_of};
 ghost use Rattle.answers.specs.Step.{stepped};
 ghost use Rattle.effects.specs.Changes.{ready, changed};
-ghost use Rattle.effects.specs.Effects.{threadOf};
-ghost use Rattle.taking.specs.Takes.{outcomeOf, infoIn, dequeueChanges, handlerChanges, takeable, took};
+ghost use Rattle.effects.specs.Effects.{thread_of};
+ghost use Rattle.taking.specs.Takes.{outcome_of, info_in, dequeue_changes, handler_changes, takeable, took};
 
 use limits::{
     KNOWN_FLAGS, SA_NODEFER, SA_RESETHAND, SA_SIGINFO, SIG_DFL, SIGCONT, SIGILL, SIGSTOP, SIGTRAP,
@@ -22,7 +22,7 @@ use types::{Action, Answer, Next, Reply, Siginfo, Taken};
 
 // The mask that a handler runs under.
 fn handler_mask(old: SigSet, a: Action, signal: u32) -> SigSet
-    ensures { result ≡ handlerMask old a signal }
+    ensures { result ≡ handler_mask old a signal }
 {
     let both = SigSet::union(old, a.mask);
     if a.flags & SA_NODEFER != 0 {
@@ -62,8 +62,8 @@ fn start_handler(
     a: Action,
     signal: u32,
 )
-    requires { ready (handlerChanges (threadOf thread process mask) a signal) ps ts tb pb }
-    ensures { changed (handlerChanges (threadOf thread process mask) a signal) ps ts tb pb }
+    requires { ready (handler_changes (thread_of thread process mask) a signal) ps ts tb pb }
+    ensures { changed (handler_changes (thread_of thread process mask) a signal) ps ts tb pb }
 {
     effects::set_mask(ps, ts, tb, pb, thread, handler_mask(mask, a, signal));
     if is_reset(a, signal) {
@@ -83,7 +83,7 @@ enum Outcome {
 }
 
 fn outcome_of(s: u32) -> Outcome
-    ensures { outcomeOf result ≡ outcome s }
+    ensures { outcome_of result ≡ outcome s }
 {
     if decide::is_ignoring(s) {
         return Outcome::Ignores;
@@ -105,8 +105,8 @@ fn act_by_default(
     o: Outcome,
     process: u32,
 )
-    requires { ready (outcomeChanges (outcomeOf o) process) ps ts tb pb }
-    ensures { changed (outcomeChanges (outcomeOf o) process) ps ts tb pb }
+    requires { ready (outcome_changes (outcome_of o) process) ps ts tb pb }
+    ensures { changed (outcome_changes (outcome_of o) process) ps ts tb pb }
 {
     match o {
         Outcome::Ignores => {}
@@ -117,7 +117,7 @@ fn act_by_default(
 }
 
 fn default_answer(o: Outcome, signal: u32) -> Taken
-    ensures { result ≡ outcomeAnswer (outcomeOf o) signal }
+    ensures { result ≡ outcome_answer (outcome_of o) signal }
 {
     match o {
         Outcome::Ignores => Taken::NoAction(signal),
@@ -141,8 +141,8 @@ fn deliver(
     a: Action,
     signal: u32,
 )
-    requires { ready (deliver (threadOf thread process mask) a signal) ps ts tb pb }
-    ensures { changed (deliver (threadOf thread process mask) a signal) ps ts tb pb }
+    requires { ready (deliver (thread_of thread process mask) a signal) ps ts tb pb }
+    ensures { changed (deliver (thread_of thread process mask) a signal) ps ts tb pb }
 {
     if a.handler == SIG_DFL {
         act_by_default(ps, ts, tb, pb, outcome_of(signal), process);
@@ -153,7 +153,7 @@ fn deliver(
 
 // What the take answers; of the thread it reads the mask alone.
 fn delivered(mask: SigSet, a: Action, r: Siginfo) -> Taken
-    ensures { result ≡ delivered (threadOf 0 0 mask) a r }
+    ensures { result ≡ delivered (thread_of 0 0 mask) a r }
 {
     let s = r.signal;
     if a.handler == SIG_DFL {
@@ -164,8 +164,8 @@ fn delivered(mask: SigSet, a: Action, r: Siginfo) -> Taken
 
 // The record or the mark leaves its queue.
 fn dequeue(ps: &mut [u64], ts: &mut [u64], tb: &mut [u8], pb: &mut [u8], next: Next)
-    requires { ready (dequeueChanges (next_of next)) ps ts tb pb }
-    ensures { changed (dequeueChanges (next_of next)) ps ts tb pb }
+    requires { ready (dequeue_changes (next_of next)) ps ts tb pb }
+    ensures { changed (dequeue_changes (next_of next)) ps ts tb pb }
 {
     match next {
         Next::Nothing => {}
@@ -180,7 +180,7 @@ fn dequeue(ps: &mut [u64], ts: &mut [u64], tb: &mut [u8], pb: &mut [u8], next: N
 
 // The record that is answered; of a mark, its queue and signal alone.
 fn info_of(next: Next) -> Siginfo
-    ensures { result ≡ infoIn (next_of next) }
+    ensures { result ≡ info_in (next_of next) }
 {
     match next {
         Next::Nothing => mark_info(0, 0, 0),
@@ -190,7 +190,7 @@ fn info_of(next: Next) -> Siginfo
 }
 
 fn mark_info(process: u32, thread: u32, signal: u32) -> Siginfo
-    ensures { result ≡ markInfo (targetQueue process thread) signal }
+    ensures { result ≡ mark_info (target_queue process thread) signal }
 {
     Siginfo {
         process: process,

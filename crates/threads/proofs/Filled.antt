@@ -7,7 +7,7 @@ use mathlib.Core.List.{List, ◌++◌, append-nil}
 use lib.ListN.{length, get_or, set, take, drop as from_on, drop_of_length-le}
 use lib.Seq.{paste, take_all, set-get_or}
 use Rattle.lists.proofs.Loops.{paste_more, paste-long}
-use Rattle.threads.specs.Records.{noThread}
+use Rattle.threads.specs.Records.{no_thread}
 use Rattle.threads.specs.declared.Thread.{Thread}
 
 -- d, with the first i records of ys pasted over it
@@ -15,14 +15,14 @@ abbrev pub filled : List Thread → List Thread → ℕ → List Thread
 filled d ys i = paste d 0 ys i
 
 pub filled-suc : (d ys : List Thread) (i n : ℕ) → length d ≡ n → length ys ≡ n → i < n
-    → set (filled d ys i) i (get_or ys i noThread) ≡ filled d ys (i + 1)
-filled-suc d ys i n c e l = paste_more ys d i noThread (omega arith) (omega arith)
+    → set (filled d ys i) i (get_or ys i no_thread) ≡ filled d ys (i + 1)
+filled-suc d ys i n c e l = paste_more ys d i no_thread (omega arith) (omega arith)
 
 -- where record i is the other's already
 pub filled-same : (d ys : List Thread) (i n : ℕ) → length d ≡ n → length ys ≡ n → i < n
-    → get_or (filled d ys i) i noThread ≡ get_or ys i noThread → filled d ys i ≡ filled d ys (i + 1)
+    → get_or (filled d ys i) i no_thread ≡ get_or ys i no_thread → filled d ys i ≡ filled d ys (i + 1)
 filled-same d ys i n c e l h =
-    sym (set-get_or (filled d ys i) i noThread) ∙ ap (set (filled d ys i) i) h ∙ filled-suc d ys i n c e l
+    sym (set-get_or (filled d ys i) i no_thread) ∙ ap (set (filled d ys i) i) h ∙ filled-suc d ys i n c e l
 
 pub filled-long : (d ys : List Thread) (i n : ℕ) → length d ≡ n → length ys ≡ n → i ≤ n → length (filled d ys i) ≡ n
 filled-long d ys i n c e l = paste-long ys d i (omega arith) (omega arith) ∙ c

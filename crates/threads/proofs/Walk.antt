@@ -74,9 +74,9 @@ abbrev pub slot_of : Cell → Ty × ℕ
 slot_of (spare τ l) = (τ, l)
 slot_of (holds τ l v) = (τ, l)
 
-abbrev pub inCell : Cell → Fml
-inCell (spare τ l) = froom τ l 0
-inCell (holds τ l v) = fat full_share τ l 0 v
+abbrev pub in_cell : Cell → Fml
+in_cell (spare τ l) = froom τ l 0
+in_cell (holds τ l v) = fat full_share τ l 0 v
 
 abbrev pub slots : List Cell → List (Ty × ℕ)
 slots [] = []
@@ -84,7 +84,7 @@ slots (c ∷ cs) = slot_of c ∷ slots cs
 
 abbrev pub cells : {M : Type 1} {𝓤 : Ura M} → List Cell → List (Item 𝓤) → List (Item 𝓤)
 cells [] Γ = Γ
-cells (c ∷ cs) Γ = cells cs (‵ (inCell c) ∷ ‵ (fdies (slot_of c).0 (slot_of c).1) ∷ Γ)
+cells (c ∷ cs) Γ = cells cs (‵ (in_cell c) ∷ ‵ (fdies (slot_of c).0 (slot_of c).1) ∷ Γ)
 
 -- the first n entries, and those from n on
 abbrev pub fore : {M : Type 1} {𝓤 : Ura M} → ℕ → List (Item 𝓤) → List (Item 𝓤)
@@ -123,7 +123,7 @@ module _ {M : Type 1} {𝓤 : Ura M} (𝓛 : Logic 𝓤) where
 module _ {M : Type 1} {𝓤 : Ura M} (𝓛 : Logic 𝓤) where
   open 𝓛 use {H}
 
-  room_of : (c : Cell) → ent 𝓤 (sem 𝓛 (inCell c)) (sem 𝓛 (froom (slot_of c).0 (slot_of c).1 0))
+  room_of : (c : Cell) → ent 𝓤 (sem 𝓛 (in_cell c)) (sem 𝓛 (froom (slot_of c).0 (slot_of c).1 0))
   room_of (spare τ l) = id⊢ 𝓤 (H.room τ l 0)
   room_of (holds τ l v) = 𝓛.laws.at_room τ l 0 v
 
@@ -133,8 +133,8 @@ module _ {M : Type 1} {𝓤 : Ura M} (𝓛 : Logic 𝓤) where
   freed (c ∷ cs) Γ P G h =
       let X : SProp 𝓤 = sep 𝓤 (H.room (slot_of c).0 (slot_of c).1 0) (H.dies (slot_of c).0 (slot_of c).1) in
       via 𝓤 (release 𝓤 H (slots cs) (sep 𝓤 X G))
-      (freed cs (‵ (inCell c) ∷ ‵ (fdies (slot_of c).0 (slot_of c).1) ∷ Γ) P (sep 𝓤 X G)
-      (qed 𝓛 (raw P ∷ ‵ (inCell c) ∷ ‵ (fdies (slot_of c).0 (slot_of c).1) ∷ Γ) ∵
+      (freed cs (‵ (in_cell c) ∷ ‵ (fdies (slot_of c).0 (slot_of c).1) ∷ Γ) P (sep 𝓤 X G)
+      (qed 𝓛 (raw P ∷ ‵ (in_cell c) ∷ ‵ (fdies (slot_of c).0 (slot_of c).1) ∷ Γ) ∵
       move ! (1 ∷ 2 ∷ []) $ use1 𝓛 (‵ (froom (slot_of c).0 (slot_of c).1 0)) (room_of c) $ join ! $ frame ! $
       by ! (via 𝓤 (sep 𝓤 P (⋆ 𝓛 Γ)) (pop 𝓛 (raw P) Γ) h)))
       (out 𝓛 (slots cs) X G)

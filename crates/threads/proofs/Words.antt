@@ -9,49 +9,49 @@ use lib.Dec.{eqb}
 use lib.ListN.{length, get_or, take}
 use lib.Seq.{sets, length-sets, take-suc, take_all, length-take-le}
 use borrow.Author.Tests.{eqb-true}
-use Rattle.limits.specs.Limits.{threadPlaces, threadWords, threadTable}
+use Rattle.limits.specs.Limits.{thread_places, thread_words, thread_table}
 use Rattle.lists.specs.Rows.{flat}
 use Rattle.lists.proofs.Bools.{and-fst, and-snd}
 use Rattle.lists.proofs.Lists.{All-every}
 use Rattle.lists.proofs.Rows.{length-rows, get_d_rows, length-flat, rows-flat, flat_append, sets-append, sets-at}
-use Rattle.lists.proofs.Rows.{sets-whole, setsFrom, spellFrom, take-spellFrom}
+use Rattle.lists.proofs.Rows.{sets-whole, sets_from, spell_from, take-spell_from}
 use Rattle.sigset.specs.Set.{bits}
-use Rattle.threads.specs.Records.{noThread, recordTo, recordFrom, words_of, recordsOf, withRecord, sameRecord}
+use Rattle.threads.specs.Records.{no_thread, record_to, record_from, words_of, records_of, with_record, same_record}
 use Rattle.threads.specs.declared.Thread.{Thread}
 
 -- ---- one record
 
-record-words : (t : Thread) → length (recordTo t) ≡ threadWords
-unfolding recordTo
+record-words : (t : Thread) → length (record_to t) ≡ thread_words
+unfolding record_to
 record-words t = refl
 
-record-back : (t : Thread) → recordFrom (recordTo t) ≡ t
-unfolding recordFrom recordTo
+record-back : (t : Thread) → record_from (record_to t) ≡ t
+unfolding record_from record_to
 record-back t = refl
 
 -- ---- all records
 
-pub words-length : (ts : List Thread) → length (words_of ts) ≡ length ts * threadWords
+pub words-length : (ts : List Thread) → length (words_of ts) ≡ length ts * thread_words
 unfolding words_of
 words-length ts =
-    length-flat recordTo threadWords ts (All-every (λ t. length (recordTo t) ≡ threadWords) record-words ts)
+    length-flat record_to thread_words ts (All-every (λ t. length (record_to t) ≡ thread_words) record-words ts)
 
-pub table-long : (ts : List Thread) → length ts ≡ threadPlaces → length (words_of ts) ≡ threadTable
-table-long ts e = words-length ts ∙ ap (λ n. n * threadWords) e
+pub table-long : (ts : List Thread) → length ts ≡ thread_places → length (words_of ts) ≡ thread_table
+table-long ts e = words-length ts ∙ ap (λ n. n * thread_words) e
 
-pub records-back : (ts : List Thread) → recordsOf (length ts) (words_of ts) ≡ ts
-unfolding recordsOf words_of
+pub records-back : (ts : List Thread) → records_of (length ts) (words_of ts) ≡ ts
+unfolding records_of words_of
 records-back ts =
-    rows-flat recordFrom recordTo threadWords ts
-    (All-every (λ t. (length (recordTo t) ≡ threadWords) × (recordFrom (recordTo t) ≡ t))
+    rows-flat record_from record_to thread_words ts
+    (All-every (λ t. (length (record_to t) ≡ thread_words) × (record_from (record_to t) ≡ t))
     (λ t. (record-words t, record-back t)) ts)
 
 -- ---- `load_words`: the words of the first i records stand over d
 
 pub record-put : (ws : List ℕ) (i : ℕ) (t : Thread)
-    → setsFrom ws (i * threadWords) 0 (recordTo t) ≡ withRecord i t ws
-unfolding withRecord
-record-put ws i t = sets-at ws (i * threadWords) (recordTo t)
+    → sets_from ws (i * thread_words) 0 (record_to t) ≡ with_record i t ws
+unfolding with_record
+record-put ws i t = sets-at ws (i * thread_words) (record_to t)
 
 abbrev pub written : List ℕ → List Thread → ℕ → List ℕ
 written d ts i = sets d 0 (words_of (take i ts))
@@ -63,40 +63,40 @@ written_none d ts = refl
 pub written-long : (d : List ℕ) (ts : List Thread) (i : ℕ) → length (written d ts i) ≡ length d
 written-long d ts i = length-sets d 0 (words_of (take i ts))
 
-pub written-suc : (d : List ℕ) (ts : List Thread) (i : ℕ) → length ts ≡ threadPlaces → i < threadPlaces
-    → withRecord i (get_or ts i noThread) (written d ts i) ≡ written d ts (i + 1)
-unfolding words_of flat withRecord
+pub written-suc : (d : List ℕ) (ts : List Thread) (i : ℕ) → length ts ≡ thread_places → i < thread_places
+    → with_record i (get_or ts i no_thread) (written d ts i) ≡ written d ts (i + 1)
+unfolding words_of flat with_record
 written-suc d ts i e l =
-    let t = get_or ts i noThread in
+    let t = get_or ts i no_thread in
     let k : i < length ts = omega arith in
-    sets-append (words_of (take i ts)) (recordTo t) d 0 (i * threadWords)
+    sets-append (words_of (take i ts)) (record_to t) d 0 (i * thread_words)
     (omega (arith, words-length (take i ts), length-take-le i ts (omega arith)))
     ∙ ap (sets d 0)
-    (ap (λ x. words_of (take i ts) ++ x) (sym (append-nil (recordTo t)))
-    ∙ sym (flat_append recordTo (take i ts) (t ∷ []))
-    ∙ ap words_of (sym (take-suc ts i noThread k) ∙ ap (λ n. take n ts) (sym (add-one i))))
+    (ap (λ x. words_of (take i ts) ++ x) (sym (append-nil (record_to t)))
+    ∙ sym (flat_append record_to (take i ts) (t ∷ []))
+    ∙ ap words_of (sym (take-suc ts i no_thread k) ∙ ap (λ n. take n ts) (sym (add-one i))))
 
-pub written_all : (d : List ℕ) (ts : List Thread) → length d ≡ threadTable → length ts ≡ threadPlaces
-    → written d ts threadPlaces ≡ words_of ts
+pub written_all : (d : List ℕ) (ts : List Thread) → length d ≡ thread_table → length ts ≡ thread_places
+    → written d ts thread_places ≡ words_of ts
 written_all d ts c e =
-    ap (λ x. sets d 0 (words_of x)) (take_all threadPlaces ts (omega arith))
+    ap (λ x. sets d 0 (words_of x)) (take_all thread_places ts (omega arith))
     ∙ sets-whole (words_of ts) d (c ∙ sym (table-long ts e))
 
 -- ---- `store_words`: the first i records stand over d
 
-pub record-at : (ws : List ℕ) (i : ℕ) → length ws ≡ threadTable → i < threadPlaces
-    → recordFrom (spellFrom threadWords (i * threadWords) 0 ws) ≡ get_or (recordsOf threadPlaces ws) i noThread
-unfolding recordsOf
+pub record-at : (ws : List ℕ) (i : ℕ) → length ws ≡ thread_table → i < thread_places
+    → record_from (spell_from thread_words (i * thread_words) 0 ws) ≡ get_or (records_of thread_places ws) i no_thread
+unfolding records_of
 record-at ws i e l =
-    sym (get_d_rows recordFrom threadWords threadPlaces ws i noThread l
-    ∙ ap recordFrom (take-spellFrom threadWords (i * threadWords) ws (omega arith)))
+    sym (get_d_rows record_from thread_words thread_places ws i no_thread l
+    ∙ ap record_from (take-spell_from thread_words (i * thread_words) ws (omega arith)))
 
-pub records-long : (ws : List ℕ) → length (recordsOf threadPlaces ws) ≡ threadPlaces
-unfolding recordsOf
-records-long ws = length-rows recordFrom threadWords threadPlaces ws
+pub records-long : (ws : List ℕ) → length (records_of thread_places ws) ≡ thread_places
+unfolding records_of
+records-long ws = length-rows record_from thread_words thread_places ws
 
-pub same-is : (t u : Thread) → sameRecord t u ≡ true → t ≡ u
-unfolding sameRecord
+pub same-is : (t u : Thread) → same_record t u ≡ true → t ≡ u
+unfolding same_record
 same-is t u e =
     let n = eqb t.id u.id in
     let p = eqb t.process u.process in

@@ -1,9 +1,9 @@
 // The thread table as a host lends it: a row of thread records.
 ghost use Rattle.std.specs.Prelude.{◌≡◌, ◌<◌, length, get_or, set};
-ghost use Rattle.limits.specs.Limits.{threadPlaces, threadTable};
+ghost use Rattle.limits.specs.Limits.{thread_places, thread_table};
 ghost use Rattle.lists.specs.Lists.{find};
-ghost use Rattle.threads.specs.Records.{noThread, withMask, hasId, withMaskAt, words_of, recordsOf};
-ghost use Rattle.threads.specs.Records.{withRecord, sameRecord};
+ghost use Rattle.threads.specs.Records.{no_thread, with_mask, has_id, with_mask_at, words_of, records_of};
+ghost use Rattle.threads.specs.Records.{with_record, same_record};
 
 use limits::{THREAD_ID, THREAD_MARKS, THREAD_MASK, THREAD_PLACES, THREAD_PROCESS, THREAD_WORDS};
 use sigset::SigSet;
@@ -21,7 +21,7 @@ pub struct Thread {
 
 // The first place whose record has that id, or the length.
 pub fn find_thread(ts: &[Thread], id: u64) -> usize
-    ensures { result ≡ find (hasId id) ts.now }
+    ensures { result ≡ find (has_id id) ts.now }
 {
     let mut i = 0;
     while i < ts.len() {
@@ -36,7 +36,7 @@ pub fn find_thread(ts: &[Thread], id: u64) -> usize
 // The mask of the record at place i becomes m, in place; where it is m already, nothing is written.
 pub fn set_mask(ts: &mut [Thread], i: usize, m: SigSet)
     requires { i < length ts.old }
-    ensures { ts.new ≡ set ts.old i (withMask m (get_or ts.old i noThread)) }
+    ensures { ts.new ≡ set ts.old i (with_mask m (get_or ts.old i no_thread)) }
 {
     if ts[i].mask.0 != m.0 {
         ts[i].mask = m;
@@ -45,7 +45,7 @@ pub fn set_mask(ts: &mut [Thread], i: usize, m: SigSet)
 
 // The mask of the first record with that id becomes m, in place.
 pub fn put_mask(ts: &mut [Thread], id: u64, m: SigSet)
-    ensures { ts.new ≡ withMaskAt id m ts.old }
+    ensures { ts.new ≡ with_mask_at id m ts.old }
 {
     let i = find_thread(ts, id);
     if i < ts.len() {
@@ -57,8 +57,8 @@ pub fn put_mask(ts: &mut [Thread], id: u64, m: SigSet)
 
 // The words of record i become those of t.
 fn put_record(ws: &mut [u64], i: usize, t: Thread)
-    requires { (length ws.old ≡ threadTable) × (i < threadPlaces) }
-    ensures { ws.new ≡ withRecord i t ws.old }
+    requires { (length ws.old ≡ thread_table) × (i < thread_places) }
+    ensures { ws.new ≡ with_record i t ws.old }
 {
     let mask = t.mask;
     let marks = t.marks;
@@ -70,8 +70,8 @@ fn put_record(ws: &mut [u64], i: usize, t: Thread)
 
 // The record at place i of the words.
 fn record_at(ws: &[u64], i: usize) -> Thread
-    requires { (length ws.now ≡ threadTable) × (i < threadPlaces) }
-    ensures { result ≡ get_or (recordsOf threadPlaces ws.now) i noThread }
+    requires { (length ws.now ≡ thread_table) × (i < thread_places) }
+    ensures { result ≡ get_or (records_of thread_places ws.now) i no_thread }
 {
     Thread {
         id: ws[i * THREAD_WORDS + THREAD_ID],
@@ -83,14 +83,14 @@ fn record_at(ws: &[u64], i: usize) -> Thread
 
 // The two records are the same.
 fn same(t: Thread, u: Thread) -> bool
-    ensures { result ≡ sameRecord t u }
+    ensures { result ≡ same_record t u }
 {
     (t.id == u.id) & (t.process == u.process) & (t.mask.0 == u.mask.0) & (t.marks.0 == u.marks.0)
 }
 
 // The words become those of the records.
 pub fn load_words(ts: &[Thread], ws: &mut [u64])
-    requires { (length ts.now ≡ threadPlaces) × (length ws.old ≡ threadTable) }
+    requires { (length ts.now ≡ thread_places) × (length ws.old ≡ thread_table) }
     ensures { ws.new ≡ words_of ts.now }
 {
     let mut i = 0;
@@ -102,8 +102,8 @@ pub fn load_words(ts: &[Thread], ws: &mut [u64])
 
 // The records become those of the words; a record that is the same already is not written to.
 pub fn store_words(ts: &mut [Thread], ws: &[u64])
-    requires { (length ts.old ≡ threadPlaces) × (length ws.now ≡ threadTable) }
-    ensures { ts.new ≡ recordsOf threadPlaces ws.now }
+    requires { (length ts.old ≡ thread_places) × (length ws.now ≡ thread_table) }
+    ensures { ts.new ≡ records_of thread_places ws.now }
 {
     let mut i = 0;
     while i < THREAD_PLACES {

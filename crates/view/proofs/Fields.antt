@@ -6,100 +6,100 @@ use mathlib.Core.List.{List}
 use lib.Dec.{eqb, leb, ltb}
 use lib.ListN.{length, get_or}
 use borrow.Author.Tests.{leb-true}
-use Rattle.limits.specs.Limits.{SIGCONT, processPlaces, threadPlaces, largestId, largestUser, processStopped}
-use Rattle.limits.specs.Limits.{processReal, processEffective, processSaved, processSession, threadProcess, threadMask}
+use Rattle.limits.specs.Limits.{SIGCONT, process_places, thread_places, largest_id, largest_user, process_stopped}
+use Rattle.limits.specs.Limits.{process_real, process_effective, process_saved, process_session, thread_process, thread_mask}
 use Rattle.lists.specs.Lists.{any, find}
 use Rattle.lists.proofs.Bools.{and-snd}
 use Rattle.lists.proofs.Finds.{any-inside, find-within}
 use Rattle.sigset.specs.Set.{bits}
 use Rattle.types.specs.declared.Action.{Action}
 use Rattle.rules.specs.Types.{Process, Thread}
-use Rattle.rules.specs.View.{isProcess, isThread, actionOf}
-use Rattle.rules.specs.Store.{freeProcess, freeThread}
-use Rattle.rules.specs.Sound.{goodId, goodUser}
-use Rattle.rules.specs.Sending.{maySignal}
+use Rattle.rules.specs.View.{is_process, is_thread, action_of}
+use Rattle.rules.specs.Store.{free_process, free_thread}
+use Rattle.rules.specs.Sound.{good_id, good_user}
+use Rattle.rules.specs.Sending.{may_signal}
 use Rattle.rules.proofs.Marks.{first-held}
-use Rattle.tables.specs.Tables.{processesOf, threadsOf, heldProcesses, heldThreads, processAt, threadAt, headTo}
-use Rattle.tables.specs.Tables.{threadTo}
-use Rattle.tables.proofs.Words.{length-heldProcesses, length-heldThreads}
-use Rattle.view.specs.Named.{processNamed, threadNamed}
+use Rattle.tables.specs.Tables.{processes_of, threads_of, held_processes, held_threads, process_at, thread_at, head_to}
+use Rattle.tables.specs.Tables.{thread_to}
+use Rattle.tables.proofs.Words.{length-held_processes, length-held_threads}
+use Rattle.view.specs.Named.{process_named, thread_named}
 
 -- ---- what fits 32 bits
 
-pub id-fits : (r n : ℕ) → r ≡ n → goodId n ≡ true → r ≤ largestId
-unfolding goodId
+pub id-fits : (r n : ℕ) → r ≡ n → good_id n ≡ true → r ≤ largest_id
+unfolding good_id
 id-fits r n e g =
-    subst (λ (k : ℕ). k ≤ largestId) (sym e) (leb-true n largestId (and-snd (leb 1 n) (leb n largestId) g))
+    subst (λ (k : ℕ). k ≤ largest_id) (sym e) (leb-true n largest_id (and-snd (leb 1 n) (leb n largest_id) g))
 
-pub user-fits : (r n : ℕ) → r ≡ n → goodUser n ≡ true → r ≤ largestUser
-unfolding goodUser
-user-fits r n e g = subst (λ (k : ℕ). k ≤ largestUser) (sym e) (leb-true n largestUser g)
+pub user-fits : (r n : ℕ) → r ≡ n → good_user n ≡ true → r ≤ largest_user
+unfolding good_user
+user-fits r n e g = subst (λ (k : ℕ). k ≤ largest_user) (sym e) (leb-true n largest_user g)
 
 -- what a search tells
 pub found : {A : Type 0} (p : A → Bool) (xs : List A) (n place : ℕ) → length xs ≡ n → place ≡ find p xs
     → ltb place n ≡ any p xs
 found p xs n place e h = ap (λ (k : ℕ). ltb k n) h ∙ ap (ltb (find p xs)) (sym e) ∙ find-within p xs
 
-module _ (ps : List ℕ) (n place : ℕ) (e : place ≡ find (isProcess n) (heldProcesses ps)) where
-  pub process-place : any (isProcess n) (heldProcesses ps) ≡ true → place < processPlaces
+module _ (ps : List ℕ) (n place : ℕ) (e : place ≡ find (is_process n) (held_processes ps)) where
+  pub process-place : any (is_process n) (held_processes ps) ≡ true → place < process_places
   process-place l =
-      subst (λ (k : ℕ). k < processPlaces) (sym e)
-      (any-inside (isProcess n) (heldProcesses ps) processPlaces (length-heldProcesses ps) l)
+      subst (λ (k : ℕ). k < process_places) (sym e)
+      (any-inside (is_process n) (held_processes ps) process_places (length-held_processes ps) l)
 
-  pub process-there : (processAt ps place).holds ≡ processNamed ps n
-  process-there = ap (λ (k : ℕ). (processAt ps k).holds) e ∙ sym (first-held freeProcess (isProcess n) (processesOf ps))
+  pub process-there : (process_at ps place).holds ≡ process_named ps n
+  process-there = ap (λ (k : ℕ). (process_at ps k).holds) e ∙ sym (first-held free_process (is_process n) (processes_of ps))
 
   module _ (r : ℕ) where
-    pub stopped-read : r ≡ get_or (headTo (processAt ps place)) processStopped 0 → r ≡ (processNamed ps n).stopped
-    unfolding headTo
+    pub stopped-read : r ≡ get_or (head_to (process_at ps place)) process_stopped 0 → r ≡ (process_named ps n).stopped
+    unfolding head_to
     stopped-read h = h ∙ ap (λ (p : Process). p.stopped) process-there
 
-    pub real_read : r ≡ get_or (headTo (processAt ps place)) processReal 0 → r ≡ (processNamed ps n).real
-    unfolding headTo
+    pub real_read : r ≡ get_or (head_to (process_at ps place)) process_real 0 → r ≡ (process_named ps n).real
+    unfolding head_to
     real_read h = h ∙ ap (λ (p : Process). p.real) process-there
 
-    pub effective-read : r ≡ get_or (headTo (processAt ps place)) processEffective 0 → r ≡ (processNamed ps n).effective
-    unfolding headTo
+    pub effective-read : r ≡ get_or (head_to (process_at ps place)) process_effective 0 → r ≡ (process_named ps n).effective
+    unfolding head_to
     effective-read h = h ∙ ap (λ (p : Process). p.effective) process-there
 
-    pub saved_read : r ≡ get_or (headTo (processAt ps place)) processSaved 0 → r ≡ (processNamed ps n).saved
-    unfolding headTo
+    pub saved_read : r ≡ get_or (head_to (process_at ps place)) process_saved 0 → r ≡ (process_named ps n).saved
+    unfolding head_to
     saved_read h = h ∙ ap (λ (p : Process). p.saved) process-there
 
-    pub session-read : r ≡ get_or (headTo (processAt ps place)) processSession 0 → r ≡ (processNamed ps n).session
-    unfolding headTo
+    pub session-read : r ≡ get_or (head_to (process_at ps place)) process_session 0 → r ≡ (process_named ps n).session
+    unfolding head_to
     session-read h = h ∙ ap (λ (p : Process). p.session) process-there
 
-  pub action-read : (s : ℕ) (a : Action) → a ≡ actionOf (processAt ps place).holds s
-      → a ≡ actionOf (processNamed ps n) s
-  action-read s a h = h ∙ ap (λ (p : Process). actionOf p s) process-there
+  pub action-read : (s : ℕ) (a : Action) → a ≡ action_of (process_at ps place).holds s
+      → a ≡ action_of (process_named ps n) s
+  action-read s a h = h ∙ ap (λ (p : Process). action_of p s) process-there
 
-module _ (ts : List ℕ) (n place : ℕ) (e : place ≡ find (isThread n) (heldThreads ts)) where
-  pub thread-place : any (isThread n) (heldThreads ts) ≡ true → place < threadPlaces
+module _ (ts : List ℕ) (n place : ℕ) (e : place ≡ find (is_thread n) (held_threads ts)) where
+  pub thread-place : any (is_thread n) (held_threads ts) ≡ true → place < thread_places
   thread-place l =
-      subst (λ (k : ℕ). k < threadPlaces) (sym e)
-      (any-inside (isThread n) (heldThreads ts) threadPlaces (length-heldThreads ts) l)
+      subst (λ (k : ℕ). k < thread_places) (sym e)
+      (any-inside (is_thread n) (held_threads ts) thread_places (length-held_threads ts) l)
 
-  pub thread-there : (threadAt ts place).holds ≡ threadNamed ts n
-  thread-there = ap (λ (k : ℕ). (threadAt ts k).holds) e ∙ sym (first-held freeThread (isThread n) (threadsOf ts))
+  pub thread-there : (thread_at ts place).holds ≡ thread_named ts n
+  thread-there = ap (λ (k : ℕ). (thread_at ts k).holds) e ∙ sym (first-held free_thread (is_thread n) (threads_of ts))
 
-  pub owner-read : (r : ℕ) → r ≡ get_or (threadTo (threadAt ts place)) threadProcess 0 → r ≡ (threadNamed ts n).process
-  unfolding threadTo
+  pub owner-read : (r : ℕ) → r ≡ get_or (thread_to (thread_at ts place)) thread_process 0 → r ≡ (thread_named ts n).process
+  unfolding thread_to
   owner-read r h = h ∙ ap (λ (t : Thread). t.process) thread-there
 
-  pub mask-read : (r : ℕ) → r ≡ get_or (threadTo (threadAt ts place)) threadMask 0 → bits r ≡ (threadNamed ts n).mask
-  unfolding threadTo
+  pub mask-read : (r : ℕ) → r ≡ get_or (thread_to (thread_at ts place)) thread_mask 0 → bits r ≡ (thread_named ts n).mask
+  unfolding thread_to
   mask-read r h = ap bits h ∙ ap (λ (t : Thread). t.mask) thread-there
 
 -- ---- permission
 
-pub may_read : (a b : Process) (s real effective targetReal targetSaved session targetSession : ℕ) → real ≡ a.real
+pub may_read : (a b : Process) (s real effective target_real target_saved session target_session : ℕ) → real ≡ a.real
     → effective ≡ a.effective
-    → targetReal ≡ b.real → targetSaved ≡ b.saved → session ≡ a.session → targetSession ≡ b.session
+    → target_real ≡ b.real → target_saved ≡ b.saved → session ≡ a.session → target_session ≡ b.session
     → (eqb effective 0
-    || ((eqb real targetReal || eqb real targetSaved)
-    || ((eqb effective targetReal || eqb effective targetSaved) || (eqb s SIGCONT && eqb session targetSession))))
-    ≡ maySignal a b s
-unfolding maySignal
-may_read a b s real effective targetReal targetSaved session targetSession e1 e2 e3 e4 e5 e6 =
+    || ((eqb real target_real || eqb real target_saved)
+    || ((eqb effective target_real || eqb effective target_saved) || (eqb s SIGCONT && eqb session target_session))))
+    ≡ may_signal a b s
+unfolding may_signal
+may_read a b s real effective target_real target_saved session target_session e1 e2 e3 e4 e5 e6 =
     rw (e1, e2, e3, e4, e5, e6)

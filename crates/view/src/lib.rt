@@ -1,19 +1,19 @@
 // What the rules read of the lent tables: who is live, the fields of a process or a thread by id,
 // and what is pending in a queue.
 ghost use Rattle.std.specs.Prelude.{◌≡◌, true, not, cond, [], ◌∷◌, ◌≤◌, eqb, length};
-ghost use Rattle.limits.specs.Limits.{processTable, threadTable, bufferBytes, signals};
+ghost use Rattle.limits.specs.Limits.{process_table, thread_table, buffer_bytes, signals};
 ghost use Rattle.lists.specs.Lists.{any};
-ghost use Rattle.sigset.specs.Set.{setOf};
-ghost use Rattle.rules.specs.View.{isProcess, isThread, targetQueue, actionOf, pendingIn};
-ghost use Rattle.rules.specs.Store.{isFreeProcess, isFreeThread};
-ghost use Rattle.rules.specs.Sound.{goodId, goodUser};
-ghost use Rattle.rules.specs.Sending.{maySignal};
-ghost use Rattle.rules.specs.Refusals.{esrch, noProcessLive, noThreadLive};
-ghost use Rattle.queue.specs.Queue.{recordsOf, signalsIn};
-ghost use Rattle.tables.specs.Tables.{heldProcesses, heldThreads};
+ghost use Rattle.sigset.specs.Set.{set_of};
+ghost use Rattle.rules.specs.View.{is_process, is_thread, target_queue, action_of, pending_in};
+ghost use Rattle.rules.specs.Store.{is_free_process, is_free_thread};
+ghost use Rattle.rules.specs.Sound.{good_id, good_user};
+ghost use Rattle.rules.specs.Sending.{may_signal};
+ghost use Rattle.rules.specs.Refusals.{esrch, no_process_live, no_thread_live};
+ghost use Rattle.queue.specs.Queue.{records_of, signals_in};
+ghost use Rattle.tables.specs.Tables.{held_processes, held_threads};
 ghost use Rattle.sound.specs.Lent.{view_of, given, before, WithQueue};
-ghost use Rattle.answers.specs.Step.{rowsOn};
-ghost use Rattle.view.specs.Named.{processNamed, threadNamed};
+ghost use Rattle.answers.specs.Step.{rows_on};
+ghost use Rattle.view.specs.Named.{process_named, thread_named};
 
 use limits::{
     EFAULT, ESRCH, PROCESS_EFFECTIVE, PROCESS_MARKS, PROCESS_PLACES, PROCESS_REAL, PROCESS_SAVED,
@@ -26,30 +26,30 @@ use types::Action;
 // ---- who is there
 
 pub fn is_process(ps: &[u64], id: u32) -> bool
-    requires { length ps.now ≡ processTable }
-    ensures { result ≡ any (isProcess id) (heldProcesses ps.now) }
+    requires { length ps.now ≡ process_table }
+    ensures { result ≡ any (is_process id) (held_processes ps.now) }
 {
     tables::find_process(ps, id as u64) < PROCESS_PLACES
 }
 
 pub fn is_thread(ts: &[u64], id: u32) -> bool
-    requires { length ts.now ≡ threadTable }
-    ensures { result ≡ any (isThread id) (heldThreads ts.now) }
+    requires { length ts.now ≡ thread_table }
+    ensures { result ≡ any (is_thread id) (held_threads ts.now) }
 {
     tables::find_thread(ts, id as u64) < THREAD_PLACES
 }
 
 // Is there a place for one process more?
 pub fn has_process_place(ps: &[u64]) -> bool
-    requires { length ps.now ≡ processTable }
-    ensures { result ≡ any isFreeProcess (heldProcesses ps.now) }
+    requires { length ps.now ≡ process_table }
+    ensures { result ≡ any is_free_process (held_processes ps.now) }
 {
     tables::free_process(ps) < PROCESS_PLACES
 }
 
 pub fn has_thread_place(ts: &[u64]) -> bool
-    requires { length ts.now ≡ threadTable }
-    ensures { result ≡ any isFreeThread (heldThreads ts.now) }
+    requires { length ts.now ≡ thread_table }
+    ensures { result ≡ any is_free_thread (held_threads ts.now) }
 {
     tables::free_thread(ts) < THREAD_PLACES
 }
@@ -57,19 +57,19 @@ pub fn has_thread_place(ts: &[u64]) -> bool
 // ---- a live thread
 
 pub fn process_of(ts: &[u64], thread: u32) -> u32
-    requires ts_len { length ts.now ≡ threadTable }
-    requires ts_value { any (isThread thread) (heldThreads ts.now) ≡ true }
-    requires thread_value { goodId (threadNamed ts.now thread).process ≡ true }
-    ensures { result ≡ (threadNamed ts.now thread).process }
+    requires ts_len { length ts.now ≡ thread_table }
+    requires ts_value { any (is_thread thread) (held_threads ts.now) ≡ true }
+    requires thread_value { good_id (thread_named ts.now thread).process ≡ true }
+    ensures { result ≡ (thread_named ts.now thread).process }
 {
     let place = tables::find_thread(ts, thread as u64);
     tables::thread_field_at(ts, place, THREAD_PROCESS) as u32
 }
 
 pub fn mask_of(ts: &[u64], thread: u32) -> SigSet
-    requires ts_len { length ts.now ≡ threadTable }
-    requires ts_value { any (isThread thread) (heldThreads ts.now) ≡ true }
-    ensures { result ≡ (threadNamed ts.now thread).mask }
+    requires ts_len { length ts.now ≡ thread_table }
+    requires ts_value { any (is_thread thread) (held_threads ts.now) ≡ true }
+    ensures { result ≡ (thread_named ts.now thread).mask }
 {
     let place = tables::find_thread(ts, thread as u64);
     SigSet(tables::thread_field_at(ts, place, THREAD_MASK))
@@ -78,29 +78,29 @@ pub fn mask_of(ts: &[u64], thread: u32) -> SigSet
 // ---- a live process
 
 pub fn is_stopped(ps: &[u64], process: u32) -> bool
-    requires ps_len { length ps.now ≡ processTable }
-    requires ps_value { any (isProcess process) (heldProcesses ps.now) ≡ true }
-    ensures { result ≡ not (eqb (processNamed ps.now process).stopped 0) }
+    requires ps_len { length ps.now ≡ process_table }
+    requires ps_value { any (is_process process) (held_processes ps.now) ≡ true }
+    ensures { result ≡ not (eqb (process_named ps.now process).stopped 0) }
 {
     let place = tables::find_process(ps, process as u64);
     tables::field_at(ps, place, PROCESS_STOPPED) != 0
 }
 
 pub fn real_of(ps: &[u64], process: u32) -> u32
-    requires ps_len { length ps.now ≡ processTable }
-    requires ps_value { any (isProcess process) (heldProcesses ps.now) ≡ true }
-    requires process_value { goodUser (processNamed ps.now process).real ≡ true }
-    ensures { result ≡ (processNamed ps.now process).real }
+    requires ps_len { length ps.now ≡ process_table }
+    requires ps_value { any (is_process process) (held_processes ps.now) ≡ true }
+    requires process_value { good_user (process_named ps.now process).real ≡ true }
+    ensures { result ≡ (process_named ps.now process).real }
 {
     let place = tables::find_process(ps, process as u64);
     tables::field_at(ps, place, PROCESS_REAL) as u32
 }
 
 pub fn action_of(ps: &[u64], process: u32, signal: u32) -> Action
-    requires ps_len { length ps.now ≡ processTable }
-    requires ps_value { any (isProcess process) (heldProcesses ps.now) ≡ true }
+    requires ps_len { length ps.now ≡ process_table }
+    requires ps_value { any (is_process process) (held_processes ps.now) ≡ true }
     requires le_signal { (1 ≤ signal) × (signal ≤ signals) }
-    ensures { result ≡ actionOf (processNamed ps.now process) signal }
+    ensures { result ≡ action_of (process_named ps.now process) signal }
 {
     let place = tables::find_process(ps, process as u64);
     tables::action_at(ps, place, signal)
@@ -108,10 +108,10 @@ pub fn action_of(ps: &[u64], process: u32, signal: u32) -> Action
 
 // May one process signal another?
 pub fn may_signal(ps: &[u64], by: u32, to: u32, signal: u32) -> bool
-    requires ps_len { length ps.now ≡ processTable }
-    requires ps_value { any (isProcess by) (heldProcesses ps.now) ≡ true }
-    requires ps_value_2 { any (isProcess to) (heldProcesses ps.now) ≡ true }
-    ensures { result ≡ maySignal (processNamed ps.now by) (processNamed ps.now to) signal }
+    requires ps_len { length ps.now ≡ process_table }
+    requires ps_value { any (is_process by) (held_processes ps.now) ≡ true }
+    requires ps_value_2 { any (is_process to) (held_processes ps.now) ≡ true }
+    ensures { result ≡ may_signal (process_named ps.now by) (process_named ps.now to) signal }
 {
     let sender = tables::find_process(ps, by as u64);
     let target = tables::find_process(ps, to as u64);
@@ -131,8 +131,8 @@ pub fn may_signal(ps: &[u64], by: u32, to: u32, signal: u32) -> bool
 
 // The signals that are marked in it.
 pub fn marks_of(ps: &[u64], ts: &[u64], tb: &[u8], pb: &[u8], process: u32, thread: u32) -> SigSet
-    requires { WithQueue (targetQueue process thread) (given ps ts tb pb) }
-    ensures { result ≡ setOf ((view_of (before ps ts tb pb)).marks (targetQueue process thread)) }
+    requires { WithQueue (target_queue process thread) (given ps ts tb pb) }
+    ensures { result ≡ set_of ((view_of (before ps ts tb pb)).marks (target_queue process thread)) }
 {
     if thread == 0 {
         let place = tables::find_process(ps, process as u64);
@@ -144,9 +144,9 @@ pub fn marks_of(ps: &[u64], ts: &[u64], tb: &[u8], pb: &[u8], process: u32, thre
 
 // The signals that have a record in it.
 fn queued_of(tb: &[u8], pb: &[u8], process: u32, thread: u32) -> SigSet
-    requires { (length tb.now ≡ bufferBytes) × (length pb.now ≡ bufferBytes) }
-    ensures { result ≡ signalsIn (targetQueue process thread)
-        (recordsOf (cond (eqb thread 0) pb.now tb.now)) }
+    requires { (length tb.now ≡ buffer_bytes) × (length pb.now ≡ buffer_bytes) }
+    ensures { result ≡ signals_in (target_queue process thread)
+        (records_of (cond (eqb thread 0) pb.now tb.now)) }
 {
     if thread == 0 {
         return queue::signals_of(pb, process, thread);
@@ -156,8 +156,8 @@ fn queued_of(tb: &[u8], pb: &[u8], process: u32, thread: u32) -> SigSet
 
 // The signals that are pending in it, by a mark or by a record.
 pub fn pending_of(ps: &[u64], ts: &[u64], tb: &[u8], pb: &[u8], process: u32, thread: u32) -> SigSet
-    requires { WithQueue (targetQueue process thread) (given ps ts tb pb) }
-    ensures { result ≡ setOf (pendingIn (view_of (before ps ts tb pb)) (targetQueue process thread)) }
+    requires { WithQueue (target_queue process thread) (given ps ts tb pb) }
+    ensures { result ≡ set_of (pending_in (view_of (before ps ts tb pb)) (target_queue process thread)) }
 {
     let marks = marks_of(ps, ts, tb, pb, process, thread);
     let queued = queued_of(tb, pb, process, thread);
@@ -168,7 +168,7 @@ pub fn pending_of(ps: &[u64], ts: &[u64], tb: &[u8], pb: &[u8], process: u32, th
 
 // 14 where the tables are not sound, 3 where the process is not live, else 0.
 pub fn process_refusal(ps: &[u64], ts: &[u64], tb: &[u8], pb: &[u8], process: u32) -> u32
-    ensures { result ≡ rowsOn (esrch (noProcessLive (view_of (before ps ts tb pb)) process) ∷ [])
+    ensures { result ≡ rows_on (esrch (no_process_live (view_of (before ps ts tb pb)) process) ∷ [])
         (before ps ts tb pb) }
 {
     if !sound::sound(ps, ts, tb, pb) {
@@ -182,7 +182,7 @@ pub fn process_refusal(ps: &[u64], ts: &[u64], tb: &[u8], pb: &[u8], process: u3
 
 // The same of a thread.
 pub fn thread_refusal(ps: &[u64], ts: &[u64], tb: &[u8], pb: &[u8], thread: u32) -> u32
-    ensures { result ≡ rowsOn (esrch (noThreadLive (view_of (before ps ts tb pb)) thread) ∷ [])
+    ensures { result ≡ rows_on (esrch (no_thread_live (view_of (before ps ts tb pb)) thread) ∷ [])
         (before ps ts tb pb) }
 {
     if !sound::sound(ps, ts, tb, pb) {

@@ -14,33 +14,33 @@ use Rattle.lists.proofs.Bits.{or-zero}
 use Rattle.lists.proofs.Lists.{all_append}
 use Rattle.lists.proofs.Loops.{all_none, all-next}
 use Rattle.lists.proofs.Rows.{part-long, part_at}
-use Rattle.zeros.specs.Zeros.{isNought}
+use Rattle.zeros.specs.Zeros.{is_nought}
 
 -- the first i of n words from a place on, put together
 abbrev pub Together : List ℕ → (from n some i : ℕ) → Type 0
-Together ws from n some i = eqb some 0 ≡ all isNought (take i (take n (drop from ws)))
+Together ws from n some i = eqb some 0 ≡ all is_nought (take i (take n (drop from ws)))
 
 module _ (ws : List ℕ) (from n : ℕ) where
   pub together-none : Together ws from n 0 0
-  together-none = sym (all_none isNought 0 [])
+  together-none = sym (all_none is_nought 0 [])
 
   module _ (some i : ℕ) (h : from + n ≤ length ws) (e : Together ws from n some i) where
     pub together-more : i < n → Together ws from n (bit_or some (get_or ws (from + i) 0)) (i + 1)
-    unfolding isNought
+    unfolding is_nought
     together-more k =
         let long = part-long ws from n h in
         or-zero some (get_or ws (from + i) 0)
         ∙ ap (λ b. b && eqb (get_or ws (from + i) 0) 0) e
-        ∙ ap (λ w. all isNought (take i (take n (drop from ws))) && eqb w 0) (sym (part_at ws from n h i k))
-        ∙ sym (all-next isNought 0 (take n (drop from ws)) i (omega arith))
+        ∙ ap (λ w. all is_nought (take i (take n (drop from ws))) && eqb w 0) (sym (part_at ws from n h i k))
+        ∙ sym (all-next is_nought 0 (take n (drop from ws)) i (omega arith))
 
-    pub together-all : n ≤ i → eqb some 0 ≡ all isNought (take n (drop from ws))
+    pub together-all : n ≤ i → eqb some 0 ≡ all is_nought (take n (drop from ws))
     together-all k =
-        let long = part-long ws from n h in e ∙ ap (all isNought) (take_all i (take n (drop from ws)) (omega arith))
+        let long = part-long ws from n h in e ∙ ap (all is_nought) (take_all i (take n (drop from ws)) (omega arith))
 
 -- are n words from a place on zero?
 abbrev pub zeroes : List ℕ → (from n : ℕ) → Bool
-zeroes ws from n = all isNought (take n (drop from ws))
+zeroes ws from n = all is_nought (take n (drop from ws))
 
 module _ (ws : List ℕ) (from n left k : ℕ) (h : k ≤ left) (e : zeroes ws from n ≡ zeroes ws from left) where
   -- all but the last k of what is left, then these
@@ -49,9 +49,9 @@ module _ (ws : List ℕ) (from n left k : ℕ) (h : k ≤ left) (e : zeroes ws f
       let m : left ≡ left - k + k = omega arith in
       e
       ∙ ap (zeroes ws from) m
-      ∙ ap (all isNought) (take-add (left - k) k (drop from ws))
-      ∙ all_append isNought (take (left - k) (drop from ws)) (take k (drop (left - k) (drop from ws)))
-      ∙ ap (λ l. zeroes ws from (left - k) && all isNought (take k l)) (drop-drop (left - k) from ws)
+      ∙ ap (all is_nought) (take-add (left - k) k (drop from ws))
+      ∙ all_append is_nought (take (left - k) (drop from ws)) (take k (drop (left - k) (drop from ws)))
+      ∙ ap (λ l. zeroes ws from (left - k) && all is_nought (take k l)) (drop-drop (left - k) from ws)
 
   pub last-zero : zeroes ws (from + (left - k)) k ≡ true → zeroes ws from n ≡ zeroes ws from (left - k)
   last-zero t = last ∙ ap (λ b. zeroes ws from (left - k) && b) t ∙ and-true (zeroes ws from (left - k))

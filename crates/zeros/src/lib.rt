@@ -2,7 +2,7 @@
 // so that the compiler reads many at once.
 ghost use Rattle.std.specs.Prelude.{◌≡◌, ◌+◌, ◌≤◌, length, take, drop};
 ghost use Rattle.lists.specs.Lists.{all};
-ghost use Rattle.zeros.specs.Zeros.{isNought};
+ghost use Rattle.zeros.specs.Zeros.{is_nought};
 
 // A part of a constant length is read best: a long one is taken block by block, from its end.
 const BLOCK_BYTES: usize = 1024;
@@ -11,7 +11,7 @@ const BLOCK_WORDS: usize = 128;
 
 fn words_part_zero(ws: &[u64], from: usize, n: usize) -> bool
     requires { from + n ≤ length ws.now }
-    ensures { result ≡ all isNought (take n (drop from ws.now)) }
+    ensures { result ≡ all is_nought (take n (drop from ws.now)) }
 {
     let mut some: u64 = 0;
     let mut i = 0;
@@ -24,7 +24,7 @@ fn words_part_zero(ws: &[u64], from: usize, n: usize) -> bool
 
 pub fn words_zero(ws: &[u64], from: usize, n: usize) -> bool
     requires { from + n ≤ length ws.now }
-    ensures { result ≡ all isNought (take n (drop from ws.now)) }
+    ensures { result ≡ all is_nought (take n (drop from ws.now)) }
 {
     let mut left = n;
     while BLOCK_WORDS <= left {
@@ -38,7 +38,7 @@ pub fn words_zero(ws: &[u64], from: usize, n: usize) -> bool
 
 fn bytes_part_zero(b: &[u8], from: usize, n: usize) -> bool
     requires { from + n ≤ length b.now }
-    ensures { result ≡ all isNought (take n (drop from b.now)) }
+    ensures { result ≡ all is_nought (take n (drop from b.now)) }
 {
     let mut some: u8 = 0;
     let mut i = 0;
@@ -51,7 +51,7 @@ fn bytes_part_zero(b: &[u8], from: usize, n: usize) -> bool
 
 pub fn bytes_zero(b: &[u8], from: usize, n: usize) -> bool
     requires { from + n ≤ length b.now }
-    ensures { result ≡ all isNought (take n (drop from b.now)) }
+    ensures { result ≡ all is_nought (take n (drop from b.now)) }
 {
     let mut left = n;
     while BLOCK_BYTES <= left {

@@ -4,7 +4,7 @@ use borrow.Author.Tests.{not-true, not-false}
 use Rattle.sound.proofs.Facts.{processes-long}
 use Rattle.sound.specs.Lent.{given}
 use Rattle.view.proofs.Live.{no-process}
-use Rattle.actions.specs.Given.{newAction}
+use Rattle.actions.specs.Given.{new_action}
 use Rattle.actions.proofs.Actions.{action-fault, action-bad, action-gone, action-none}
 use borrow.Author.Rules.{rules}
 use Rattle.actions.proofs.action_refusal.Statement.{statement}
@@ -14,7 +14,7 @@ returns : tie.Need-returns
 returns c =
     let a = c.before.before.before.before.before.before in
     let l = given a.args.ps a.args.ts a.args.tb a.args.pb in
-    action-fault l a.args.process a.args.signal (newAction a.args.new)
+    action-fault l a.args.process a.args.signal (new_action a.args.new)
     (sym c.before.sound.ensures ∙ not-true c.before.sound.result c.if1.true)
 
 returns-2 : tie.Need-returns-2
@@ -24,7 +24,7 @@ returns-2 c =
     let e =
     sym c.before.before.before.sound.ensures
     ∙ not-false c.before.before.before.sound.result c.before.before.if1.false in
-    action-bad l a.args.process a.args.signal (newAction a.args.new) e
+    action-bad l a.args.process a.args.signal (new_action a.args.new) e
     (sym c.before.is-bad-action.ensures ∙ c.if2.true)
 
 is-process-requires : tie.Need-is-process-requires
@@ -45,7 +45,7 @@ returns-3 c =
     c.before.before.before.before.if1.false in
     let b = sym c.before.before.before.is-bad-action.ensures ∙ c.before.before.if2.false in
     let g = no-process l a.args.process c.before.is-process.result c.before.is-process.ensures in
-    action-gone l a.args.process a.args.signal (newAction a.args.new) e b (g ∙ c.if3.true)
+    action-gone l a.args.process a.args.signal (new_action a.args.new) e b (g ∙ c.if3.true)
 
 returns-4 : tie.Need-returns-4
 returns-4 c =
@@ -57,7 +57,7 @@ returns-4 c =
     c.before.before.before.before.if1.false in
     let b = sym c.before.before.before.is-bad-action.ensures ∙ c.before.before.if2.false in
     let g = no-process l a.args.process c.before.is-process.result c.before.is-process.ensures in
-    action-none l a.args.process a.args.signal (newAction a.args.new) e b (g ∙ c.if3.false)
+    action-none l a.args.process a.args.signal (new_action a.args.new) e b (g ∙ c.if3.false)
 
 pub action-refusal-spec : {M : Type 1} → statement M
 action-refusal-spec =

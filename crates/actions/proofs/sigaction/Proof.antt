@@ -6,7 +6,7 @@ use Rattle.rules.specs.Types.{sigaction}
 use Rattle.sound.proofs.Facts.{processes-long, process-listed}
 use Rattle.sound.specs.Lent.{lent, given}
 use Rattle.answers.proofs.Endings.{refused-ends}
-use Rattle.actions.specs.Given.{newAction}
+use Rattle.actions.specs.Given.{new_action}
 use Rattle.actions.proofs.Actions.{asked-signal, action-accepted, action-kept, action-ready, action-stored}
 use borrow.Author.Rules.{rules}
 use Rattle.actions.proofs.sigaction.Statement.{statement}
@@ -18,7 +18,7 @@ returns c =
     let l = given a.args.ps a.args.ts a.args.tb a.args.pb in
     let p = a.args.process in
     let s = a.args.signal in
-    let new = newAction a.args.new in
+    let new = new_action a.args.new in
     let n = c.before.action-refusal.result in
     let e = c.before.action-refusal.ensures in
     refused-ends (sigaction p s new) l n e c.if1.true
@@ -29,57 +29,57 @@ action-of-requires c κs =
     let l = given a.args.ps a.args.ts a.args.tb a.args.pb in
     let p = a.args.process in
     let s = a.args.signal in
-    let new = newAction a.args.new in
+    let new = new_action a.args.new in
     let e = sym c.before.before.action-refusal.ensures ∙ c.before.if1.false in
     let d = action-accepted l p s new e in
     (processes-long l d.sound, (process-listed l p d.live, asked-signal s new d.fine))
 
 store-action-requires : tie.Need-store-action-requires
-unfolding newAction
+unfolding new_action
 store-action-requires c κs =
     let a = c.before.before.before.before.before.before.before.before.before.before.before.before.before.before.before.before.before.before.before.before in
     let l = given a.args.ps a.args.ts a.args.tb a.args.pb in
     let p = a.args.process in
     let s = a.args.signal in
-    let new = newAction a.args.new in
+    let new = new_action a.args.new in
     let e =
     sym
     c.before.before.before.before.before.before.before.before.before.before.before.action-refusal.ensures
     ∙ c.before.before.before.before.before.before.before.before.before.before.if1.false in
     let d = action-accepted l p s new e in
     action-ready l p s new e c.before.before.before.before.before.before.new.given.0.0
-    c.Stored-of.result (ap newAction c.before.before.before.before.before.before.new.given.1)
+    c.Stored-of.result (ap new_action c.before.before.before.before.before.before.new.given.1)
     c.Stored-of.ensures
 
 returns-2 : tie.Need-returns-2
-unfolding newAction
+unfolding new_action
 returns-2 c =
     let a =
     c.before.before.before.before.before.before.before.before.before.before.before.before.before.before in
     let l = given a.args.ps a.args.ts a.args.tb a.args.pb in
     let p = a.args.process in
     let s = a.args.signal in
-    let new = newAction a.args.new in
+    let new = new_action a.args.new in
     let e =
     sym c.before.before.before.before.before.action-refusal.ensures
     ∙ c.before.before.before.before.if1.false in
     action-kept l p s new e c.before.before.action-of.result c.before.before.action-of.ensures
-    (ap newAction c.enum_told.given.1) (bytes-each l.threadBuffer (λ i. omega (
+    (ap new_action c.enum_told.given.1) (bytes-each l.thread_buffer (λ i. omega (
       arith,
       c.before.before.before.before.before.before.before.before.before.before.before.slice-known3.given i,
     )))
-    (bytes-each l.processBuffer (λ i. omega
+    (bytes-each l.process_buffer (λ i. omega
     (arith, c.before.before.before.before.before.before.before.before.before.before.slice-known4.given i)))
 
 returns-3 : tie.Need-returns-3
-unfolding newAction
+unfolding new_action
 returns-3 c =
     let w = c.before.before.before.before.before.before.before.before in
     let a = c.before.before.before.before.before.before.before.before.before.before.before.before.before.before.before.before.before.before.before.before.before.before.before.before.before.before.before.before.before in
     let l = given a.args.ps a.args.ts a.args.tb a.args.pb in
     let p = a.args.process in
     let s = a.args.signal in
-    let new = newAction a.args.new in
+    let new = new_action a.args.new in
     let e = sym c.before.before.before.before.before.before.before.before.before.before.before.before.before.before.before.before.before.before.before.before.action-refusal.ensures
     ∙ c.before.before.before.before.before.before.before.before.before.before.before.before.before.before.before.before.before.before.before.if1.false in
     let ps' = w.store-action.new.0 in
@@ -89,7 +89,7 @@ returns-3 c =
     action-stored l p s new e
     c.before.before.before.before.before.before.before.before.before.before.before.before.before.before.before.new.given.0.0
     c.before.before.before.before.before.before.before.before.before.Stored-of.result
-    (ap newAction c.before.before.before.before.before.before.before.before.before.before.before.before.before.before.before.new.given.1)
+    (ap new_action c.before.before.before.before.before.before.before.before.before.before.before.before.before.before.before.new.given.1)
     c.before.before.before.before.before.before.before.before.before.Stored-of.ensures
     c.before.before.before.before.before.before.before.before.before.before.before.before.before.before.before.before.before.action-of.result
     c.before.before.before.before.before.before.before.before.before.before.before.before.before.before.before.before.before.action-of.ensures
@@ -97,8 +97,8 @@ returns-3 c =
     (record {
       processes = search rules;
       threads = search rules;
-      threadBuffer = search rules;
-      processBuffer = search rules;
+      thread_buffer = search rules;
+      process_buffer = search rules;
     })
     (bytes-each tb' (λ i. omega (arith, c.before.before.slice-known7.given i)))
     (bytes-each pb' (λ i. omega (arith, c.slice-known8.given i))) w.store-action.ensures

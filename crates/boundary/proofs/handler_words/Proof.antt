@@ -2,12 +2,12 @@
 use mathlib.Core.Path.{refl}
 use borrow.Author.Rules.{rules}
 use Rattle.lists.specs.Lists.{padded}
-use Rattle.boundary.specs.Boundary.{infoWords, takenWords}
+use Rattle.boundary.specs.Boundary.{info_words, taken_words}
 use Rattle.boundary.proofs.handler_words.Statement.{statement}
 use Rattle.boundary.proofs.handler_words.Tie as tie
 
 returns : tie.Need-returns
-unfolding padded takenWords infoWords
+unfolding padded taken_words info_words
 returns c = refl
 
 pub handler-words-spec : {M : Type 1} → statement M

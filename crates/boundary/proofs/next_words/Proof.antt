@@ -2,28 +2,28 @@
 use mathlib.Core.Path.{refl}
 use borrow.Author.Rules.{rules}
 use Rattle.lists.specs.Lists.{padded}
-use Rattle.boundary.specs.Boundary.{infoWords, nextWords}
+use Rattle.boundary.specs.Boundary.{info_words, next_words}
 use Rattle.boundary.proofs.Words.{words-case}
 use Rattle.boundary.proofs.next_words.Statement.{statement}
 use Rattle.boundary.proofs.next_words.Tie as tie
 
 returns : tie.Need-returns
-unfolding padded nextWords
+unfolding padded next_words
 returns c =
-    words-case nextWords c.before.before.before.args.next _ c.before.enum_told.given.1 c.short.result
+    words-case next_words c.before.before.before.args.next _ c.before.enum_told.given.1 c.short.result
     c.short.ensures
 
 returns-2 : tie.Need-returns-2
-unfolding padded nextWords
+unfolding padded next_words
 returns-2 c =
-    words-case nextWords c.before.before.before.before.args.next _ c.before.before.next.given.1
+    words-case next_words c.before.before.before.before.args.next _ c.before.before.next.given.1
     c.short2.result c.short2.ensures
 
 returns-3 : tie.Need-returns-3
-unfolding padded nextWords infoWords
+unfolding padded next_words info_words
 returns-3 c =
     let d = c.before.before.before.before.before.before.before in
-    words-case nextWords d.before.before.args.next _ d.next2.given.1 _ refl
+    words-case next_words d.before.before.args.next _ d.next2.given.1 _ refl
 
 pub next-words-spec : {M : Type 1} → statement M
 next-words-spec =

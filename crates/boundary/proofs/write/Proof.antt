@@ -4,16 +4,16 @@ use Prim.Native.Nat.{◌≤◌, ◌-◌}
 use native.Mathlib.Omega.{arith}
 use borrow.Author.Rules.{rules}
 use lib.Seq.{paste, paste-zero}
-use Rattle.limits.specs.Limits.{answerWords}
+use Rattle.limits.specs.Limits.{answer_words}
 use Rattle.boundary.proofs.Copied.{written-length, written-more, written_all}
 use Rattle.boundary.proofs.write.Statement.{statement}
 use Rattle.boundary.proofs.write.Tie as tie
 
 abbrev invariant-loop : tie.invariant-loop
-invariant-loop out₀ words i₀ out i = (i ≤ answerWords) × (out ≡ paste out₀ 0 words i)
+invariant-loop out₀ words i₀ out i = (i ≤ answer_words) × (out ≡ paste out₀ 0 words i)
 
 abbrev decreases-loop : tie.decreases-loop
-decreases-loop out₀ words i₀ out i = answerWords - i
+decreases-loop out₀ words i₀ out i = answer_words - i
 
 loop-holds : tie.Need-loop-init invariant-loop decreases-loop
 loop-holds c = (omega arith, paste-zero c.args.out.now 0 c.args.t2)

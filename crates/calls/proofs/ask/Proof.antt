@@ -1,35 +1,35 @@
 -- `ask` meets its contract. Assumes nothing.
 use borrow.Author.Rules.{rules}
 use Rattle.sound.specs.Lent.{given}
-use Rattle.calls.specs.Calls.{askingOf}
+use Rattle.calls.specs.Calls.{asking_of}
 use Rattle.calls.proofs.Asked.{answer-case}
 use Rattle.calls.proofs.ask.Statement.{statement}
 use Rattle.calls.proofs.ask.Tie as tie
 
 returns : tie.Need-returns
-unfolding askingOf
+unfolding asking_of
 returns c =
     let k = c.before.before in
     let a = k.before.before.before.before.before.before in
-    answer-case askingOf a.args.c _ k.c.given.1
+    answer-case asking_of a.args.c _ k.c.given.1
     (given a.args.ps a.args.ts a.args.tb a.args.pb) c.sigpending.result
     c.sigpending.ensures
 
 returns-2 : tie.Need-returns-2
-unfolding askingOf
+unfolding asking_of
 returns-2 c =
     let k = c.before.before in
     let a = k.before.before.before.before.before.before in
-    answer-case askingOf a.args.c _ k.c2.given.1
+    answer-case asking_of a.args.c _ k.c2.given.1
     (given a.args.ps a.args.ts a.args.tb a.args.pb) c.look.result
     c.look.ensures
 
 returns-3 : tie.Need-returns-3
-unfolding askingOf
+unfolding asking_of
 returns-3 c =
     let k = c.before.before in
     let a = k.before.before.before.before.before.before in
-    answer-case askingOf a.args.c _ k.c3.given.1
+    answer-case asking_of a.args.c _ k.c3.given.1
     (given a.args.ps a.args.ts a.args.tb a.args.pb) c.who.result
     c.who.ensures
 

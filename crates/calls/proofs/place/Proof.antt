@@ -1,52 +1,52 @@
 -- `place` meets its contract. Assumes nothing.
 use borrow.Author.Rules.{rules}
 use Rattle.sound.specs.Lent.{lent, given}
-use Rattle.calls.specs.Calls.{placingOf}
+use Rattle.calls.specs.Calls.{placing_of}
 use Rattle.calls.proofs.Asked.{by-case}
 use Rattle.calls.proofs.place.Statement.{statement}
 use Rattle.calls.proofs.place.Tie as tie
 
 returns : tie.Need-returns
-unfolding placingOf
+unfolding placing_of
 returns c =
     let w = c.before.before.before.before.before.before.before.before in
     let k = w.before.before.before.before.before.before in
     let a = k.before.before.before.before.before.before in
     let r = w.add-process in
-    by-case placingOf a.args.c _ k.c.given.1
+    by-case placing_of a.args.c _ k.c.given.1
     (given a.args.ps a.args.ts a.args.tb a.args.pb) r.result
     (lent r.new.0 r.new.1.0 r.new.1.1.0 r.new.1.1.1.0) r.ensures
 
 returns-2 : tie.Need-returns-2
-unfolding placingOf
+unfolding placing_of
 returns-2 c =
     let w = c.before.before.before.before.before.before.before.before in
     let k = w.before.before.before.before.before.before in
     let a = k.before.before.before.before.before.before in
     let r = w.add-thread in
-    by-case placingOf a.args.c _ k.c2.given.1
+    by-case placing_of a.args.c _ k.c2.given.1
     (given a.args.ps a.args.ts a.args.tb a.args.pb) r.result
     (lent r.new.0 r.new.1.0 r.new.1.1.0 r.new.1.1.1.0) r.ensures
 
 returns-3 : tie.Need-returns-3
-unfolding placingOf
+unfolding placing_of
 returns-3 c =
     let w = c.before.before.before.before.before.before.before.before in
     let k = w.before.before.before.before.before.before in
     let a = k.before.before.before.before.before.before in
     let r = w.end-process in
-    by-case placingOf a.args.c _ k.c3.given.1
+    by-case placing_of a.args.c _ k.c3.given.1
     (given a.args.ps a.args.ts a.args.tb a.args.pb) r.result
     (lent r.new.0 r.new.1.0 r.new.1.1.0 r.new.1.1.1.0) r.ensures
 
 returns-4 : tie.Need-returns-4
-unfolding placingOf
+unfolding placing_of
 returns-4 c =
     let w = c.before.before.before.before.before.before.before.before in
     let k = w.before.before.before.before.before.before in
     let a = k.before.before.before.before.before.before in
     let r = w.end-thread in
-    by-case placingOf a.args.c _ k.c4.given.1
+    by-case placing_of a.args.c _ k.c4.given.1
     (given a.args.ps a.args.ts a.args.tb a.args.pb) r.result
     (lent r.new.0 r.new.1.0 r.new.1.1.0 r.new.1.1.1.0) r.ensures
 

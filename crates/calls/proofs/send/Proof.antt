@@ -1,30 +1,30 @@
 -- `send` meets its contract. Assumes nothing.
 use borrow.Author.Rules.{rules}
 use Rattle.sound.specs.Lent.{lent, given}
-use Rattle.calls.specs.Calls.{sendingOf}
+use Rattle.calls.specs.Calls.{sending_of}
 use Rattle.calls.proofs.Asked.{by-case}
 use Rattle.calls.proofs.send.Statement.{statement}
 use Rattle.calls.proofs.send.Tie as tie
 
 returns : tie.Need-returns
-unfolding sendingOf
+unfolding sending_of
 returns c =
     let w = c.before.before.before.before.before.before.before.before in
     let k = w.before.before.before.before.before.before in
     let a = k.before.before.before.before.before.before in
     let r = w.kill in
-    by-case sendingOf a.args.c _ k.c.given.1
+    by-case sending_of a.args.c _ k.c.given.1
     (given a.args.ps a.args.ts a.args.tb a.args.pb) r.result
     (lent r.new.0 r.new.1.0 r.new.1.1.0 r.new.1.1.1.0) r.ensures
 
 returns-2 : tie.Need-returns-2
-unfolding sendingOf
+unfolding sending_of
 returns-2 c =
     let w = c.before.before.before.before.before.before.before.before in
     let k = w.before.before.before.before.before.before in
     let a = k.before.before.before.before.before.before in
     let r = w.sigqueue in
-    by-case sendingOf a.args.c _ k.c2.given.1
+    by-case sending_of a.args.c _ k.c2.given.1
     (given a.args.ps a.args.ts a.args.tb a.args.pb) r.result
     (lent r.new.0 r.new.1.0 r.new.1.1.0 r.new.1.1.1.0) r.ensures
 

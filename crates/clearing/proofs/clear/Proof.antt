@@ -34,8 +34,8 @@ returns-2 c =
     (record {
       processes = search rules;
       threads = search rules;
-      threadBuffer = search rules;
-      processBuffer = search rules;
+      thread_buffer = search rules;
+      process_buffer = search rules;
     })
     (bytes-each f.forget.new.1.1.0 (λ i. omega (arith, c.before.before.slice-known7.given i)))
     (bytes-each f.forget.new.1.1.1.0 (λ i. omega (arith, c.slice-known8.given i)))

@@ -1,11 +1,11 @@
 -- `lengths_are` meets its contract. Assumes nothing.
 use mathlib.Core.Path.{refl}
-use Rattle.sound.specs.Lent.{lengthsAre}
+use Rattle.sound.specs.Lent.{lengths_are}
 use Rattle.clearing.proofs.lengths_are.Statement.{statement}
 use Rattle.clearing.proofs.lengths_are.Tie as tie
 
 returns : tie.Need-returns
-unfolding lengthsAre
+unfolding lengths_are
 returns c = refl
 
 pub lengths-are-spec : {M : Type 1} → statement M

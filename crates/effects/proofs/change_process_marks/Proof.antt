@@ -1,11 +1,11 @@
 -- `change_process_marks` meets its contract. Assumes nothing.
 use native.Mathlib.Omega.{arith}
 use borrow.Author.Rules.{rules}
-use Rattle.limits.specs.Limits.{processPlaces}
+use Rattle.limits.specs.Limits.{process_places}
 use Rattle.lists.proofs.Finds.{any-inside}
-use Rattle.rules.specs.View.{isProcess}
-use Rattle.tables.specs.Tables.{heldProcesses}
-use Rattle.tables.proofs.Words.{length-heldProcesses}
+use Rattle.rules.specs.View.{is_process}
+use Rattle.tables.specs.Tables.{held_processes}
+use Rattle.tables.proofs.Words.{length-held_processes}
 use Rattle.effects.proofs.Marks.{process-marks-changed}
 use Rattle.effects.proofs.change_process_marks.Statement.{statement}
 use Rattle.effects.proofs.change_process_marks.Tie as tie
@@ -16,7 +16,7 @@ field-at-requires c κs =
     let a = d.before.before.before in
     let ps = a.args.ps.now in
     let h =
-    any-inside (isProcess a.args.process) (heldProcesses ps) processPlaces (length-heldProcesses ps) a.requires.1 in
+    any-inside (is_process a.args.process) (held_processes ps) process_places (length-held_processes ps) a.requires.1 in
     (a.requires.0, (omega (arith, d.find-process.ensures), omega arith))
 
 put-field-requires : tie.Need-put-field-requires
@@ -25,7 +25,7 @@ put-field-requires c κs =
     let a = d.before.before.before in
     let ps = a.args.ps.now in
     let h =
-    any-inside (isProcess a.args.process) (heldProcesses ps) processPlaces (length-heldProcesses ps) a.requires.1 in
+    any-inside (is_process a.args.process) (held_processes ps) process_places (length-held_processes ps) a.requires.1 in
     (a.requires.0, (omega (arith, d.find-process.ensures), omega arith))
 
 returns : tie.Need-returns

@@ -1,11 +1,11 @@
 -- `change_thread_marks` meets its contract. Assumes nothing.
 use native.Mathlib.Omega.{arith}
 use borrow.Author.Rules.{rules}
-use Rattle.limits.specs.Limits.{threadPlaces}
+use Rattle.limits.specs.Limits.{thread_places}
 use Rattle.lists.proofs.Finds.{any-inside}
-use Rattle.rules.specs.View.{isThread}
-use Rattle.tables.specs.Tables.{heldThreads}
-use Rattle.tables.proofs.Words.{length-heldThreads}
+use Rattle.rules.specs.View.{is_thread}
+use Rattle.tables.specs.Tables.{held_threads}
+use Rattle.tables.proofs.Words.{length-held_threads}
 use Rattle.effects.proofs.Marks.{thread-marks-changed}
 use Rattle.effects.proofs.change_thread_marks.Statement.{statement}
 use Rattle.effects.proofs.change_thread_marks.Tie as tie
@@ -15,7 +15,7 @@ thread-field-at-requires c κs =
     let d = c.before in
     let a = d.before.before.before in
     let ts = a.args.ts.now in
-    let h = any-inside (isThread a.args.thread) (heldThreads ts) threadPlaces (length-heldThreads ts) a.requires.1 in
+    let h = any-inside (is_thread a.args.thread) (held_threads ts) thread_places (length-held_threads ts) a.requires.1 in
     (a.requires.0, (omega (arith, d.find-thread.ensures), omega arith))
 
 put-thread-field-requires : tie.Need-put-thread-field-requires
@@ -23,7 +23,7 @@ put-thread-field-requires c κs =
     let d = c.before.before.before.before in
     let a = d.before.before.before in
     let ts = a.args.ts.now in
-    let h = any-inside (isThread a.args.thread) (heldThreads ts) threadPlaces (length-heldThreads ts) a.requires.1 in
+    let h = any-inside (is_thread a.args.thread) (held_threads ts) thread_places (length-held_threads ts) a.requires.1 in
     (a.requires.0, (omega (arith, d.find-thread.ensures), omega arith))
 
 returns : tie.Need-returns

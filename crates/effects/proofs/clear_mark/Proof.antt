@@ -2,7 +2,7 @@
 use mathlib.Core.Path.{refl}
 use borrow.Author.Rules.{rules}
 use borrow.Author.Tests.{ne_eqb}
-use Rattle.rules.specs.View.{targetQueue}
+use Rattle.rules.specs.View.{target_queue}
 use Rattle.rules.proofs.Queues.{target-process, target-thread, queue-target}
 use Rattle.sound.specs.Lent.{view_of, given}
 use Rattle.sound.proofs.Facts.{processes-long, threads-long, process-listed, thread-listed}
@@ -22,7 +22,7 @@ change-process-marks-requires c κs =
       processes-long l a.requires.sound,
       process-listed l n
           (target-process v n t
-          (queue-target v n t (unmark-queue v (targetQueue n t) a.args.signal (fits_one a.requires)))),
+          (queue-target v n t (unmark-queue v (target_queue n t) a.args.signal (fits_one a.requires)))),
     )
 
 change-thread-marks-requires : tie.Need-change-thread-marks-requires
@@ -35,7 +35,7 @@ change-thread-marks-requires c κs =
       threads-long l a.requires.sound,
       thread-listed l t
           (target-thread v n t
-          (queue-target v n t (unmark-queue v (targetQueue n t) a.args.signal (fits_one a.requires)))
+          (queue-target v n t (unmark-queue v (target_queue n t) a.args.signal (fits_one a.requires)))
           (ne_eqb t 0 c.before.if1.false)),
     )
 

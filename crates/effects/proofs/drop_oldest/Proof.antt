@@ -2,7 +2,7 @@
 use mathlib.Core.Path.{refl}
 use borrow.Author.Rules.{rules}
 use borrow.Author.Tests.{eq-eqb, ne_eqb}
-use Rattle.rules.specs.View.{targetQueue}
+use Rattle.rules.specs.View.{target_queue}
 use Rattle.sound.specs.Lent.{given}
 use Rattle.sound.proofs.Facts.{thread-buffer-long, process-buffer-long, thread-buffer-laid, process-buffer-laid}
 use Rattle.effects.proofs.Makes.{fits_one, makes}
@@ -21,7 +21,7 @@ remove-requires c κs =
     let i = d.before.before in
     let a = i.before.before.before.before.before in
     let l = given a.args.ps a.args.ts a.args.tb a.args.pb in
-    let q = targetQueue a.args.process a.args.thread in (
+    let q = target_queue a.args.process a.args.thread in (
       process-buffer-laid l a.requires.sound,
       oldest-process l q a.args.signal d.first_of.result (fits_one a.requires)
           (eq-eqb a.args.thread 0 i.if1.true) d.first_of.ensures,
@@ -38,7 +38,7 @@ remove-requires-2 c κs =
     let i = d.before.before in
     let a = i.before.before.before.before.before in
     let l = given a.args.ps a.args.ts a.args.tb a.args.pb in
-    let q = targetQueue a.args.process a.args.thread in (
+    let q = target_queue a.args.process a.args.thread in (
       thread-buffer-laid l a.requires.sound,
       oldest-thread l q a.args.signal d.first-of2.result (fits_one a.requires)
           (ne_eqb a.args.thread 0 i.if1.false) d.first-of2.ensures,
@@ -51,7 +51,7 @@ returns c =
     let i = d.before.before in
     let a = i.before.before.before.before.before in
     let l = given a.args.ps a.args.ts a.args.tb a.args.pb in
-    let q = targetQueue a.args.process a.args.thread in
+    let q = target_queue a.args.process a.args.thread in
     let s = a.args.signal in
     let pb' = w.remove.new.0 in
     makes a.requires refl refl refl (search rules)
@@ -65,7 +65,7 @@ returns-2 c =
     let i = d.before.before in
     let a = i.before.before.before.before.before in
     let l = given a.args.ps a.args.ts a.args.tb a.args.pb in
-    let q = targetQueue a.args.process a.args.thread in
+    let q = target_queue a.args.process a.args.thread in
     let s = a.args.signal in
     let tb' = w.remove2.new.0 in
     makes a.requires refl refl (search rules) refl

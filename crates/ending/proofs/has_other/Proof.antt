@@ -6,32 +6,32 @@ use mathlib.Core.List.{[]}
 use borrow.Author.Rules.{rules}
 use native.Mathlib.Omega.{arith}
 use lib.ListN.{length, take}
-use Rattle.limits.specs.Limits.{threadPlaces}
+use Rattle.limits.specs.Limits.{thread_places}
 use Rattle.lists.specs.Lists.{any}
 use Rattle.lists.proofs.Loops.{any_none, any-more, any_here, any-done}
-use Rattle.rules.specs.Types.{noThread}
-use Rattle.tables.specs.Tables.{heldThreads}
-use Rattle.tables.proofs.Words.{length-heldThreads}
-use Rattle.ending.specs.Others.{isOther}
+use Rattle.rules.specs.Types.{no_thread}
+use Rattle.tables.specs.Tables.{held_threads}
+use Rattle.tables.proofs.Words.{length-held_threads}
+use Rattle.ending.specs.Others.{is_other}
 use Rattle.ending.proofs.has_other.Statement.{statement}
 use Rattle.ending.proofs.has_other.Tie as tie
 
 abbrev invariant-loop : tie.invariant-loop
-invariant-loop ts process thread i₀ i = (i ≤ threadPlaces) × (any (isOther process thread) (take i (heldThreads ts)) ≡ false)
+invariant-loop ts process thread i₀ i = (i ≤ thread_places) × (any (is_other process thread) (take i (held_threads ts)) ≡ false)
 
 abbrev decreases-loop : tie.decreases-loop
-decreases-loop ts process thread i₀ i = threadPlaces - i
+decreases-loop ts process thread i₀ i = thread_places - i
 
 loop-holds : tie.Need-loop-init invariant-loop decreases-loop
-loop-holds c = (search rules, any_none (isOther c.before.args.process c.before.args.thread) noThread [])
+loop-holds c = (search rules, any_none (is_other c.before.args.process c.before.args.thread) no_thread [])
 
 returns : tie.Need-returns invariant-loop decreases-loop
 returns c =
     let o = c.before in
     let a = o.before.before.before.before in
     let i = o.before.before.loop.i in
-    let h : i < length (heldThreads a.args.ts.now) = rw (length-heldThreads a.args.ts.now) (omega arith) in
-    sym (any_here (isOther a.args.process a.args.thread) noThread (heldThreads a.args.ts.now) i h
+    let h : i < length (held_threads a.args.ts.now) = rw (length-held_threads a.args.ts.now) (omega arith) in
+    sym (any_here (is_other a.args.process a.args.thread) no_thread (held_threads a.args.ts.now) i h
     (sym o.is-other.ensures ∙ c.if1.true))
 
 loop-again : tie.Need-loop-preserved invariant-loop decreases-loop
@@ -39,9 +39,9 @@ loop-again c =
     let o = c.before in
     let a = o.before.before.before.before in
     let i = o.before.before.loop.i in
-    let h : i < length (heldThreads a.args.ts.now) = rw (length-heldThreads a.args.ts.now) (omega arith) in (
+    let h : i < length (held_threads a.args.ts.now) = rw (length-held_threads a.args.ts.now) (omega arith) in (
       omega arith,
-      any-more (isOther a.args.process a.args.thread) noThread (heldThreads a.args.ts.now) i h
+      any-more (is_other a.args.process a.args.thread) no_thread (held_threads a.args.ts.now) i h
           o.before.before.loop.invariant.1
           (sym o.is-other.ensures ∙ c.if1.false),
     )
@@ -49,9 +49,9 @@ loop-again c =
 returns-2 : tie.Need-returns-2 invariant-loop decreases-loop
 returns-2 c =
     let a = c.before.before.before in
-    sym (any-done (isOther a.args.process a.args.thread) noThread (heldThreads a.args.ts.now)
+    sym (any-done (is_other a.args.process a.args.thread) no_thread (held_threads a.args.ts.now)
     c.before.loop.i
-    (rw (length-heldThreads a.args.ts.now) (omega arith)) c.before.loop.invariant.1)
+    (rw (length-held_threads a.args.ts.now) (omega arith)) c.before.loop.invariant.1)
 
 pub has-other-spec : {M : Type 1} → statement M
 has-other-spec =

@@ -7,22 +7,22 @@ use borrow.Author.Tests.{eq-eqb, ne_eqb}
 use lib.ListN.{drop}
 use Rattle.lists.specs.Lists.{find}
 use Rattle.lists.proofs.Loops.{find_none, find-more, find-here, find-done}
-use Rattle.hints.specs.Hints.{ids_of, isId}
-use Rattle.hints.proofs.Table.{in_table, length-idsOf, id-test}
+use Rattle.hints.specs.Hints.{ids_of, is_id}
+use Rattle.hints.proofs.Table.{in_table, length-ids_of, id-test}
 use Rattle.hints.proofs.search.Statement.{statement}
 use Rattle.hints.proofs.search.Tie as tie
 
 abbrev invariant-loop : tie.invariant-loop
 invariant-loop ws width places id i₀ i =
     (i ≤ places)
-    × (find (isId id) (ids_of width places ws) ≡ i + find (isId id) (drop i (ids_of width places ws)))
+    × (find (is_id id) (ids_of width places ws) ≡ i + find (is_id id) (drop i (ids_of width places ws)))
 
 abbrev decreases-loop : tie.decreases-loop
 decreases-loop ws width places id i₀ i = places - i
 
 loop-holds : tie.Need-loop-init invariant-loop decreases-loop
 loop-holds c =
-    let a = c.args in (search rules, find_none (isId a.id) 0 (ids_of a.width a.places a.ws.now))
+    let a = c.args in (search rules, find_none (is_id a.id) 0 (ids_of a.width a.places a.ws.now))
 
 mul-if1 : tie.Need-overflow-mul-if1 invariant-loop decreases-loop
 mul-if1 c =
@@ -44,8 +44,8 @@ returns c =
     let l = c.before.before.before in
     let a = l.before.args in
     let ids = ids_of a.width a.places a.ws.now in
-    let long = length-idsOf a.width a.places a.ws.now in
-    sym (find-here (isId a.id) 0 ids l.loop.i (omega arith) l.loop.invariant.1
+    let long = length-ids_of a.width a.places a.ws.now in
+    sym (find-here (is_id a.id) 0 ids l.loop.i (omega arith) l.loop.invariant.1
     (id-test a.width a.places a.ws.now l.loop.i (omega arith) (omega arith) a.id (omega arith)
     ∙ eq-eqb _ _ c.if1.true))
 
@@ -54,9 +54,9 @@ loop-again c =
     let l = c.before.before.before in
     let a = l.before.args in
     let ids = ids_of a.width a.places a.ws.now in
-    let long = length-idsOf a.width a.places a.ws.now in (
+    let long = length-ids_of a.width a.places a.ws.now in (
       omega arith,
-      find-more (isId a.id) 0 ids l.loop.i (omega arith) l.loop.invariant.1
+      find-more (is_id a.id) 0 ids l.loop.i (omega arith) l.loop.invariant.1
           (id-test a.width a.places a.ws.now l.loop.i (omega arith) (omega arith) a.id (omega arith)
           ∙ ne_eqb _ _ c.if1.false),
     )
@@ -65,8 +65,8 @@ returns-2 : tie.Need-returns-2 invariant-loop decreases-loop
 returns-2 c =
     let l = c.before in
     let a = l.before.args in
-    let long = length-idsOf a.width a.places a.ws.now in
-    sym (find-done (isId a.id) 0 (ids_of a.width a.places a.ws.now) l.loop.i (omega arith)
+    let long = length-ids_of a.width a.places a.ws.now in
+    sym (find-done (is_id a.id) 0 (ids_of a.width a.places a.ws.now) l.loop.i (omega arith)
     l.loop.invariant.1)
 
 pub search-spec : {M : Type 1} → statement M

@@ -2,10 +2,10 @@
 use mathlib.Core.Path.{◌≡◌, sym, ◌∙◌}
 use mathlib.Core.Bool.{true}
 use native.Mathlib.Omega.{arith}
-use Rattle.rules.specs.View.{belongsTo}
+use Rattle.rules.specs.View.{belongs_to}
 use Rattle.sound.specs.Lent.{view_of, given}
 use Rattle.sound.proofs.Facts.{threads-long}
-use Rattle.looking.proofs.Takers.{threadIn, id-read, owner-read, owned, nobody-takes, other-takes, id-live}
+use Rattle.looking.proofs.Takers.{thread_in, id-read, owner-read, owned, nobody-takes, other-takes, id-live}
 use Rattle.looking.proofs.Takers.{id-small, id-takes}
 use Rattle.looking.proofs.can_take.Statement.{statement}
 use Rattle.looking.proofs.can_take.Tie as tie
@@ -14,7 +14,7 @@ returns : tie.Need-returns
 returns c =
     let a = c.before.before.before.before.before in
     nobody-takes (view_of (given a.args.ps a.args.ts a.args.tb a.args.pb)) a.args.process
-    (threadIn a.args.ts.now a.args.place) c.if1.true
+    (thread_in a.args.ts.now a.args.place) c.if1.true
 
 thread-field-at-requires : tie.Need-thread-field-at-requires
 thread-field-at-requires c κs =
@@ -28,18 +28,18 @@ returns-2 c =
     owner-read a.args.ts.now a.args.place c.before.thread-field-at.result
     c.before.thread-field-at.ensures in
     other-takes (view_of (given a.args.ps a.args.ts a.args.tb a.args.pb)) a.args.process
-    (threadIn a.args.ts.now a.args.place) (λ z. c.if2.true (o ∙ z))
+    (thread_in a.args.ts.now a.args.place) (λ z. c.if2.true (o ∙ z))
 
 -- past both tests the thread is of the process
-is-own : (c : tie.Else2) → belongsTo c.before.before.before.before.before.before.before.args.process
-    (threadIn c.before.before.before.before.before.before.before.args.ts.now
+is-own : (c : tie.Else2) → belongs_to c.before.before.before.before.before.before.before.args.process
+    (thread_in c.before.before.before.before.before.before.before.args.ts.now
     c.before.before.before.before.before.before.before.args.place) ≡ true
 is-own c =
     let a = c.before.before.before.before.before.before.before in
     let o =
     owner-read a.args.ts.now a.args.place c.before.thread-field-at.result
     c.before.thread-field-at.ensures in
-    owned a.args.process (threadIn a.args.ts.now a.args.place) c.before.before.if1.false
+    owned a.args.process (thread_in a.args.ts.now a.args.place) c.before.before.if1.false
     (sym o ∙ c.if2.false)
 
 thread-field-at-requires-2 : tie.Need-thread-field-at-requires-2

@@ -2,7 +2,7 @@
 use mathlib.Core.Path.{◌∙◌}
 use borrow.Author.Rules.{rules}
 use Rattle.sound.specs.Lent.{given}
-use Rattle.looking.specs.Looks.{lookBytes}
+use Rattle.looking.specs.Looks.{look_bytes}
 use Rattle.looking.proofs.Slots.{Told, told}
 use Rattle.looking.proofs.look_part.Statement.{statement}
 use Rattle.looking.proofs.look_part.Tie as tie
@@ -12,7 +12,7 @@ told_here : (c : tie.After-look-slot) → Told
     (given c.before.before.before.before.before.args.ps c.before.before.before.before.before.args.ts
     c.before.before.before.before.before.args.tb c.before.before.before.before.before.args.pb)
     c.look-slot.result
-    (lookBytes c.before.before.before.before.before.args.thread
+    (look_bytes c.before.before.before.before.before.args.thread
     (given c.before.before.before.before.before.args.ps c.before.before.before.before.before.args.ts
     c.before.before.before.before.before.args.tb c.before.before.before.before.before.args.pb))
 told_here c =

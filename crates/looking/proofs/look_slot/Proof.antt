@@ -3,7 +3,7 @@ use mathlib.Core.Path.{◌≡◌}
 use mathlib.Core.Bool.{true}
 use native.Mathlib.Omega.{arith}
 use borrow.Author.Rules.{rules}
-use Rattle.sound.specs.Lent.{soundTables, given}
+use Rattle.sound.specs.Lent.{sound_tables, given}
 use Rattle.sound.proofs.Facts.{thread-buffer-long, process-buffer-long}
 use Rattle.looking.proofs.Looks.{look-with, found-small, slot-refused, slot-nothing, slot-mark}
 use Rattle.looking.proofs.Looks.{slot-shared, slot-own}
@@ -11,7 +11,7 @@ use Rattle.looking.proofs.look_slot.Statement.{statement}
 use Rattle.looking.proofs.look_slot.Tie as tie
 
 -- past the refusal the tables are sound
-sound-here : (c : tie.Else1) → soundTables (given c.before.before.before.before.before.before.args.ps
+sound-here : (c : tie.Else1) → sound_tables (given c.before.before.before.before.before.before.args.ps
     c.before.before.before.before.before.before.args.ts
     c.before.before.before.before.before.before.args.tb
     c.before.before.before.before.before.before.args.pb) ≡ true

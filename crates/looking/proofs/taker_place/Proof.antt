@@ -4,33 +4,33 @@ use Prim.Native.Nat.{◌+◌, ◌-◌, ◌≤◌}
 use native.Mathlib.Omega.{arith}
 use borrow.Author.Rules.{rules}
 use lib.ListN.{drop}
-use Rattle.limits.specs.Limits.{threadPlaces}
+use Rattle.limits.specs.Limits.{thread_places}
 use Rattle.lists.specs.Lists.{find}
 use Rattle.lists.proofs.Loops.{find_none, find-more, find-here, find-done}
-use Rattle.rules.specs.Types.{noThread}
-use Rattle.rules.specs.Taking.{canTakeSome}
-use Rattle.tables.specs.Tables.{heldThreads}
-use Rattle.tables.proofs.Words.{length-heldThreads}
+use Rattle.rules.specs.Types.{no_thread}
+use Rattle.rules.specs.Taking.{can_take_some}
+use Rattle.tables.specs.Tables.{held_threads}
+use Rattle.tables.proofs.Words.{length-held_threads}
 use Rattle.sound.specs.Lent.{lent, view_of, given}
 use Rattle.looking.proofs.taker_place.Statement.{statement}
 use Rattle.looking.proofs.taker_place.Tie as tie
 
 abbrev invariant-loop : tie.invariant-loop
 invariant-loop ps ts tb pb process i₀ i =
-    (i ≤ threadPlaces)
-    × (find (canTakeSome (view_of (lent ps ts tb pb)) process) (heldThreads ts)
-    ≡ i + find (canTakeSome (view_of (lent ps ts tb pb)) process) (drop i (heldThreads ts)))
+    (i ≤ thread_places)
+    × (find (can_take_some (view_of (lent ps ts tb pb)) process) (held_threads ts)
+    ≡ i + find (can_take_some (view_of (lent ps ts tb pb)) process) (drop i (held_threads ts)))
 
 abbrev decreases-loop : tie.decreases-loop
-decreases-loop ps ts tb pb process i₀ i = threadPlaces - i
+decreases-loop ps ts tb pb process i₀ i = thread_places - i
 
 loop-holds : tie.Need-loop-init invariant-loop decreases-loop
 loop-holds c =
     let a = c.before.before.before.before in (
       omega arith,
       find_none
-          (canTakeSome (view_of (given a.args.ps a.args.ts a.args.tb a.args.pb)) a.args.process)
-          noThread (heldThreads a.args.ts.now),
+          (can_take_some (view_of (given a.args.ps a.args.ts a.args.tb a.args.pb)) a.args.process)
+          no_thread (held_threads a.args.ts.now),
     )
 
 can-take-requires : tie.Need-can-take-requires invariant-loop decreases-loop
@@ -41,9 +41,9 @@ returns c =
     let l = c.before.before.before in
     let a = l.before.before.before.before.before in
     sym (find-here
-    (canTakeSome (view_of (given a.args.ps a.args.ts a.args.tb a.args.pb)) a.args.process) noThread
-    (heldThreads a.args.ts.now) l.loop.i
-    (rw length-heldThreads (omega arith)) l.loop.invariant.1 (sym c.before.can-take.ensures ∙ c.if1.true))
+    (can_take_some (view_of (given a.args.ps a.args.ts a.args.tb a.args.pb)) a.args.process) no_thread
+    (held_threads a.args.ts.now) l.loop.i
+    (rw length-held_threads (omega arith)) l.loop.invariant.1 (sym c.before.can-take.ensures ∙ c.if1.true))
 
 loop-again : tie.Need-loop-preserved invariant-loop decreases-loop
 loop-again c =
@@ -51,9 +51,9 @@ loop-again c =
     let a = l.before.before.before.before.before in (
       omega arith,
       find-more
-          (canTakeSome (view_of (given a.args.ps a.args.ts a.args.tb a.args.pb)) a.args.process)
-          noThread (heldThreads a.args.ts.now) l.loop.i
-          (rw length-heldThreads (omega arith)) l.loop.invariant.1 (sym c.before.can-take.ensures ∙ c.if1.false),
+          (can_take_some (view_of (given a.args.ps a.args.ts a.args.tb a.args.pb)) a.args.process)
+          no_thread (held_threads a.args.ts.now) l.loop.i
+          (rw length-held_threads (omega arith)) l.loop.invariant.1 (sym c.before.can-take.ensures ∙ c.if1.false),
     )
 
 returns-2 : tie.Need-returns-2 invariant-loop decreases-loop
@@ -61,9 +61,9 @@ returns-2 c =
     let l = c.before in
     let a = l.before.before.before.before.before in
     sym (find-done
-    (canTakeSome (view_of (given a.args.ps a.args.ts a.args.tb a.args.pb)) a.args.process) noThread
-    (heldThreads a.args.ts.now) l.loop.i
-    (rw length-heldThreads (omega arith)) l.loop.invariant.1)
+    (can_take_some (view_of (given a.args.ps a.args.ts a.args.tb a.args.pb)) a.args.process) no_thread
+    (held_threads a.args.ts.now) l.loop.i
+    (rw length-held_threads (omega arith)) l.loop.invariant.1)
 
 pub taker-place-spec : {M : Type 1} → statement M
 taker-place-spec =

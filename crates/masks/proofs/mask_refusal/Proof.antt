@@ -4,7 +4,7 @@ use borrow.Author.Tests.{not-true, not-false}
 use Rattle.sound.proofs.Facts.{threads-long}
 use Rattle.sound.specs.Lent.{given}
 use Rattle.view.proofs.Live.{no-thread}
-use Rattle.masks.specs.Given.{newSet}
+use Rattle.masks.specs.Given.{new_set}
 use Rattle.masks.proofs.Masks.{mask-fault, mask-bad, mask-gone, mask-none}
 use borrow.Author.Rules.{rules}
 use Rattle.masks.proofs.mask_refusal.Statement.{statement}
@@ -14,7 +14,7 @@ returns : tie.Need-returns
 returns c =
     let a = c.before.before.before.before.before.before in
     let l = given a.args.ps a.args.ts a.args.tb a.args.pb in
-    mask-fault l a.args.thread a.args.way (newSet a.args.set)
+    mask-fault l a.args.thread a.args.way (new_set a.args.set)
     (sym c.before.sound.ensures ∙ not-true c.before.sound.result c.if1.true)
 
 returns-2 : tie.Need-returns-2
@@ -24,7 +24,7 @@ returns-2 c =
     let e =
     sym c.before.before.before.sound.ensures
     ∙ not-false c.before.before.before.sound.result c.before.before.if1.false in
-    mask-bad l a.args.thread a.args.way (newSet a.args.set) e
+    mask-bad l a.args.thread a.args.way (new_set a.args.set) e
     (sym c.before.is-bad-way.ensures ∙ c.if2.true)
 
 is-thread-requires : tie.Need-is-thread-requires
@@ -45,7 +45,7 @@ returns-3 c =
     c.before.before.before.before.if1.false in
     let b = sym c.before.before.before.is-bad-way.ensures ∙ c.before.before.if2.false in
     let g = no-thread l a.args.thread c.before.is-thread.result c.before.is-thread.ensures in
-    mask-gone l a.args.thread a.args.way (newSet a.args.set) e b (g ∙ c.if3.true)
+    mask-gone l a.args.thread a.args.way (new_set a.args.set) e b (g ∙ c.if3.true)
 
 returns-4 : tie.Need-returns-4
 returns-4 c =
@@ -57,7 +57,7 @@ returns-4 c =
     c.before.before.before.before.if1.false in
     let b = sym c.before.before.before.is-bad-way.ensures ∙ c.before.before.if2.false in
     let g = no-thread l a.args.thread c.before.is-thread.result c.before.is-thread.ensures in
-    mask-none l a.args.thread a.args.way (newSet a.args.set) e b (g ∙ c.if3.false)
+    mask-none l a.args.thread a.args.way (new_set a.args.set) e b (g ∙ c.if3.false)
 
 pub mask-refusal-spec : {M : Type 1} → statement M
 mask-refusal-spec =

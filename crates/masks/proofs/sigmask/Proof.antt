@@ -6,7 +6,7 @@ use Rattle.rules.specs.Types.{sigmask}
 use Rattle.sound.proofs.Facts.{threads-long, thread-listed}
 use Rattle.sound.specs.Lent.{lent, given}
 use Rattle.answers.proofs.Endings.{refused-ends}
-use Rattle.masks.specs.Given.{newSet}
+use Rattle.masks.specs.Given.{new_set}
 use Rattle.masks.proofs.Masks.{mask-sound, mask-live, mask-kept, mask-ready, mask-stored}
 use borrow.Author.Rules.{rules}
 use Rattle.masks.proofs.sigmask.Statement.{statement}
@@ -18,7 +18,7 @@ returns c =
     let l = given a.args.ps a.args.ts a.args.tb a.args.pb in
     let t = a.args.thread in
     let way = a.args.way in
-    let set = newSet a.args.set in
+    let set = new_set a.args.set in
     let n = c.before.mask-refusal.result in
     let e = c.before.mask-refusal.ensures in
     refused-ends (sigmask t way set) l n e c.if1.true
@@ -29,18 +29,18 @@ mask-of-requires c κs =
     let l = given a.args.ps a.args.ts a.args.tb a.args.pb in
     let t = a.args.thread in
     let way = a.args.way in
-    let set = newSet a.args.set in
+    let set = new_set a.args.set in
     let e = sym c.before.before.mask-refusal.ensures ∙ c.before.if1.false in
     (threads-long l (mask-sound l t way set e), thread-listed l t (mask-live l t way set e))
 
 set-mask-requires : tie.Need-set-mask-requires
-unfolding newSet
+unfolding new_set
 set-mask-requires c κs =
     let a = c.before.before.before.before.before.before.before.before.before.before.before.before.before.before.before.before.before.before.before.before in
     let l = given a.args.ps a.args.ts a.args.tb a.args.pb in
     let t = a.args.thread in
     let way = a.args.way in
-    let set = newSet a.args.set in
+    let set = new_set a.args.set in
     let e =
     sym
     c.before.before.before.before.before.before.before.before.before.before.before.mask-refusal.ensures
@@ -48,30 +48,30 @@ set-mask-requires c κs =
     let o = c.before.before.before.before.before.before.before.before in
     mask-ready l t way set e o.mask-of.result o.mask-of.ensures
     c.before.before.before.before.before.before.set.given.0.0 c.mask-after.result
-    (ap newSet c.before.before.before.before.before.before.set.given.1) c.mask-after.ensures
+    (ap new_set c.before.before.before.before.before.before.set.given.1) c.mask-after.ensures
 
 returns-2 : tie.Need-returns-2
-unfolding newSet
+unfolding new_set
 returns-2 c =
     let a =
     c.before.before.before.before.before.before.before.before.before.before.before.before.before.before in
     let l = given a.args.ps a.args.ts a.args.tb a.args.pb in
     let t = a.args.thread in
     let way = a.args.way in
-    let set = newSet a.args.set in
+    let set = new_set a.args.set in
     let e =
     sym c.before.before.before.before.before.mask-refusal.ensures
     ∙ c.before.before.before.before.if1.false in
     mask-kept l t way set e c.before.before.mask-of.result c.before.before.mask-of.ensures
-    (ap newSet c.enum_told.given.1) (bytes-each l.threadBuffer (λ i. omega (
+    (ap new_set c.enum_told.given.1) (bytes-each l.thread_buffer (λ i. omega (
       arith,
       c.before.before.before.before.before.before.before.before.before.before.before.slice-known3.given i,
     )))
-    (bytes-each l.processBuffer (λ i. omega
+    (bytes-each l.process_buffer (λ i. omega
     (arith, c.before.before.before.before.before.before.before.before.before.before.slice-known4.given i)))
 
 returns-3 : tie.Need-returns-3
-unfolding newSet
+unfolding new_set
 returns-3 c =
     let w = c.before.before in
     let o = c.before.before.before.before.before.before.before.before.before.before.before in
@@ -79,20 +79,20 @@ returns-3 c =
     let l = given a.args.ps a.args.ts a.args.tb a.args.pb in
     let t = a.args.thread in
     let way = a.args.way in
-    let set = newSet a.args.set in
+    let set = new_set a.args.set in
     let e = sym c.before.before.before.before.before.before.before.before.before.before.before.before.before.before.mask-refusal.ensures
     ∙ c.before.before.before.before.before.before.before.before.before.before.before.before.before.if1.false in
     mask-stored l t way set e o.mask-of.result o.mask-of.ensures
     c.before.before.before.before.before.before.before.before.before.set.given.0.0
     c.before.before.before.mask-after.result
-    (ap newSet c.before.before.before.before.before.before.before.before.before.set.given.1)
+    (ap new_set c.before.before.before.before.before.before.before.before.before.set.given.1)
     c.before.before.before.mask-after.ensures
-    (lent l.processes w.set-mask.new.1.0 l.threadBuffer l.processBuffer)
-    (record { processes = refl; threads = search rules; threadBuffer = refl; processBuffer = refl })
-    (bytes-each l.threadBuffer (λ i. omega (
+    (lent l.processes w.set-mask.new.1.0 l.thread_buffer l.process_buffer)
+    (record { processes = refl; threads = search rules; thread_buffer = refl; process_buffer = refl })
+    (bytes-each l.thread_buffer (λ i. omega (
       arith,
       c.before.before.before.before.before.before.before.before.before.before.before.before.before.before.before.before.before.before.before.before.slice-known3.given i,
-    ))) (bytes-each l.processBuffer (λ i. omega (
+    ))) (bytes-each l.process_buffer (λ i. omega (
       arith,
       c.before.before.before.before.before.before.before.before.before.before.before.before.before.before.before.before.before.before.before.slice-known4.given i,
     )))

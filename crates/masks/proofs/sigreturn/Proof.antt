@@ -1,14 +1,14 @@
 -- `sigreturn` meets its contract: it is sigmask with way 2. Assumes nothing.
 use mathlib.Core.Path.{◌∙◌}
 use Rattle.sound.specs.Lent.{given}
-use Rattle.masks.specs.Given.{newSet}
+use Rattle.masks.specs.Given.{new_set}
 use Rattle.masks.proofs.Masks.{return-is}
 use borrow.Author.Rules.{rules}
 use Rattle.masks.proofs.sigreturn.Statement.{statement}
 use Rattle.masks.proofs.sigreturn.Tie as tie
 
 returns : tie.Need-returns
-unfolding newSet
+unfolding new_set
 returns c =
     let w = c.before.before.before.before.before.before.before.before in
     let a = c.before.before.before.before.before.before.before.before.before.before.before.before.before.before.before.before.before in

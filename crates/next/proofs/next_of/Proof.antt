@@ -2,7 +2,7 @@
 use borrow.Author.Rules.{rules}
 use Rattle.next.proofs.next_of.Statement.{statement}
 use Rattle.next.proofs.next_of.Tie as tie
-use Rattle.rules.specs.View.{theThread}
+use Rattle.rules.specs.View.{the_thread}
 use Rattle.sound.specs.Lent.{view_of, given}
 use Rattle.sound.proofs.Facts.{threads-long, thread-buffer-long, process-buffer-long, thread-listed}
 use Rattle.view.proofs.Live.{owner-good, own-queue}
@@ -12,7 +12,7 @@ returns : tie.Need-returns
 returns c =
     let a = c.before.before.before.before.before.before in
     nothing-next (view_of (given a.args.ps a.args.ts a.args.tb a.args.pb))
-    (theThread (view_of (given a.args.ps a.args.ts a.args.tb a.args.pb)) a.args.thread)
+    (the_thread (view_of (given a.args.ps a.args.ts a.args.tb a.args.pb)) a.args.thread)
     c.before.next-signal.result c.before.next-signal.ensures c.if1.true
 
 process-of-requires : tie.Need-process-of-requires

@@ -2,7 +2,7 @@ use Prim.Native.Nat.{◌+◌, ◌-◌, ◌≤◌}
 use mathlib.Core.Path.{◌≡◌, subst}
 use borrow.Author.Rules.{rules}
 use native.Mathlib.Omega.{arith}
-use Rattle.tables.specs.Tables.{processAt}
+use Rattle.tables.specs.Tables.{process_at}
 use Rattle.tables.proofs.Words.{length-actions}
 use Rattle.places.specs.Notes.{block, Gathers}
 use Rattle.places.proofs.Sets.{gathers-more}
@@ -10,7 +10,7 @@ use Rattle.places.proofs.gather_block.Statement.{statement}
 use Rattle.places.proofs.gather_block.Tie as tie
 
 abbrev invariant-loop : tie.invariant-loop
-invariant-loop ps place done h₀ i₀ h i = (i ≤ block) × Gathers (processAt ps place).holds (done + i) h
+invariant-loop ps place done h₀ i₀ h i = (i ≤ block) × Gathers (process_at ps place).holds (done + i) h
 
 abbrev decreases-loop : tie.decreases-loop
 decreases-loop ps place done h₀ i₀ h i = block - i
@@ -19,14 +19,14 @@ loop-holds : tie.Need-loop-init invariant-loop decreases-loop
 loop-holds c =
     let a = c.before.args in
     let e : a.done ≡ a.done + 0 = omega arith in
-    (search rules, subst (λ n. Gathers (processAt a.ps.now a.place).holds n a.g) e c.before.requires.1.1)
+    (search rules, subst (λ n. Gathers (process_at a.ps.now a.place).holds n a.g) e c.before.requires.1.1)
 
 loop-again : tie.Need-loop-preserved invariant-loop decreases-loop
 loop-again c =
     let l = c.before.before.before in
     let f = l.before.before in
     let a = f.args in
-    let p = (processAt a.ps.now a.place).holds in
+    let p = (process_at a.ps.now a.place).holds in
     let long = length-actions a.ps.now a.place f.requires.0.1 in
     let e : a.done + l.loop.i + 1 ≡ a.done + (l.loop.i + 1) = omega arith in (
       omega arith,
@@ -40,7 +40,7 @@ returns c =
     let l = c.before.loop in
     let a = c.before.before.before.args in
     let e : l.i ≡ block = omega arith in
-    subst (λ i. Gathers (processAt a.ps.now a.place).holds (a.done + i) l.h) e l.invariant.1
+    subst (λ i. Gathers (process_at a.ps.now a.place).holds (a.done + i) l.h) e l.invariant.1
 
 pub gather-block-spec : {M : Type 1} → statement M
 gather-block-spec =

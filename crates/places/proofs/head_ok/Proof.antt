@@ -1,12 +1,12 @@
-use Rattle.rules.specs.Sound.{fieldsFit}
-use Rattle.tables.specs.Tables.{headTo}
-use Rattle.soundness.specs.Check.{headOk}
+use Rattle.rules.specs.Sound.{fields_fit}
+use Rattle.tables.specs.Tables.{head_to}
+use Rattle.soundness.specs.Check.{head_ok}
 use borrow.Author.Rules.{rules}
 use Rattle.places.proofs.head_ok.Statement.{statement}
 use Rattle.places.proofs.head_ok.Tie as tie
 
 returns : tie.Need-returns
-unfolding headOk fieldsFit headTo
+unfolding head_ok fields_fit head_to
 returns c =
     rw (
       c.is-unmasked.ensures,

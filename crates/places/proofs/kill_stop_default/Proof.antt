@@ -1,10 +1,10 @@
-use Rattle.rules.specs.Sound.{killStopDefault}
+use Rattle.rules.specs.Sound.{kill_stop_default}
 use borrow.Author.Rules.{rules}
 use Rattle.places.proofs.kill_stop_default.Statement.{statement}
 use Rattle.places.proofs.kill_stop_default.Tie as tie
 
 returns : tie.Need-returns
-unfolding killStopDefault
+unfolding kill_stop_default
 returns c =
     rw (
       c.is-default2.ensures,

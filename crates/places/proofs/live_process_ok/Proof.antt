@@ -3,22 +3,22 @@ use mathlib.Core.Bool.{◌&&◌}
 use borrow.Author.Rules.{rules}
 use lib.Dec.{eqb}
 use Rattle.sigset.specs.Set.{bits}
-use Rattle.tables.specs.Tables.{processAt, headTo}
+use Rattle.tables.specs.Tables.{process_at, head_to}
 use Rattle.tables.proofs.Words.{length-actions}
-use Rattle.soundness.specs.Check.{processBy, disjoint}
+use Rattle.soundness.specs.Check.{process_by, disjoint}
 use Rattle.places.proofs.Sets.{gathered-ok}
 use Rattle.places.proofs.Endings.{live-process}
 use Rattle.places.proofs.live_process_ok.Statement.{statement}
 use Rattle.places.proofs.live_process_ok.Tie as tie
 
 returns : tie.Need-returns
-unfolding headTo
+unfolding head_to
 returns c =
     let f = c.before.before.before.before.before in
     let a = f.before.before.before.before.before.before in
     let ws = a.args.ps.now in
-    let x = processAt ws a.args.place in
-    let find = processBy a.args.hints.now ws in
+    let x = process_at ws a.args.place in
+    let find = process_by a.args.hints.now ws in
     live-process find a.args.place x c.head_ok.ensures
     (ap (λ r. eqb r a.args.place)
     (f.place_of.ensures ∙ ap find f.before.before.field_at.ensures))

@@ -2,8 +2,8 @@
 use native.Mathlib.Omega.{arith}
 use borrow.Author.Rules.{rules}
 use Rattle.siginfo.specs.Bytes.{Fits}
-use Rattle.rules.specs.Store.{onSlots}
-use Rattle.queue.specs.Queue.{recordsOf}
+use Rattle.rules.specs.Store.{on_slots}
+use Rattle.queue.specs.Queue.{records_of}
 use Rattle.queue.proofs.Buffer.{length-laid}
 use Rattle.queue.proofs.Changes.{appended-slots}
 use Rattle.queue.proofs.append.Statement.{statement}
@@ -18,7 +18,7 @@ write-requires c κs =
     omega (arith, length-laid s.args.b.now s.requires.0, s.requires.1, c.before.used.ensures)
 
 returns : tie.Need-returns
-unfolding onSlots recordsOf
+unfolding on_slots records_of
 returns c =
     let u = c.before.before.before.before in
     let s = u.before.before.before in

@@ -5,18 +5,18 @@ use native.Mathlib.Omega.{arith}
 use borrow.Author.Rules.{rules}
 use lib.ListN.{length, set, replicate}
 use lib.Seq.{paste, paste-zero}
-use Rattle.limits.specs.Limits.{bufferBytes}
+use Rattle.limits.specs.Limits.{buffer_bytes}
 use Rattle.lists.proofs.Loops.{clear_step, clear-done}
-use Rattle.types.specs.Values.{noSiginfo}
-use Rattle.siginfo.proofs.Slots.{fits-noSiginfo}
+use Rattle.types.specs.Values.{no_siginfo}
+use Rattle.siginfo.proofs.Slots.{fits-no_siginfo}
 use Rattle.queue.specs.Queue.{slots_of}
-use Rattle.queue.proofs.Buffer.{length-slotsOf, slot-written}
+use Rattle.queue.proofs.Buffer.{length-slots_of, slot-written}
 use Rattle.queue.proofs.clear.Statement.{statement}
 use Rattle.queue.proofs.clear.Tie as tie
 
 abbrev invariant-loop : tie.invariant-loop
 invariant-loop b₀ j n m t₀ b t =
-    (t ≤ n - j) × ((length b ≡ bufferBytes) × (slots_of b ≡ paste (slots_of b₀) j (replicate (n - j) noSiginfo) t))
+    (t ≤ n - j) × ((length b ≡ buffer_bytes) × (slots_of b ≡ paste (slots_of b₀) j (replicate (n - j) no_siginfo) t))
 
 abbrev decreases-loop : tie.decreases-loop
 decreases-loop b₀ j n m t₀ b t = n - j - t
@@ -27,7 +27,7 @@ loop-holds c =
       omega arith,
       (
         omega arith,
-        paste-zero (slots_of s.args.b.now) s.args.j (replicate (s.args.n - s.args.j) noSiginfo),
+        paste-zero (slots_of s.args.b.now) s.args.j (replicate (s.args.n - s.args.j) no_siginfo),
       ),
     )
 
@@ -44,10 +44,10 @@ loop-again c =
       omega arith,
       (
         omega arith,
-        slot-written b (j + t) noSiginfo l.loop.invariant.1.0 (omega arith) fits-noSiginfo w.write.ensures
-            ∙ ap (λ cs. set cs (j + t) noSiginfo) l.loop.invariant.1.1
-            ∙ clear_step noSiginfo (slots_of b₀) j n t w.before.before.loop-test.true
-            (omega (arith, length-slotsOf b₀)),
+        slot-written b (j + t) no_siginfo l.loop.invariant.1.0 (omega arith) fits-no_siginfo w.write.ensures
+            ∙ ap (λ cs. set cs (j + t) no_siginfo) l.loop.invariant.1.1
+            ∙ clear_step no_siginfo (slots_of b₀) j n t w.before.before.loop-test.true
+            (omega (arith, length-slots_of b₀)),
       ),
     )
 
@@ -55,7 +55,7 @@ returns : tie.Need-returns invariant-loop decreases-loop
 returns c =
     let l = c.before in
     let s = l.before.before in
-    l.loop.invariant.1.1 ∙ clear-done noSiginfo (slots_of s.args.b.now) s.args.j s.args.n l.loop.t
+    l.loop.invariant.1.1 ∙ clear-done no_siginfo (slots_of s.args.b.now) s.args.j s.args.n l.loop.t
     (omega arith) s.requires.1.0
 
 pub clear_spec : {M : Type 1} → statement M

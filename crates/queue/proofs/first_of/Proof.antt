@@ -5,22 +5,22 @@ use Prim.Native.Nat.{◌+◌, ◌-◌, ◌≤◌, ◌<◌}
 use native.Mathlib.Omega.{arith}
 use borrow.Author.Rules.{rules}
 use lib.ListN.{length, drop}
-use Rattle.limits.specs.Limits.{bufferRecords}
+use Rattle.limits.specs.Limits.{buffer_records}
 use Rattle.lists.specs.Lists.{find}
 use Rattle.lists.proofs.Loops.{find_none, find-more, find-here, find-done}
-use Rattle.types.specs.Values.{noSiginfo}
-use Rattle.rules.specs.View.{inQueue, targetQueue}
-use Rattle.queue.specs.Queue.{recordsOf}
-use Rattle.queue.proofs.Buffer.{length-recordsOf, record-tested}
+use Rattle.types.specs.Values.{no_siginfo}
+use Rattle.rules.specs.View.{in_queue, target_queue}
+use Rattle.queue.specs.Queue.{records_of}
+use Rattle.queue.proofs.Buffer.{length-records_of, record-tested}
 use Rattle.queue.proofs.first_of.Statement.{statement}
 use Rattle.queue.proofs.first_of.Tie as tie
 
 abbrev invariant-loop : tie.invariant-loop
 invariant-loop b process thread signal n i₀ i =
-    (n ≤ bufferRecords)
+    (n ≤ buffer_records)
     × (i ≤ n)
-    × (find (inQueue (targetQueue process thread) signal) (recordsOf b)
-    ≡ i + find (inQueue (targetQueue process thread) signal) (drop i (recordsOf b)))
+    × (find (in_queue (target_queue process thread) signal) (records_of b)
+    ≡ i + find (in_queue (target_queue process thread) signal) (drop i (records_of b)))
 
 abbrev decreases-loop : tie.decreases-loop
 decreases-loop b process thread signal n i₀ i = n - i
@@ -29,9 +29,9 @@ loop-holds : tie.Need-loop-init invariant-loop decreases-loop
 loop-holds c =
     let s = c.before.before in
     let b = s.args.b.now in (
-      omega (arith, length-recordsOf b),
+      omega (arith, length-records_of b),
       omega arith,
-      find_none (inQueue (targetQueue s.args.process s.args.thread) s.args.signal) noSiginfo (recordsOf b),
+      find_none (in_queue (target_queue s.args.process s.args.thread) s.args.signal) no_siginfo (records_of b),
     )
 
 returns : tie.Need-returns invariant-loop decreases-loop
@@ -39,12 +39,12 @@ returns c =
     let l = c.before.before.before.before in
     let s = l.before.before.before in
     let b = s.args.b.now in
-    let q = inQueue (targetQueue s.args.process s.args.thread) s.args.signal in
+    let q = in_queue (target_queue s.args.process s.args.thread) s.args.signal in
     let i = l.loop.i in
-    let h : i < length (recordsOf b) =
+    let h : i < length (records_of b) =
     omega (arith, c.before.before.before.loop-test.true, l.before.used.ensures) in
     sym
-    (find-here q noSiginfo (recordsOf b) i h l.loop.invariant.2
+    (find-here q no_siginfo (records_of b) i h l.loop.invariant.2
     (record-tested q b i c.before.before.read.ensures c.before.in-queue.ensures h ∙ c.if1.true))
 
 loop-again : tie.Need-loop-preserved invariant-loop decreases-loop
@@ -52,13 +52,13 @@ loop-again c =
     let l = c.before.before.before.before in
     let s = l.before.before.before in
     let b = s.args.b.now in
-    let q = inQueue (targetQueue s.args.process s.args.thread) s.args.signal in
+    let q = in_queue (target_queue s.args.process s.args.thread) s.args.signal in
     let i = l.loop.i in
-    let h : i < length (recordsOf b) =
+    let h : i < length (records_of b) =
     omega (arith, c.before.before.before.loop-test.true, l.before.used.ensures) in (
       omega arith,
       omega arith,
-      find-more q noSiginfo (recordsOf b) i h l.loop.invariant.2
+      find-more q no_siginfo (records_of b) i h l.loop.invariant.2
           (record-tested q b i c.before.before.read.ensures c.before.in-queue.ensures h ∙ c.if1.false),
     )
 
@@ -67,8 +67,8 @@ returns-2 c =
     let l = c.before in
     let s = l.before.before.before in
     sym
-    (find-done (inQueue (targetQueue s.args.process s.args.thread) s.args.signal) noSiginfo
-    (recordsOf s.args.b.now) l.loop.i
+    (find-done (in_queue (target_queue s.args.process s.args.thread) s.args.signal) no_siginfo
+    (records_of s.args.b.now) l.loop.i
     (omega (arith, c.loop-test.false, l.before.used.ensures)) l.loop.invariant.2)
 
 pub first-of-spec : {M : Type 1} → statement M

@@ -1,11 +1,11 @@
 -- `in_use` meets its contract. Assumes nothing.
 use mathlib.Core.Path.{refl}
-use Rattle.rules.specs.Store.{inUse}
+use Rattle.rules.specs.Store.{in_use}
 use Rattle.queue.proofs.in_use.Statement.{statement}
 use Rattle.queue.proofs.in_use.Tie as tie
 
 returns : tie.Need-returns
-unfolding inUse
+unfolding in_use
 returns c = refl
 
 pub in-use-spec : {M : Type 1} → statement M

@@ -6,7 +6,7 @@ use lib.ListN.{drop}
 use Rattle.lists.specs.Lists.{all}
 use Rattle.rules.specs.Sound.{is_zero}
 use Rattle.queue.specs.Queue.{slots_of}
-use Rattle.queue.proofs.Buffer.{length-recordsOf, laid-test, not-laid}
+use Rattle.queue.proofs.Buffer.{length-records_of, laid-test, not-laid}
 use Rattle.queue.proofs.is_laid.Statement.{statement}
 use Rattle.queue.proofs.is_laid.Tie as tie
 
@@ -14,7 +14,7 @@ returns : tie.Need-returns
 returns c = sym (not-laid c.before.before.args.b.now c.if1.true)
 
 zero-from-requires : tie.Need-zero-from-requires
-zero-from-requires c κs = omega (arith, length-recordsOf c.before.before.before.args.b.now)
+zero-from-requires c κs = omega (arith, length-records_of c.before.before.before.args.b.now)
 
 returns-2 : tie.Need-returns-2
 returns-2 c =

@@ -4,17 +4,17 @@ use Prim.Native.Nat.{◌+◌, ◌-◌, ◌≤◌, ◌<◌}
 use native.Mathlib.Omega.{arith}
 use borrow.Author.Rules.{rules}
 use lib.ListN.{length}
-use Rattle.limits.specs.Limits.{bufferRecords}
+use Rattle.limits.specs.Limits.{buffer_records}
 use Rattle.siginfo.specs.Bytes.{Fits}
-use Rattle.rules.specs.Store.{onSlots}
-use Rattle.queue.specs.Queue.{recordsOf}
-use Rattle.queue.proofs.Buffer.{length-laid, length-recordsOf}
+use Rattle.rules.specs.Store.{on_slots}
+use Rattle.queue.specs.Queue.{records_of}
+use Rattle.queue.proofs.Buffer.{length-laid, length-records_of}
 use Rattle.queue.proofs.Changes.{Moving, moving-start, moving-more, moving-done}
 use Rattle.queue.proofs.remove.Statement.{statement}
 use Rattle.queue.proofs.remove.Tie as tie
 
 abbrev invariant-loop : tie.invariant-loop
-invariant-loop b₀ k n i₀ b i = (n ≤ bufferRecords) × (i < n) × Moving k b₀ b i
+invariant-loop b₀ k n i₀ b i = (n ≤ buffer_records) × (i < n) × Moving k b₀ b i
 
 abbrev decreases-loop : tie.decreases-loop
 decreases-loop b₀ k n i₀ b i = n - i
@@ -26,7 +26,7 @@ loop-holds : tie.Need-loop-init invariant-loop decreases-loop
 loop-holds c =
     let s = c.before.before.before in
     let b = s.args.b.now in
-    (omega (arith, length-recordsOf b), omega arith, moving-start s.args.k b s.requires.0 s.requires.1)
+    (omega (arith, length-records_of b), omega arith, moving-start s.args.k b s.requires.0 s.requires.1)
 
 loop-again : tie.Need-loop-preserved invariant-loop decreases-loop
 loop-again c =
@@ -37,7 +37,7 @@ loop-again c =
     let b₀ = s.args.b.now in
     let i = l.loop.i in
     let r = d.read.result in
-    let h : i + 1 < length (recordsOf b₀) =
+    let h : i + 1 < length (records_of b₀) =
     omega (arith, d.before.before.loop-test.true, l.before.used.ensures) in
     let fits : Fits r = omega (arith, d.read.type-inv) in (
       omega arith,
@@ -51,7 +51,7 @@ same_length c =
     omega (arith, length-laid s.args.b.now s.requires.0)
 
 returns : tie.Need-returns invariant-loop decreases-loop
-unfolding onSlots recordsOf
+unfolding on_slots records_of
 returns c =
     let l = c.before.before.before.before.before in
     let s = l.before.before.before.before in

@@ -6,19 +6,19 @@ use Prim.Native.Nat.{◌-◌, ◌≤◌, ◌<◌}
 use native.Mathlib.Omega.{arith}
 use borrow.Author.Rules.{rules}
 use lib.ListN.{length, get_or, take}
-use Rattle.limits.specs.Limits.{bufferRecords}
+use Rattle.limits.specs.Limits.{buffer_records}
 use Rattle.sigset.specs.Set.{union}
-use Rattle.types.specs.Values.{noSiginfo}
-use Rattle.rules.specs.View.{sameQueue, targetQueue}
-use Rattle.queue.specs.Queue.{recordsOf, signalsIn}
-use Rattle.queue.proofs.Buffer.{length-recordsOf, record-read}
+use Rattle.types.specs.Values.{no_siginfo}
+use Rattle.rules.specs.View.{same_queue, target_queue}
+use Rattle.queue.specs.Queue.{records_of, signals_in}
+use Rattle.queue.proofs.Buffer.{length-records_of, record-read}
 use Rattle.queue.proofs.Signals.{signals-none, signals-here, signals-other, signals-done}
 use Rattle.queue.proofs.signals_of.Statement.{statement}
 use Rattle.queue.proofs.signals_of.Tie as tie
 
 abbrev invariant-loop : tie.invariant-loop
 invariant-loop b process thread n i₀ set₀ i set =
-    (n ≤ bufferRecords) × (i ≤ n) × (set ≡ signalsIn (targetQueue process thread) (take i (recordsOf b)))
+    (n ≤ buffer_records) × (i ≤ n) × (set ≡ signals_in (target_queue process thread) (take i (records_of b)))
 
 abbrev decreases-loop : tie.decreases-loop
 decreases-loop b process thread n i₀ set₀ i set = n - i
@@ -27,24 +27,24 @@ loop-holds : tie.Need-loop-init invariant-loop decreases-loop
 loop-holds c =
     let s = c.before.before in
     let b = s.args.b.now in (
-      omega (arith, length-recordsOf b),
+      omega (arith, length-records_of b),
       omega arith,
-      sym (signals-none (targetQueue s.args.process s.args.thread) (recordsOf b)),
+      sym (signals-none (target_queue s.args.process s.args.thread) (records_of b)),
     )
 
 loop-again : tie.Need-loop-preserved invariant-loop decreases-loop
-unfolding sameQueue
+unfolding same_queue
 loop-again c =
     let d = c.before.before.before in
     let l = d.before.before in
     let s = l.before.before.before in
     let b = s.args.b.now in
-    let q = targetQueue s.args.process s.args.thread in
+    let q = target_queue s.args.process s.args.thread in
     let i = l.loop.i in
-    let rs = recordsOf b in
+    let rs = records_of b in
     let r = d.read.result in
     let h : i < length rs = omega (arith, d.before.loop-test.true, l.before.used.ensures) in
-    let e : r ≡ get_or rs i noSiginfo = d.read.ensures ∙ sym (record-read b i noSiginfo h) in (
+    let e : r ≡ get_or rs i no_siginfo = d.read.ensures ∙ sym (record-read b i no_siginfo h) in (
       omega arith,
       omega arith,
       ⊎_elim
@@ -58,8 +58,8 @@ returns : tie.Need-returns invariant-loop decreases-loop
 returns c =
     let l = c.before in
     let s = l.before.before.before in
-    let q = targetQueue s.args.process s.args.thread in
-    let rs = recordsOf s.args.b.now in
+    let q = target_queue s.args.process s.args.thread in
+    let rs = records_of s.args.b.now in
     l.loop.invariant.2 ∙ signals-done q rs l.loop.i (omega (arith, c.loop-test.false, l.before.used.ensures))
 
 pub signals-of-spec : {M : Type 1} → statement M

@@ -2,17 +2,17 @@ use mathlib.Core.Path.{sym, ◌∙◌}
 use borrow.Author.Rules.{rules}
 use borrow.Author.Tests.{not-true, not-false}
 use Rattle.lists.proofs.Bools.{and_left}
-use Rattle.soundness.specs.Check.{isDelivered}
+use Rattle.soundness.specs.Check.{is_delivered}
 use Rattle.records.proofs.is_delivered.Statement.{statement}
 use Rattle.records.proofs.is_delivered.Tie as tie
 
 returns : tie.Need-returns
-unfolding isDelivered
+unfolding is_delivered
 returns c =
     sym (and_left _ (sym c.before.is-nameable.ensures ∙ not-true c.before.is-nameable.result c.if1.true))
 
 returns-2 : tie.Need-returns-2
-unfolding isDelivered
+unfolding is_delivered
 returns-2 c =
     let n = c.before.before.before in
     rw (

@@ -4,8 +4,8 @@ use borrow.Author.Rules.{rules}
 use borrow.Author.Tests.{not-true, not-false}
 use native.Mathlib.Omega.{arith}
 use lib.ListN.{length}
-use Rattle.queue.specs.Queue.{recordsOf}
-use Rattle.queue.proofs.Buffer.{length-recordsOf}
+use Rattle.queue.specs.Queue.{records_of}
+use Rattle.queue.proofs.Buffer.{length-records_of}
 use Rattle.records.proofs.Loops.{ProcessPass, process-start, process-ready, process-fails, process-next}
 use Rattle.records.proofs.Loops.{process-end}
 use Rattle.records.proofs.process_records.Statement.{statement}
@@ -35,14 +35,14 @@ loop-holds c =
 read-requires : tie.Need-read-requires invariant-loop decreases-loop
 read-requires c κs =
     let a = c.before.before.before.before.before.before.before.before.before in
-    let n = length-recordsOf a.args.b.now in
+    let n = length-records_of a.args.b.now in
     omega (arith, c.before.before.used.ensures, a.requires.0.1)
 
 process-record-requires : tie.Need-process-record-requires invariant-loop decreases-loop
 process-record-requires c κs =
     let l = c.before.before.before.before in
     let a = l.before.before.before.before.before.before.before.before in
-    let inside : l.loop.i < length (recordsOf a.args.b.now) = rw (← l.before.used.ensures) (omega arith) in (
+    let inside : l.loop.i < length (records_of a.args.b.now) = rw (← l.before.used.ensures) (omega arith) in (
       a.requires.0.0,
       process-ready a.args.ps.now a.args.b.now l.loop.counts l.loop.seen l.loop.i
           l.loop.invariant.1.1.1 inside,
@@ -53,7 +53,7 @@ returns c =
     let a = c.before.before.before.before.before.before.before.before.before.before.before.before.before.before.before.before.before.before in
     let l = c.before.before.before.before.before.before.before.before.before.before in
     let m = c.before.before.before.before.before in
-    let inside : l.loop.i < length (recordsOf a.args.b.now) = rw (← l.before.used.ensures) (omega arith) in
+    let inside : l.loop.i < length (records_of a.args.b.now) = rw (← l.before.used.ensures) (omega arith) in
     process-fails a.args.ps.now a.args.b.now l.loop.counts l.loop.seen l.loop.i
     l.loop.invariant.1.1.1 inside m.before.before.before.read.result
     m.before.before.before.read.ensures m.process-record.ensures.0
@@ -64,7 +64,7 @@ loop-again c =
     let a = c.before.before.before.before.before.before.before.before.before.before.before.before.before.before.before.before.before.before in
     let l = c.before.before.before.before.before.before.before.before.before.before in
     let m = c.before.before.before.before.before in
-    let inside : l.loop.i < length (recordsOf a.args.b.now) = rw (← l.before.used.ensures) (omega arith) in
+    let inside : l.loop.i < length (records_of a.args.b.now) = rw (← l.before.used.ensures) (omega arith) in
     let next =
     process-next a.args.ps.now a.args.b.now l.loop.counts l.loop.seen l.loop.i
     l.loop.invariant.1.1.1 inside m.before.before.before.read.result

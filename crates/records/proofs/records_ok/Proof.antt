@@ -1,6 +1,6 @@
 use mathlib.Core.Path.{sym, ◌∙◌}
 use borrow.Author.Tests.{not-true, not-false}
-use Rattle.queue.specs.Queue.{recordsOf}
+use Rattle.queue.specs.Queue.{records_of}
 use Rattle.records.proofs.Both.{zero-counts, threads-fail, processes-fail, both-counted}
 use borrow.Author.Rules.{rules}
 use Rattle.records.proofs.records_ok.Statement.{statement}
@@ -15,7 +15,7 @@ returns : tie.Need-returns
 returns c =
     let a = c.before.before.before.before.before.before.before.before.before.before.before.before in
     let d = c.before.before in
-    threads-fail a.args.ps.now a.args.ts.now (recordsOf a.args.tb.now) (recordsOf a.args.pb.now)
+    threads-fail a.args.ps.now a.args.ts.now (records_of a.args.tb.now) (records_of a.args.pb.now)
     (sym d.thread-buffer-ok.ensures.0 ∙ not-true d.thread-buffer-ok.result c.if1.true)
 
 process-buffer-ok-requires : tie.Need-process-buffer-ok-requires
@@ -27,7 +27,7 @@ returns-2 : tie.Need-returns-2
 returns-2 c =
     let a = c.before.before.before.before.before.before.before.before.before.before.before.before.before.before.before.before in
     let d = c.before.before in
-    processes-fail a.args.ps.now a.args.ts.now (recordsOf a.args.tb.now) (recordsOf a.args.pb.now)
+    processes-fail a.args.ps.now a.args.ts.now (records_of a.args.tb.now) (records_of a.args.pb.now)
     (sym d.process-buffer-ok.ensures.0 ∙ not-true d.process-buffer-ok.result c.if2.true)
 
 returns-3 : tie.Need-returns-3
@@ -38,7 +38,7 @@ returns-3 c =
     let yt = not-false t.thread-buffer-ok.result p.before.before.if1.false in
     let yp = not-false p.process-buffer-ok.result c.before.before.before.if2.false in
     c.all-within.ensures
-    ∙ both-counted a.args.ps.now a.args.ts.now (recordsOf a.args.tb.now) (recordsOf a.args.pb.now)
+    ∙ both-counted a.args.ps.now a.args.ts.now (records_of a.args.tb.now) (records_of a.args.pb.now)
     t.thread-buffer-ok.new.1.1.1.1.1.1.0 p.process-buffer-ok.new.1.1.1.1.0
     (sym t.thread-buffer-ok.ensures.0 ∙ yt) (sym p.process-buffer-ok.ensures.0 ∙ yp)
     (t.thread-buffer-ok.ensures.1 yt) (p.process-buffer-ok.ensures.1 yp)

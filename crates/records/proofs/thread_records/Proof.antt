@@ -4,8 +4,8 @@ use borrow.Author.Rules.{rules}
 use borrow.Author.Tests.{not-true, not-false}
 use native.Mathlib.Omega.{arith}
 use lib.ListN.{length}
-use Rattle.queue.specs.Queue.{recordsOf}
-use Rattle.queue.proofs.Buffer.{length-recordsOf}
+use Rattle.queue.specs.Queue.{records_of}
+use Rattle.queue.proofs.Buffer.{length-records_of}
 use Rattle.records.proofs.Loops.{ThreadPass, thread-start, thread-ready, thread-fails, thread-next, thread-end}
 use Rattle.records.proofs.thread_records.Statement.{statement}
 use Rattle.records.proofs.thread_records.Tie as tie
@@ -34,14 +34,14 @@ loop-holds c =
 read-requires : tie.Need-read-requires invariant-loop decreases-loop
 read-requires c κs =
     let a = c.before.before.before.before.before.before.before.before.before.before.before in
-    let n = length-recordsOf a.args.b.now in
+    let n = length-records_of a.args.b.now in
     omega (arith, c.before.before.used.ensures, a.requires.0.1)
 
 thread-record-requires : tie.Need-thread-record-requires invariant-loop decreases-loop
 thread-record-requires c κs =
     let l = c.before.before.before.before in
     let a = l.before.before.before.before.before.before.before.before.before.before in
-    let inside : l.loop.i < length (recordsOf a.args.b.now) = rw (← l.before.used.ensures) (omega arith) in (
+    let inside : l.loop.i < length (records_of a.args.b.now) = rw (← l.before.used.ensures) (omega arith) in (
       a.requires.0.0,
       thread-ready a.args.ps.now a.args.ts.now a.args.b.now l.loop.counts l.loop.seen
           l.loop.i l.loop.invariant.1.1.1 inside,
@@ -52,7 +52,7 @@ returns c =
     let a = c.before.before.before.before.before.before.before.before.before.before.before.before.before.before.before.before.before.before.before.before in
     let l = c.before.before.before.before.before.before.before.before.before.before in
     let m = c.before.before.before.before.before in
-    let inside : l.loop.i < length (recordsOf a.args.b.now) = rw (← l.before.used.ensures) (omega arith) in
+    let inside : l.loop.i < length (records_of a.args.b.now) = rw (← l.before.used.ensures) (omega arith) in
     thread-fails a.args.ps.now a.args.ts.now a.args.b.now l.loop.counts l.loop.seen l.loop.i
     l.loop.invariant.1.1.1 inside m.before.before.before.read.result
     m.before.before.before.read.ensures m.thread-record.ensures.0
@@ -63,13 +63,13 @@ loop-again c =
     let a = c.before.before.before.before.before.before.before.before.before.before.before.before.before.before.before.before.before.before.before.before in
     let l = c.before.before.before.before.before.before.before.before.before.before in
     let m = c.before.before.before.before.before in
-    let inside : l.loop.i < length (recordsOf a.args.b.now) = rw (← l.before.used.ensures) (omega arith) in
+    let inside : l.loop.i < length (records_of a.args.b.now) = rw (← l.before.used.ensures) (omega arith) in
     let next =
     thread-next a.args.ps.now a.args.ts.now a.args.b.now l.loop.counts l.loop.seen l.loop.i
     l.loop.invariant.1.1.1 inside m.before.before.before.read.result
     m.before.before.before.read.ensures m.thread-record.ensures.0
     m.thread-record.new.1.1.1.1.1.1.0 m.thread-record.new.1.1.1.1.1.1.1.0
-    a.pre.0.0.oneProcess a.pre.0.0.oneThread
+    a.pre.0.0.one_process a.pre.0.0.one_thread
     (not-false m.thread-record.result c.if1.false) m.thread-record.ensures.1.0
     m.thread-record.ensures.1.1 in
     (search rules, (search rules, (search rules, next)))

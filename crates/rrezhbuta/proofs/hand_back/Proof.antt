@@ -37,12 +37,12 @@ use denote.Triple.Spec.{Meets, triple_of}
 use denote.Triple.Statement.{Contract, Triple}
 use denote.Triple.Table.{entered, cited}
 use denote.Triple.Walked.{says, needs}
-use Rattle.limits.specs.Limits.{threadPlaces, threadTable, callSigmask, callSigreturn}
+use Rattle.limits.specs.Limits.{thread_places, thread_table, call_sigmask, call_sigreturn}
 use Rattle.lists.proofs.Bools.{cond-true, cond-false}
 use Rattle.sigset.specs.declared.SigSet.{SigSet}
 use Rattle.threads.specs.declared.Thread.{Thread}
-use Rattle.threads.specs.Records.{withMaskAt, recordsOf}
-use Rattle.rrezhbuta.specs.Entry.{maskIn, rowAfter}
+use Rattle.threads.specs.Records.{with_mask_at, records_of}
+use Rattle.rrezhbuta.specs.Entry.{mask_in, row_after}
 use Rattle.sigset.specs.contracts.SigSet as S
 use Rattle.sigset.proofs.SigSet.TheLaws as S'
 use Rattle.threads.specs.contracts.Thread as T
@@ -57,7 +57,7 @@ use Rattle.threads.specs.contracts.store_words as st
 use Rattle.threads.proofs.store_words.Symbol as st-def
 use Rattle.threads.proofs.store_words.Symbol.{name as #threads·store-words}
 use Rattle.threads.proofs.store_words.Met as st-thm
-use Rattle.rrezhbuta.proofs.Lends.{elem, slice, word, Lease, leaseOf, ref, val, token, lent, gone}
+use Rattle.rrezhbuta.proofs.Lends.{elem, slice, word, Lease, lease_of, ref, val, token, lent, gone}
 use Rattle.rrezhbuta.specs.contracts.mask_of as mo
 use Rattle.rrezhbuta.proofs.mask_of.Symbol as mo-def
 use Rattle.rrezhbuta.proofs.mask_of.Symbol.{name as #rrezhbuta·mask-of}
@@ -85,23 +85,23 @@ module _ {M : Type 1} {𝓤 : Ura M} (𝓛 : Logic 𝓤) (mem : Memory → SProp
 -- which row is handed back
 module _ (number thread : ℕ) (ws : List ℕ) (ts : List Thread) where
   abbrev masks : Bool
-  masks = eqb number callSigmask || eqb number callSigreturn
+  masks = eqb number call_sigmask || eqb number call_sigreturn
 
   abbrev one-mask : List Thread
-  one-mask = withMaskAt thread (maskIn ws thread) ts
+  one-mask = with_mask_at thread (mask_in ws thread) ts
 
-  mask-put : T masks → one-mask ≡ rowAfter number thread ws ts
-  unfolding rowAfter
-  mask-put y = sym (cond-true one-mask (recordsOf threadPlaces ws) (is_true masks y))
+  mask-put : T masks → one-mask ≡ row_after number thread ws ts
+  unfolding row_after
+  mask-put y = sym (cond-true one-mask (records_of thread_places ws) (is_true masks y))
 
-  records-stored : T (not masks) → recordsOf threadPlaces ws ≡ rowAfter number thread ws ts
-  unfolding rowAfter
-  records-stored n = sym (cond-false one-mask (recordsOf threadPlaces ws) (is_false masks n))
+  records-stored : T (not masks) → records_of thread_places ws ≡ row_after number thread ws ts
+  unfolding row_after
+  records-stored n = sym (cond-false one-mask (records_of thread_places ws) (is_false masks n))
 
 module _ {M : Type 1} {𝓤 : Ura M} (𝓛 : Logic 𝓤) (mem : Memory → SProp 𝓤)
     (run : Routine → Fun 𝓤) (Y : Lease T.the_row) (κ : Lft) (q : Share) (x : Bor (List ℕ)) (number thread : ℕ)
     (gx : Room u64 (length x.now)) (small : Small ((w32, number) ∷ (w32, thread) ∷ []))
-    (all : length Y.list ≡ threadPlaces) (long : length x.now ≡ threadTable) where
+    (all : length Y.list ≡ thread_places) (long : length x.now ≡ thread_table) where
   open 𝓛 use {H}
 
   abbrev arg : Args self.signature (Y.life, (κ, tt))
@@ -119,7 +119,7 @@ module _ {M : Type 1} {𝓤 : Ura M} (𝓛 : Logic 𝓤) (mem : Memory → SProp
   wide : thread < 2 ^ 64
   wide = omega (arith, small.1.0)
 
-  exits : (zs : List Thread) → zs ≡ rowAfter number thread x.now Y.list
+  exits : (zs : List Thread) → zs ≡ row_after number thread x.now Y.list
       → ent 𝓤 (⋆ 𝓛 (‵ (gone Y zs) ∷ ‵ (token Y) ∷ ‵ (flft κ q) ∷ [])) (Post vunit)
   exits zs e =
       qed 𝓛 (‵ (gone Y zs) ∷ ‵ (token Y) ∷ ‵ (flft κ q) ∷ []) ∵
@@ -191,7 +191,7 @@ module _ {M : Type 1} {𝓤 : Ura M} (𝓛 : Logic 𝓤) (mem : Memory → SProp
       En = slots Frame
 
       -- after the branch
-      leaves : (zs : List Thread) → zs ≡ rowAfter number thread x.now Y.list
+      leaves : (zs : List Thread) → zs ≡ row_after number thread x.now Y.list
           → Sq 𝓛 (‵ (gone Y zs) ∷ ‵ (token Y) ∷ ‵ (flft κ q) ∷ cells Frame []) (runs C Λ En mir.t-5 (at_ret En Post))
       leaves zs e =
           assigns ! (of_opd ! (unit_lit !)) (from ! (stop !)) (init ! 33 refl (tt, tt)) $
@@ -208,7 +208,7 @@ module _ {M : Type 1} {𝓤 : Ura M} (𝓛 : Logic 𝓤) (mem : Memory → SProp
           (init ! 16 refl (tt, record { fits = wide })) $
           move ! (1 ∷ 3 ∷ []) $ use2 𝓛 (raw ((Mask 𝓛 mem run).pre to-mask)) asks-mask $
           -- [what `mask_of` asks; ts's token; what it owns; the locals]
-          calls_by ! fm mo.ended (mo.clauses 𝓛 mem run) known-mask to-mask (λ m zs. m ≡ maskIn x.now thread)
+          calls_by ! fm mo.ended (mo.clauses 𝓛 mem run) known-mask to-mask (λ m zs. m ≡ mask_in x.now thread)
           (λ m zs. id⊢ 𝓤 _) (and_then ! (copied ! 29 refl) (and_then ! (copied ! 15 refl) (no_more !)))
           (λ w m xs e is.
           land ! (from ! (stop !)) (init ! 25 refl ((LL.lawful S.the_type S'.the_laws 𝓛).typed m _ is).0) $
@@ -222,7 +222,7 @@ module _ {M : Type 1} {𝓤 : Ura M} (𝓛 : Logic 𝓤) (mem : Memory → SProp
           move ! (1 ∷ 2 ∷ []) $ use2 𝓛 (raw ((Put 𝓛 mem run).pre (to-put m))) (asks-put m
           (subst (Is S.the_row m) (LL.tells S.the_type S'.the_laws m _ is) is)) $
           calls-by-last ! fm pt.ended (pt.clauses 𝓛 mem run) known-put (to-put m)
-          (λ u zs. zs.0 ≡ withMaskAt thread m Y.list) (λ u zs. id⊢ 𝓤 _)
+          (λ u zs. zs.0 ≡ with_mask_at thread m Y.list) (λ u zs. id⊢ 𝓤 _)
           (and_then ! (copied ! 8 refl) (and_then ! (copied ! 14 refl) (and_then ! (copied ! 22 refl)
           (no_more !))))
           (λ v u zs e₁ unit.
@@ -232,12 +232,12 @@ module _ {M : Type 1} {𝓤 : Ura M} (𝓛 : Logic 𝓤) (mem : Memory → SProp
           move ! (1 ∷ 3 ∷ []) $ drop ! $ drop ! $
           forget ! 23 refl $ forget ! 21 refl $ forget ! 19 refl $ forget ! 17 refl $ forget ! 15 refl $
           forget ! 13 refl $ forget ! 11 refl $ forget ! 9 refl $
-          leaves zs.0 (e₁ ∙ ap (λ (k : SigSet). withMaskAt thread k Y.list) e
+          leaves zs.0 (e₁ ∙ ap (λ (k : SigSet). with_mask_at thread k Y.list) e
           ∙ mask-put number thread x.now Y.list y))))
           (λ n. reborrows ! 32 6 4 Y.room.0 refl refl refl refl refl refl refl refl $
           group ! 4 $ use1 𝓛 (raw ((Store 𝓛 mem run).pre to-store)) asks-store $
           calls-by-last ! fm st.ended (st.clauses 𝓛 mem run) known_store to-store
-          (λ u zs. zs.0 ≡ recordsOf threadPlaces x.now) (λ u zs. id⊢ 𝓤 _)
+          (λ u zs. zs.0 ≡ records_of thread_places x.now) (λ u zs. id⊢ 𝓤 _)
           (and_then ! (copied ! 1 refl) (and_then ! (copied ! 27 refl) (no_more !)))
           (λ v u zs e₁ unit.
           land_last ! (from ! (stop !)) (init ! 7 refl ((Nothing-Lawful 𝓛).typed u (v ∷ []) unit).0) $
@@ -285,7 +285,7 @@ module _ {M : Type 1} {𝓤 : Ura M} (𝓛 : Logic 𝓤) (mem : Memory → SProp
         (shr_slice_Tells (named 1) κs.1.0 u64, told (w32 ∷ w32 ∷ [])),
       ))
       (λ κs qs bounds a g are. needs 𝓤 _ _ (λ p.
-      walk 𝓛 mem run (leaseOf κs.0 qs.0 a.0 are.0.0.1) κs.1.0 qs.1.0 a.1.0
+      walk 𝓛 mem run (lease_of κs.0 qs.0 a.0 are.0.0.1) κs.1.0 qs.1.0 a.1.0
       a.1.1.0 a.1.1.1.0 are.1.0.0.1
       (are-small ((w32, a.1.1.0) ∷ (w32, a.1.1.1.0) ∷ []) are.1.1) p.0 p.1 𝓣.C 𝓣.Λ
       (fm_of 𝓤 H 𝓛.laws 𝓣) known-mask known-put known_store))

@@ -35,11 +35,11 @@ use denote.Triple.Spec.{Meets, triple_of}
 use denote.Triple.Statement.{Contract, Triple}
 use denote.Triple.Table.{entered, cited}
 use denote.Triple.Walked.{says}
-use Rattle.limits.specs.Limits.{threadPlaces, threadTable}
+use Rattle.limits.specs.Limits.{thread_places, thread_table}
 use Rattle.sound.specs.Lent.{lent}
 use Rattle.threads.specs.declared.Thread.{Thread}
 use Rattle.threads.specs.Records.{words_of}
-use Rattle.rrezhbuta.specs.Entry.{lookAt}
+use Rattle.rrezhbuta.specs.Entry.{look_at}
 use Rattle.threads.specs.contracts.Thread as T
 use Rattle.threads.proofs.Lent.{at-list, shares-row, shared-row-back}
 use Rattle.threads.proofs.Slot.{zeroes-array, closes-array}
@@ -57,7 +57,7 @@ use Rattle.rrezhbuta.specs.contracts.no_part as np
 use Rattle.rrezhbuta.proofs.no_part.Symbol as np-def
 use Rattle.rrezhbuta.proofs.no_part.Symbol.{name as #rrezhbuta·no-part}
 use Rattle.rrezhbuta.proofs.no_part.Met as np-thm
-use Rattle.looking.specs.Looks.{lookBytes}
+use Rattle.looking.specs.Looks.{look_bytes}
 use Rattle.looking.specs.contracts.look_part as pa
 use Rattle.looking.proofs.look_part.Symbol as pa-def
 use Rattle.looking.proofs.look_part.Symbol.{name as #looking·look-part}
@@ -107,7 +107,7 @@ module _ {M : Type 1} {𝓤 : Ura M} (𝓛 : Logic 𝓤) (mem : Memory → SProp
   abbrev OwnT : Fml
   OwnT = (ShrSlice (named 2) κ₃ T.the_row).own_val ts (word ts ∷ [])
 
-  exits : (r : Bor (List ℕ)) (w : Val) → r.now ≡ lookAt ps.now tb.now pb.now ts.now thread
+  exits : (r : Bor (List ℕ)) (w : Val) → r.now ≡ look_at ps.now tb.now pb.now ts.now thread
       → ent 𝓤 (⋆ 𝓛 (‵ (OwnB r w) ∷ ‵ (flft κ₁ q₁) ∷ ‵ (flft κ₂ q₂) ∷ ‵ (flft κ₃ q₃) ∷ [])) (Post w)
   exits r w e =
       qed 𝓛 (‵ (OwnB r w) ∷ ‵ (flft κ₁ q₁) ∷ ‵ (flft κ₂ q₂) ∷ ‵ (flft κ₃ q₃) ∷ []) ∵
@@ -164,9 +164,9 @@ module _ {M : Type 1} {𝓤 : Ura M} (𝓛 : Logic 𝓤) (mem : Memory → SProp
         move ! (4 ∷ 5 ∷ 6 ∷ 7 ∷ 0 ∷ []) $ group ! 5 $ use1 𝓛 (‵ Handed) (id⊢ 𝓤 _) $
         nothing ! $ move ! (2 ∷ 3 ∷ 4 ∷ 0 ∷ []) $ group ! 4 $ join ! $ frame ! $ done !
 
-  looked : (p : List ℕ) → p ≡ lookBytes thread (lent ps.now ws tb.now pb.now)
-      → p ≡ lookAt ps.now tb.now pb.now ts.now thread
-  unfolding lookAt
+  looked : (p : List ℕ) → p ≡ look_bytes thread (lent ps.now ws tb.now pb.now)
+      → p ≡ look_at ps.now tb.now pb.now ts.now thread
+  unfolding look_at
   looked p e = e
 
   module _ (C : Calls 𝓤 H) (Λ : Loops 𝓤 H) (fm : FmC 𝓤 H 𝓛.laws C)
@@ -201,17 +201,17 @@ module _ {M : Type 1} {𝓤 : Ura M} (𝓛 : Logic 𝓤) (mem : Memory → SProp
           ∷ ‵ OwnT ∷ cells Frame []
 
       -- a full row
-      looks : length ts.now ≡ threadPlaces → Sq 𝓛 Ready (runs C Λ En mir.t-4 (at_ret En Post))
+      looks : length ts.now ≡ thread_places → Sq 𝓛 Ready (runs C Λ En mir.t-4 (at_ret En Post))
       looks all =
           move ! (21 ∷ []) $ zeroes-array ! refl (λ xs long.
-          slices-array ! 14 12 threadTable (refl, tt) refl refl refl refl refl refl $
+          slices-array ! 14 12 thread_table (refl, tt) refl refl refl refl refl refl $
           -- [the array; ps's, the buffers' and ts's tokens; ps; tb; pb; ts; the locals]
           move ! (3 ∷ 7 ∷ 0 ∷ []) $
           loads-shared ! fm mem run known-load κ₃ q₃ ts l₆ xs all long
           (λ i j. and_then ! (copied ! 24 refl) (and_then ! (copied ! 11 refl) (no_more !))) (λ w unit.
           land ! (from ! (stop !)) (init ! 15 refl ((Nothing-Lawful 𝓛).typed tt (w ∷ []) unit).0) $
           forget ! 15 refl $ forget ! 13 refl $ forget ! 11 refl $
-          slices-array ! 9 7 threadTable (refl, tt) refl refl refl refl refl refl $
+          slices-array ! 9 7 thread_table (refl, tt) refl refl refl refl refl refl $
           rewrite ! 7 (λ (n : ℕ). ‵ (fat full_share (slice erased imm (ty_int w64)) l₁₃ 0 (slice_val (l₆, 0) n)))
           (sym (table-long ts.now all)) refl $
           lft_new ! tt (λ ν. move ! (2 ∷ []) $
@@ -221,7 +221,7 @@ module _ {M : Type 1} {𝓤 : Ura M} (𝓛 : Logic 𝓤) (mem : Memory → SProp
           move ! (4 ∷ 2 ∷ 5 ∷ 6 ∷ 0 ∷ 7 ∷ 8 ∷ []) $ group ! 7 $
           use1 𝓛 (raw ((Part 𝓛 mem run).pre (to_part l₆ ν δ))) (asks-part l₆ ν δ) $
           calls_by ! fm pa.ended (pa.clauses 𝓛 mem run) known-part (to_part l₆ ν δ)
-          (λ p zs. p.now ≡ lookBytes thread (lent ps.now ws tb.now pb.now)) (λ p zs. id⊢ 𝓤 _)
+          (λ p zs. p.now ≡ look_bytes thread (lent ps.now ws tb.now pb.now)) (λ p zs. id⊢ 𝓤 _)
           (and_then ! (copied ! 26 refl) (and_then ! (copied ! 3 refl) (and_then ! (copied ! 24 refl)
           (and_then ! (copied ! 22 refl) (and_then ! (copied ! 18 refl) (no_more !))))))
           (λ v p zs e at_part.
@@ -229,7 +229,7 @@ module _ {M : Type 1} {𝓤 : Ura M} (𝓛 : Logic 𝓤) (mem : Memory → SProp
           move ! (1 ∷ []) $
           use1 𝓛 (‵ (flft κ₁ q₁) ⊛ (‵ (flft (ν ∷ []) full_share) ⊛ (‵ (flft κ₂ q₂) ⊛ ‵ ftrue))) (id⊢ 𝓤 _) $ split ! $
           move ! (1 ∷ []) $ split ! $ lft_end ! tt $ move ! (0 ∷ 5 ∷ []) $ shared-row-back ! tt u64 l₆ 0 ws $
-          closes-array ! u64 (uint_vals w64) (uint_Tells w64) threadTable ws l₆ (table-long ts.now all) (λ _.
+          closes-array ! u64 (uint_vals w64) (uint_Tells w64) thread_table ws l₆ (table-long ts.now all) (λ _.
           move ! (1 ∷ []) $ drop ! $
           -- [the array; the buffers' token; ps's; the part; what is left; ts's token; the locals]
           returns ! (look ! 31 refl) $ forget ! 31 refl $ forget ! 8 refl $ forget ! 6 refl $
@@ -241,7 +241,7 @@ module _ {M : Type 1} {𝓤 : Ura M} (𝓛 : Logic 𝓤) (mem : Memory → SProp
       begins =
           assigns ! (of_opd ! (load ! (from ! (fld ! refl (stop !))) (look_in ! 25 (sub ! 1 refl (part !)))))
           (from ! (stop !)) (init ! 19 refl (tt, record { fits = g₄.0 })) $
-          assigns ! (bin ! (copied ! 19 refl) (constant ! threadPlaces (refl, tt)) tt)
+          assigns ! (bin ! (copied ! 19 refl) (constant ! thread_places (refl, tt)) tt)
           (from ! (stop !)) (init ! 17 refl (tt, tt)) $
           first ! $ branches ! (copied ! 17 refl)
           (λ other. move ! (1 ∷ 4 ∷ []) $ use2 𝓛 (raw ((None 𝓛 mem run).pre to_none)) asks_none $
@@ -254,7 +254,7 @@ module _ {M : Type 1} {𝓤 : Ura M} (𝓛 : Logic 𝓤) (mem : Memory → SProp
           move ! (1 ∷ []) $ use1 𝓛 (‵ (flft κ₂ q₂) ⊛ ‵ ftrue) (id⊢ 𝓤 _) $ split ! $ keep ! (2 ∷ 4 ∷ 0 ∷ 5 ∷ []) $
           by ! (exits r w (no-look ps.now tb.now pb.now ts.now thread r.now other e))))
           (λ same. skips ! $ exec ! C Λ En mir.t-4 (at_ret En Post) $ forget ! 17 refl $ forget ! 19 refl $
-          looks (eqb→eq (length ts.now) threadPlaces (is-yes (eqb (length ts.now) threadPlaces) same)))
+          looks (eqb→eq (length ts.now) thread_places (is-yes (eqb (length ts.now) thread_places) same)))
 
     walk : ent 𝓤 (on_entry 𝓛 self.signature (κ₁, (κ₂, (κ₃, tt))) (q₁, (q₂, (q₃, tt))) arg at)
         (WpFn 𝓤 H C Λ code.function (word ps ∷ word tb ∷ word pb ∷ word ts ∷ vint w32 thread ∷ []) Post)

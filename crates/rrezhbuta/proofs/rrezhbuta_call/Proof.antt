@@ -40,12 +40,12 @@ use denote.Triple.Spec.{Meets, triple_of}
 use denote.Triple.Statement.{Contract, Triple}
 use denote.Triple.Table.{entered, cited}
 use denote.Triple.Walked.{says}
-use Rattle.limits.specs.Limits.{threadPlaces, threadTable, EFAULT}
+use Rattle.limits.specs.Limits.{thread_places, thread_table, EFAULT}
 use Rattle.sound.specs.Lent.{lent as in_words_lem}
 use Rattle.threads.specs.declared.Thread.{Thread}
 use Rattle.threads.specs.Records.{words_of}
 use Rattle.boundary.specs.Boundary.{Arguments, arguments, Served, served}
-use Rattle.rrezhbuta.specs.Entry.{rowAfter}
+use Rattle.rrezhbuta.specs.Entry.{row_after}
 use Rattle.threads.proofs.Lent.{at-list, lends_row, row_back, shares-row, shared-row-back}
 use Rattle.threads.proofs.Slot.{zeroes-array, closes-array}
 use Rattle.threads.proofs.Words.{table-long}
@@ -61,7 +61,7 @@ use Rattle.boundary.specs.contracts.serve as sv
 use Rattle.boundary.proofs.serve.Symbol as sv-def
 use Rattle.boundary.proofs.serve.Symbol.{name as #boundary·serve}
 use Rattle.boundary.proofs.serve.Met as sv-thm
-use Rattle.rrezhbuta.proofs.Lends.{elem, slice, table, ref, val, token, lent, gone, unused, Lends, lendsOf}
+use Rattle.rrezhbuta.proofs.Lends.{elem, slice, table, ref, val, token, lent, gone, unused, Lends, lends_of}
 use Rattle.rrezhbuta.proofs.Lends.{lives5, shares5, refs5, vals5, owns4, owns5, left4, four, alive, held, Facts}
 use Rattle.rrezhbuta.proofs.Lends.{apart, whole, with4, still4, unused4}
 use Rattle.rrezhbuta.proofs.Lengths.{wrong-length}
@@ -81,8 +81,8 @@ use Rattle.rrezhbuta.proofs.rrezhbuta_call.Code.Mir as mir
 abbrev widths : List Width
 widths = w32 ∷ w32 ∷ w32 ∷ w32 ∷ w32 ∷ w32 ∷ w32 ∷ w64 ∷ w64 ∷ w64 ∷ []
 
-abbrev numbersOf : (number a b c d e f x y z : ℕ) → List (Width × ℕ)
-numbersOf number a b c d e f x y z =
+abbrev numbers_of : (number a b c d e f x y z : ℕ) → List (Width × ℕ)
+numbers_of number a b c d e f x y z =
     (w32, number) ∷ (w32, a) ∷ (w32, b) ∷ (w32, c) ∷ (w32, d) ∷ (w32, e) ∷ (w32, f) ∷ (w64, x) ∷ (w64, y)
     ∷ (w64, z) ∷ []
 
@@ -99,11 +99,11 @@ module _ {M : Type 1} {𝓤 : Ura M} (𝓛 : Logic 𝓤) (mem : Memory → SProp
 
 module _ {M : Type 1} {𝓤 : Ura M} (𝓛 : Logic 𝓤)
     (mem : Memory → SProp 𝓤) (run : Routine → Fun 𝓤) (L : Lends) (number a b c d e f x y z : ℕ)
-    (small : Small (numbersOf number a b c d e f x y z)) where
+    (small : Small (numbers_of number a b c d e f x y z)) where
   open 𝓛 use {H}
 
   abbrev nums : List (Width × ℕ)
-  nums = numbersOf number a b c d e f x y z
+  nums = numbers_of number a b c d e f x y z
 
   abbrev args : Arguments
   args = arguments a b c d e f x y z
@@ -142,7 +142,7 @@ module _ {M : Type 1} {𝓤 : Ura M} (𝓛 : Logic 𝓤)
       still4 ! L $ done !
 
   -- a row of another length: nothing is changed
-  refuses : T (not (eqb (length L.ts.list) threadPlaces))
+  refuses : T (not (eqb (length L.ts.list) thread_places))
       → ent 𝓤 (⋆ 𝓛 (alive L ∷ ‵ Owns ∷ [])) (Post (vint w64 EFAULT))
   refuses other =
       qed 𝓛 (alive L ∷ ‵ Owns ∷ []) ∵
@@ -210,7 +210,7 @@ module _ {M : Type 1} {𝓤 : Ura M} (𝓛 : Logic 𝓤)
     abbrev Shared : Fml
     Shared = (ShrSlice (named 0) (ν ∷ []) u64).own_val (at-list l 0 δ ws) (slice_val (l, 0) (length ws) ∷ [])
 
-    asks-hand : length L.ts.list ≡ threadPlaces → length ws ≡ threadTable
+    asks-hand : length L.ts.list ≡ thread_places → length ws ≡ thread_table
         → ent 𝓤 (⋆ 𝓛 (‵ (token L.ts) ∷ ‵ (flft (ν ∷ []) full_share) ∷ ‵ (lent L.ts) ∷ ‵ Shared ∷ []))
         ((Hand 𝓛 mem run).pre to-hand)
     asks-hand all long =
@@ -264,21 +264,21 @@ module _ {M : Type 1} {𝓤 : Ura M} (𝓛 : Logic 𝓤)
       Open j = cells (Upper j) (‵ (fdies table l₁₆) ∷ cells Lower [])
 
       -- the end, with errno r, the words ws and the records ts
-      leaves : (r : ℕ) → r < 2 ^ 64 → (ps ws tb pb out : List ℕ) → length ws ≡ threadTable → (ts : List Thread)
+      leaves : (r : ℕ) → r < 2 ^ 64 → (ps ws tb pb out : List ℕ) → length ws ≡ thread_table → (ts : List Thread)
           → Facts L number args r ps tb pb out ts
           → Sq 𝓛 (‵ (row u64 full_share ws l₁₆ 0) ∷ four L ∷ ‵ (token L.ts) ∷ ‵ (left4 L ps tb pb out (Truths 10))
           ∷ ‵ (gone L.ts ts) ∷ Open (holds (ty_int w64) l₁₇ (vint w64 r)))
           (runs C Λ En mir.t-23 (at_ret En Post))
       leaves r fits ps ws tb pb out long ts e =
           assigns ! (of_opd ! (copied ! 49 refl)) (from ! (stop !)) (init ! 82 refl (tt, record { fits = fits })) $
-          closes-array ! u64 (uint_vals w64) (uint_Tells w64) threadTable ws l₁₆ long (λ _.
+          closes-array ! u64 (uint_vals w64) (uint_Tells w64) thread_table ws l₁₆ long (λ _.
           move ! (1 ∷ []) $ drop ! $ returns ! (look ! 82 refl) $ forget ! 82 refl $ forget ! 0 refl $
           move ! (past 50) $ frees_all ! 4 (Frame (holds (ty_int w64) l₁₇ (vint w64 r))) refl $
           by ! (exits r ps tb pb out ts (Truths 10) e fits))
 
       -- once `serve` has answered r: what it changed is handed back if it refused nothing
-      hands : length L.ts.list ≡ threadPlaces
-          → (r : ℕ) → r < 2 ^ 64 → (ps ws tb pb out : List ℕ) → length ws ≡ threadTable → Done r ps ws tb pb out
+      hands : length L.ts.list ≡ thread_places
+          → (r : ℕ) → r < 2 ^ 64 → (ps ws tb pb out : List ℕ) → length ws ≡ thread_table → Done r ps ws tb pb out
           → Sq 𝓛 (‵ (left4 L ps tb pb out (Truths 10)) ∷ ‵ (row u64 full_share ws l₁₆ 0) ∷ four L ∷ ‵ (lent L.ts)
           ∷ ‵ (token L.ts) ∷ Open (holds (ty_int w64) l₁₇ (vint w64 r)))
           (runs C Λ En mir.t-21 (at_ret En Post))
@@ -286,7 +286,7 @@ module _ {M : Type 1} {𝓤 : Ura M} (𝓛 : Logic 𝓤)
           assigns ! (bin ! (copied ! 49 refl) (lit ! tt) tt) (from ! (stop !)) (init ! 45 refl (tt, tt)) $
           first ! $ branches ! (copied ! 45 refl)
           (λ zero. reborrows ! 72 11 9 L.ts.room.0 refl refl refl refl refl refl refl refl $
-          slices-array ! 7 5 threadTable (refl, tt) refl refl refl refl refl refl $
+          slices-array ! 7 5 thread_table (refl, tt) refl refl refl refl refl refl $
           rewrite ! 5 (λ (n : ℕ). ‵ (fat full_share (slice erased imm (ty_int w64)) l₃₉ 0 (slice_val (l₁₆, 0) n)))
           (sym long) refl $
           lft_new ! tt (λ ν. move ! (2 ∷ []) $
@@ -295,7 +295,7 @@ module _ {M : Type 1} {𝓤 : Ura M} (𝓛 : Logic 𝓤)
           move ! (6 ∷ 2 ∷ 5 ∷ 0 ∷ []) $ group ! 4 $
           use1 𝓛 (raw ((Hand 𝓛 mem run).pre (to-hand l₁₆ ν δ ws))) (asks-hand l₁₆ ν δ ws all long) $
           calls-by-last ! fm hb.ended (hb.clauses 𝓛 mem run) known-hand (to-hand l₁₆ ν δ ws)
-          (λ u zs. zs.0 ≡ rowAfter number a ws L.ts.list) (λ u zs. id⊢ 𝓤 _)
+          (λ u zs. zs.0 ≡ row_after number a ws L.ts.list) (λ u zs. id⊢ 𝓤 _)
           (and_then ! (copied ! 8 refl) (and_then ! (copied ! 4 refl) (and_then ! (copied ! 69 refl)
           (and_then ! (copied ! 67 refl) (no_more !)))))
           (λ w u zs e unit.
@@ -316,18 +316,18 @@ module _ {M : Type 1} {𝓤 : Ura M} (𝓛 : Logic 𝓤)
           (eqb-false r 0 (is_false (eqb r 0) other))))
 
       -- once the words are loaded
-      serves : length L.ts.list ≡ threadPlaces
+      serves : length L.ts.list ≡ thread_places
           → Sq 𝓛 (‵ (lent L.ts) ∷ ‵ (token L.ts) ∷ ‵ (row u64 full_share (words_of L.ts.list) l₁₆ 0) ∷ four L
           ∷ ‵ (owns4 L ftrue) ∷ Open (spare (ty_int w64) l₁₇))
           (runs C Λ En mir.t-10 (at_ret En Post))
       serves all =
           reborrows ! 80 33 31 L.ps.room.0 refl refl refl refl refl refl refl refl $
-          slices-array ! 29 27 threadTable (refl, tt) refl refl refl refl refl refl $
+          slices-array ! 29 27 thread_table (refl, tt) refl refl refl refl refl refl $
           reborrows ! 78 25 23 L.tb.room.0 refl refl refl refl refl refl refl refl $
           reborrows ! 76 21 19 L.pb.room.0 refl refl refl refl refl refl refl refl $
           reborrows ! 74 17 15 L.out.room.0 refl refl refl refl refl refl refl refl $
           lft_new ! tt (λ ν. move ! (3 ∷ []) $
-          lends_row ! tt u64 (named 0) (ν ∷ []) l₁₆ 0 threadTable (words_of L.ts.list) (table-long L.ts.list all)
+          lends_row ! tt u64 (named 0) (ν ∷ []) l₁₆ 0 thread_table (words_of L.ts.list) (table-long L.ts.list all)
           table-room (λ δ.
           -- [the words; what they are kept by; ν's token; ts; its token; the others' tokens; what they own; the locals]
           move ! (5 ∷ 2 ∷ 6 ∷ 0 ∷ []) $ group ! 4 $
@@ -348,7 +348,7 @@ module _ {M : Type 1} {𝓤 : Ura M} (𝓛 : Logic 𝓤)
           -- [that ν is over; the last three tokens; the first; what is left; what the words are kept by; …]
           move ! (2 ∷ 1 ∷ []) $ join ! $ move ! (2 ∷ []) $ fsplit ! $ move ! (1 ∷ []) $ fsplit ! $ fsplit ! $
           move ! (1 ∷ []) $ feq_l ! (λ long. move ! (4 ∷ 5 ∷ 0 ∷ []) $
-          row_back ! tt u64 l₁₆ 0 threadTable zs.1.0 $ move ! (2 ∷ 1 ∷ []) $ fjoin ! $
+          row_back ! tt u64 l₁₆ 0 thread_table zs.1.0 $ move ! (2 ∷ 1 ∷ []) $ fjoin ! $
           forget ! 33 refl $ forget ! 31 refl $ forget ! 29 refl $ forget ! 27 refl $ forget ! 25 refl $
           forget ! 23 refl $ forget ! 21 refl $ forget ! 19 refl $ forget ! 17 refl $
           forget ! 15 refl $
@@ -359,14 +359,14 @@ module _ {M : Type 1} {𝓤 : Ura M} (𝓛 : Logic 𝓤)
           three = ‵ (token L.tb) ⊛ (‵ (token L.pb) ⊛ (‵ (token L.out) ⊛ ‵ ftrue))
 
       -- a full row: its words are loaded
-      loads : length L.ts.list ≡ threadPlaces
+      loads : length L.ts.list ≡ thread_places
           → Sq 𝓛 (four L ∷ ‵ (token L.ts) ∷ ‵ (owns4 L ftrue) ∷ ‵ (lent L.ts)
           ∷ cells (Frame (spare (ty_int w64) l₁₇)) [])
           (runs C Λ En mir.t-4 (at_ret En Post))
       loads all =
           move ! (50 ∷ []) $ zeroes-array ! refl (λ xs long.
           reborrows ! 72 41 39 L.ts.room.0 refl refl refl refl refl refl refl refl $
-          slices-array ! 37 35 threadTable (refl, tt) refl refl refl refl refl refl $
+          slices-array ! 37 35 thread_table (refl, tt) refl refl refl refl refl refl $
           move ! (4 ∷ 2 ∷ 0 ∷ []) $
           loads-lent ! fm mem run known-load L.ts l₁₆ xs all long
           (λ i j k. and_then ! (copied ! 39 refl) (and_then ! (copied ! 35 refl) (no_more !))) (λ w unit.
@@ -379,7 +379,7 @@ module _ {M : Type 1} {𝓤 : Ura M} (𝓛 : Logic 𝓤)
       begins =
           assigns ! (of_opd ! (load ! (from ! (fld ! refl (stop !))) (look_in ! 70 (sub ! 1 refl (part !)))))
           (from ! (stop !)) (init ! 44 refl (tt, record { fits = L.ts.room.0 })) $
-          assigns ! (bin ! (copied ! 44 refl) (constant ! threadPlaces (refl, tt)) tt)
+          assigns ! (bin ! (copied ! 44 refl) (constant ! thread_places (refl, tt)) tt)
           (from ! (stop !)) (init ! 42 refl (tt, tt)) $
           first ! $ branches ! (copied ! 42 refl)
           (λ other. assigns ! (un ! (lit ! tt) (record { fits = lit< tt })) (from ! (stop !))
@@ -388,7 +388,7 @@ module _ {M : Type 1} {𝓤 : Ura M} (𝓛 : Logic 𝓤)
           forget ! 44 refl $ frees_all ! 2 (Frame (spare (ty_int w64) l₁₇)) refl $ by ! (refuses other))
           (λ same. skips ! $ exec ! C Λ En mir.t-4 (at_ret En Post) $ forget ! 42 refl $ forget ! 44 refl $
           apart ! L $
-          loads (eqb→eq (length L.ts.list) threadPlaces (is-yes (eqb (length L.ts.list) threadPlaces) same)))
+          loads (eqb→eq (length L.ts.list) thread_places (is-yes (eqb (length L.ts.list) thread_places) same)))
 
     walk : ent 𝓤 (on_entry 𝓛 self.signature (lives5 L) (shares5 L) arg at) (WpFn 𝓤 H C Λ code.function passed Post)
     walk =
@@ -442,13 +442,13 @@ module _ {M : Type 1} {𝓤 : Ura M} (𝓛 : Logic 𝓤) (mem : Memory → SProp
         ),
       ))
       (λ κs qs bounds a g are. via 𝓤 _ (fst∗ 𝓤 _ (emp 𝓤)) (walk 𝓛 mem run
-      (lendsOf κs qs a.0 a.1.0 a.1.1.0 a.1.1.1.0 a.1.1.1.1.0
+      (lends_of κs qs a.0 a.1.0 a.1.1.0 a.1.1.1.0 a.1.1.1.1.0
       are.0.0.1 are.1.0.0.1 are.1.1.0.0.1 are.1.1.1.0.0.1 are.1.1.1.1.0.0.1)
       a.1.1.1.1.1.0 a.1.1.1.1.1.1.0 a.1.1.1.1.1.1.1.0 a.1.1.1.1.1.1.1.1.0
       a.1.1.1.1.1.1.1.1.1.0 a.1.1.1.1.1.1.1.1.1.1.0 a.1.1.1.1.1.1.1.1.1.1.1.0
       a.1.1.1.1.1.1.1.1.1.1.1.1.0 a.1.1.1.1.1.1.1.1.1.1.1.1.1.0
       a.1.1.1.1.1.1.1.1.1.1.1.1.1.1.0
-      (are-small (numbersOf
+      (are-small (numbers_of
       a.1.1.1.1.1.0 a.1.1.1.1.1.1.0 a.1.1.1.1.1.1.1.0 a.1.1.1.1.1.1.1.1.0
       a.1.1.1.1.1.1.1.1.1.0 a.1.1.1.1.1.1.1.1.1.1.0 a.1.1.1.1.1.1.1.1.1.1.1.0
       a.1.1.1.1.1.1.1.1.1.1.1.1.0 a.1.1.1.1.1.1.1.1.1.1.1.1.1.0

@@ -36,7 +36,7 @@ use denote.Triple.Spec.{Meets, triple_of}
 use denote.Triple.Statement.{Contract, Triple}
 use denote.Triple.Table.{entered, cited}
 use denote.Triple.Walked.{says}
-use Rattle.limits.specs.Limits.{threadPlaces, threadTable}
+use Rattle.limits.specs.Limits.{thread_places, thread_table}
 use Rattle.sound.specs.Lent.{lent}
 use Rattle.threads.specs.declared.Thread.{Thread}
 use Rattle.threads.specs.Records.{words_of}
@@ -54,7 +54,7 @@ use Rattle.rrezhbuta.proofs.Lengths.{no_slot}
 use Rattle.rrezhbuta.proofs.Load.{table-room, Load, loads-shared}
 use Rattle.threads.proofs.Walk.{is-yes, Cell, spare, holds, slots, cells, frees_all, copied, constant, Numbers, numbers}
 use Rattle.threads.proofs.Walk.{slices-array, past, Truths, truths, Its, ends_by, meets-by, calls_by}
-use Rattle.looking.specs.Looks.{lookSlot}
+use Rattle.looking.specs.Looks.{look_slot}
 use Rattle.looking.specs.contracts.look_slot as sl
 use Rattle.looking.proofs.look_slot.Symbol as sl-def
 use Rattle.looking.proofs.look_slot.Symbol.{name as #looking·look-slot}
@@ -149,7 +149,7 @@ module _ {M : Type 1} {𝓤 : Ura M} (𝓛 : Logic 𝓤) (mem : Memory → SProp
         move ! (5 ∷ 6 ∷ 7 ∷ 8 ∷ 0 ∷ []) $ group ! 5 $ use1 𝓛 (‵ Handed) (id⊢ 𝓤 _) $
         nothing ! $ move ! (2 ∷ 3 ∷ 4 ∷ 5 ∷ 0 ∷ []) $ group ! 5 $ join ! $ frame ! $ done !
 
-  found : (n : ℕ) → n ≡ lookSlot thread (lent ps.now ws tb.now pb.now)
+  found : (n : ℕ) → n ≡ look_slot thread (lent ps.now ws tb.now pb.now)
       → n ≡ slot_at ps.now tb.now pb.now ts.now thread
   unfolding slot_at
   found n e = e
@@ -185,17 +185,17 @@ module _ {M : Type 1} {𝓤 : Ura M} (𝓛 : Logic 𝓤) (mem : Memory → SProp
           ∷ ‵ OwnT ∷ cells Frame []
 
       -- a full row
-      looks : length ts.now ≡ threadPlaces → Sq 𝓛 Ready (runs C Λ En mir.t-4 (at_ret En Post))
+      looks : length ts.now ≡ thread_places → Sq 𝓛 Ready (runs C Λ En mir.t-4 (at_ret En Post))
       looks all =
           move ! (22 ∷ []) $ zeroes-array ! refl (λ xs long.
-          slices-array ! 15 13 threadTable (refl, tt) refl refl refl refl refl refl $
+          slices-array ! 15 13 thread_table (refl, tt) refl refl refl refl refl refl $
           -- [the array; ps's, tb's, pb's and ts's tokens; ps; tb; pb; ts; the locals]
           move ! (4 ∷ 8 ∷ 0 ∷ []) $
           loads-shared ! fm mem run known-load κ₄ q₄ ts l₆ xs all long
           (λ i j. and_then ! (copied ! 25 refl) (and_then ! (copied ! 12 refl) (no_more !))) (λ w unit.
           land ! (from ! (stop !)) (init ! 16 refl ((Nothing-Lawful 𝓛).typed tt (w ∷ []) unit).0) $
           forget ! 16 refl $ forget ! 14 refl $ forget ! 12 refl $
-          slices-array ! 10 8 threadTable (refl, tt) refl refl refl refl refl refl $
+          slices-array ! 10 8 thread_table (refl, tt) refl refl refl refl refl refl $
           rewrite ! 8 (λ (n : ℕ). ‵ (fat full_share (slice erased imm (ty_int w64)) l₁₃ 0 (slice_val (l₆, 0) n)))
           (sym (table-long ts.now all)) refl $
           lft_new ! tt (λ ν. move ! (2 ∷ []) $
@@ -205,7 +205,7 @@ module _ {M : Type 1} {𝓤 : Ura M} (𝓛 : Logic 𝓤) (mem : Memory → SProp
           move ! (4 ∷ 2 ∷ 5 ∷ 6 ∷ 7 ∷ 0 ∷ 8 ∷ 9 ∷ []) $ group ! 8 $
           use1 𝓛 (raw ((Slot 𝓛 mem run).pre (to-slot l₆ ν δ))) (asks-slot l₆ ν δ) $
           calls_by ! fm sl.ended (sl.clauses 𝓛 mem run) known_slot (to-slot l₆ ν δ)
-          (λ n zs. n ≡ lookSlot thread (lent ps.now ws tb.now pb.now)) (λ n zs. id⊢ 𝓤 _)
+          (λ n zs. n ≡ look_slot thread (lent ps.now ws tb.now pb.now)) (λ n zs. id⊢ 𝓤 _)
           (and_then ! (copied ! 26 refl) (and_then ! (copied ! 3 refl) (and_then ! (copied ! 24 refl)
           (and_then ! (copied ! 22 refl) (and_then ! (copied ! 18 refl) (no_more !))))))
           (λ v n zs e small.
@@ -216,7 +216,7 @@ module _ {M : Type 1} {𝓤 : Ura M} (𝓛 : Logic 𝓤) (mem : Memory → SProp
           use1 𝓛 (‵ (flft κ₁ q₁) ⊛ (‵ (flft (ν ∷ []) full_share) ⊛ (‵ (flft κ₂ q₂) ⊛ (‵ (flft κ₃ q₃) ⊛ ‵ ftrue))))
           (id⊢ 𝓤 _) $ split ! $
           move ! (1 ∷ []) $ split ! $ lft_end ! tt $ move ! (0 ∷ 5 ∷ []) $ shared-row-back ! tt u64 l₆ 0 ws $
-          closes-array ! u64 (uint_vals w64) (uint_Tells w64) threadTable ws l₆ (table-long ts.now all) (λ _.
+          closes-array ! u64 (uint_vals w64) (uint_Tells w64) thread_table ws l₆ (table-long ts.now all) (λ _.
           move ! (1 ∷ []) $ drop ! $
           -- [the array; tb's and pb's tokens; ps's; the number; what is left; ts's token; the locals]
           returns ! (look ! 31 refl) $ forget ! 31 refl $ forget ! 18 refl $ forget ! 8 refl $
@@ -228,7 +228,7 @@ module _ {M : Type 1} {𝓤 : Ura M} (𝓛 : Logic 𝓤) (mem : Memory → SProp
       begins =
           assigns ! (of_opd ! (load ! (from ! (fld ! refl (stop !))) (look_in ! 26 (sub ! 1 refl (part !)))))
           (from ! (stop !)) (init ! 20 refl (tt, record { fits = g₄.0 })) $
-          assigns ! (bin ! (copied ! 20 refl) (constant ! threadPlaces (refl, tt)) tt)
+          assigns ! (bin ! (copied ! 20 refl) (constant ! thread_places (refl, tt)) tt)
           (from ! (stop !)) (init ! 18 refl (tt, tt)) $
           first ! $ branches ! (copied ! 18 refl)
           (λ other. assigns ! (of_opd ! (lit ! tt)) (from ! (stop !)) (init ! 34 refl (tt, record { fits = lit< tt })) $
@@ -237,7 +237,7 @@ module _ {M : Type 1} {𝓤 : Ura M} (𝓛 : Logic 𝓤) (mem : Memory → SProp
           owned ! u64 (Is u64) (uint_Makes 𝓛 w64) 0 _ (refl, lit< tt) $ keep ! (0 ∷ 1 ∷ 2 ∷ 3 ∷ 4 ∷ []) $
           by ! (exits 0 (vint w64 0) (no_slot ps.now tb.now pb.now ts.now thread other)))
           (λ same. skips ! $ exec ! C Λ En mir.t-4 (at_ret En Post) $ forget ! 18 refl $ forget ! 20 refl $
-          looks (eqb→eq (length ts.now) threadPlaces (is-yes (eqb (length ts.now) threadPlaces) same)))
+          looks (eqb→eq (length ts.now) thread_places (is-yes (eqb (length ts.now) thread_places) same)))
 
     walk : ent 𝓤 (on_entry 𝓛 self.signature (κ₁, (κ₂, (κ₃, (κ₄, tt)))) (q₁, (q₂, (q₃, (q₄, tt)))) arg at)
         (WpFn 𝓤 H C Λ code.function (word ps ∷ word tb ∷ word pb ∷ word ts ∷ vint w32 thread ∷ []) Post)

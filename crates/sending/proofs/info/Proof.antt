@@ -1,5 +1,5 @@
 -- `info` meets its contract. Assumes nothing.
-use Rattle.rules.specs.View.{liveProcess}
+use Rattle.rules.specs.View.{live_process}
 use Rattle.rules.specs.Store.{view}
 use Rattle.sound.specs.Lent.{decoded, given}
 use Rattle.sound.proofs.Facts.{processes-long}
@@ -8,7 +8,7 @@ use Rattle.sending.proofs.info.Statement.{statement}
 use Rattle.sending.proofs.info.Tie as tie
 
 real-of-requires : tie.Need-real-of-requires
-unfolding liveProcess view decoded
+unfolding live_process view decoded
 real-of-requires c κs =
     let a = c.before.before.before.before in
     let l = given a.args.ps a.args.ts a.args.tb a.args.pb in

@@ -1,6 +1,6 @@
 -- `is_absorbed` meets its contract. Assumes nothing.
 use borrow.Author.Rules.{rules}
-use Rattle.rules.specs.View.{targetQueue}
+use Rattle.rules.specs.View.{target_queue}
 use Rattle.sound.specs.Lent.{view_of, given}
 use Rattle.sending.proofs.Decided.{absorbed}
 use Rattle.sending.proofs.is_absorbed.Statement.{statement}
@@ -12,7 +12,7 @@ returns c =
     let e = d.before.before in
     let a = e.before.before.before.before.before in
     let v = view_of (given a.args.ps a.args.ts a.args.tb a.args.pb) in
-    absorbed v a.args.queued (targetQueue a.args.process a.args.thread) a.args.signal
+    absorbed v a.args.queued (target_queue a.args.process a.args.thread) a.args.signal
     (record { low = a.requires.1.0; high = a.requires.1.1 })
     e.pending-of.result d.before.marks-of.result d.is-standard.result c.before.has.result
     c.has2.result

@@ -1,7 +1,7 @@
 -- `is_bad_target` meets its contract. Assumes nothing.
 use mathlib.Core.Path.{sym, ◌∙◌}
 use borrow.Author.Tests.{not-true, not-false}
-use Rattle.rules.specs.View.{liveProcess, liveThread, theThread}
+use Rattle.rules.specs.View.{live_process, live_thread, the_thread}
 use Rattle.rules.specs.Store.{view}
 use Rattle.sound.specs.Lent.{decoded, view_of, given}
 use Rattle.sound.proofs.Facts.{processes-long, threads-long}
@@ -16,7 +16,7 @@ is-process-requires c κs =
     processes-long (given a.args.ps a.args.ts a.args.tb a.args.pb) a.requires
 
 returns : tie.Need-returns
-unfolding liveProcess view decoded
+unfolding live_process view decoded
 returns c =
     let d = c.before in
     let a = d.before.before.before.before.before in
@@ -24,7 +24,7 @@ returns c =
     (sym d.is-process.ensures ∙ not-true d.is-process.result c.if1.true)
 
 returns-2 : tie.Need-returns-2
-unfolding liveProcess view decoded
+unfolding live_process view decoded
 returns-2 c =
     let d = c.before.before in
     let a = d.before.before.before.before.before in
@@ -38,7 +38,7 @@ is-thread-requires c κs =
     threads-long (given a.args.ps a.args.ts a.args.tb a.args.pb) a.requires
 
 returns-3 : tie.Need-returns-3
-unfolding liveProcess liveThread view decoded
+unfolding live_process live_thread view decoded
 returns-3 c =
     let d = c.before.before.before.before in
     let a = d.before.before.before.before.before in
@@ -48,7 +48,7 @@ returns-3 c =
     (sym c.before.is-thread.ensures ∙ not-true c.before.is-thread.result c.if3.true)
 
 process-of-requires : tie.Need-process-of-requires
-unfolding liveThread view decoded
+unfolding live_thread view decoded
 process-of-requires c κs =
     let d = c.before.before.before.before in
     let a = d.before.before.before.before.before in
@@ -57,7 +57,7 @@ process-of-requires c κs =
     owner-known l a.requires a.args.thread live
 
 returns-4 : tie.Need-returns-4
-unfolding liveProcess liveThread theThread view decoded
+unfolding live_process live_thread the_thread view decoded
 returns-4 c =
     let t = c.before in
     let d = t.before.before.before.before in

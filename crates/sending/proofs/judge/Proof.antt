@@ -4,7 +4,7 @@ use native.Mathlib.Omega.{arith}
 use borrow.Author.Rules.{rules}
 use Rattle.rules.proofs.Queues.{target-queue}
 use Rattle.sound.specs.Lent.{view_of, given}
-use Rattle.sending.specs.Generations.{generationOf}
+use Rattle.sending.specs.Generations.{generation_of}
 use Rattle.sending.specs.Decisions.{Decided}
 use Rattle.sending.proofs.Refused.{kill-allowed, send-refused, send-full, send-passes}
 use Rattle.sending.proofs.judge.Statement.{statement}
@@ -51,7 +51,7 @@ returns-2 c =
     let l = given a.args.ps a.args.ts a.args.tb a.args.pb in
     let x = a.args in
     let e = sym k.ensures ∙ g.if1.false in (
-      send-full l x.by x.to x.thread x.signal x.value e (generationOf f.result) h.result
+      send-full l x.by x.to x.thread x.signal x.value e (generation_of f.result) h.result
           h.ensures x.queued f.ensures c.if2.true,
       λ z. omega arith,
     )
@@ -77,7 +77,7 @@ returns-3 c =
     let l = given a.args.ps a.args.ts a.args.tb a.args.pb in
     let x = a.args in
     let e = sym k.ensures ∙ g.if1.false in (
-      send-passes l x.by x.to x.thread x.signal x.value e (generationOf f.result) h.result
+      send-passes l x.by x.to x.thread x.signal x.value e (generation_of f.result) h.result
           h.ensures x.queued f.ensures c.before.if2.false,
       (f.ensures, c.info.ensures),
     )

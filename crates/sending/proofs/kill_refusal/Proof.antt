@@ -5,7 +5,7 @@ use borrow.Author.Rules.{rules}
 use borrow.Author.Tests.{not-true, not-false}
 use native.Mathlib.Omega.{arith}
 use Rattle.lists.proofs.Bools.{or-fst-false, or-snd-false}
-use Rattle.rules.specs.View.{liveProcess}
+use Rattle.rules.specs.View.{live_process}
 use Rattle.rules.specs.Store.{view}
 use Rattle.rules.proofs.Queues.{target-process}
 use Rattle.sound.specs.Lent.{decoded, view_of, given}
@@ -60,7 +60,7 @@ returns-3 c =
     (sym (nobody-read l by to t s i.result b.result i.ensures b.ensures) ∙ c.if3.true)
 
 may-signal-requires : tie.Need-may-signal-requires
-unfolding liveProcess view decoded
+unfolding live_process view decoded
 may-signal-requires c κs =
     let d = c.before.before.before.before.before in
     let a = d.before.before.before.before.before in

@@ -7,8 +7,8 @@ use Rattle.types.specs.declared.Reply.TheVariants.{Sent}
 use Rattle.sound.specs.Lent.{lent, view_of, given}
 use Rattle.answers.proofs.Endings.{refused-ends, accepted-ends}
 use Rattle.effects.proofs.Makes.{made_as}
-use Rattle.sending.specs.Generations.{generationOf}
-use Rattle.sending.specs.Decisions.{sendCall}
+use Rattle.sending.specs.Generations.{generation_of}
+use Rattle.sending.specs.Decisions.{send_call}
 use Rattle.sending.proofs.Refused.{allowed-ready}
 use Rattle.sending.proofs.Carried.{send-makes, send-answers, when-refused, when-allowed}
 use Rattle.sending.proofs.send.Statement.{statement}
@@ -25,7 +25,7 @@ generate-requires c κs =
     let r = d.0.1.0 in
     let y =
     when-allowed l x.queued x.by x.to x.thread x.signal x.value j.result j.ensures f r d.1 in
-    allowed-ready l x.by x.to x.thread x.signal x.value x.queued y.0 (generationOf f) r
+    allowed-ready l x.by x.to x.thread x.signal x.value x.queued y.0 (generation_of f) r
     y.1.0 y.1.1
 
 returns : tie.Need-returns
@@ -38,7 +38,7 @@ returns c =
     let y =
     when-refused l x.queued x.by x.to x.thread x.signal x.value j.result j.ensures
     d.0.0 d.1 in
-    refused-ends (sendCall x.queued x.by x.to x.thread x.signal x.value) l d.0.0 y.0 y.1
+    refused-ends (send_call x.queued x.by x.to x.thread x.signal x.value) l d.0.0 y.0 y.1
 
 abbrev carried : tie.After-sent → tie.After-generate
 carried c = c.before.before.before.before.before.before.before.before.before
@@ -57,21 +57,21 @@ returns-2 c =
     when-allowed l x.queued x.by x.to x.thread x.signal x.value j.result j.ensures f r d.1 in
     let k = w.generate in
     let m = lent k.last.0 k.last.1.0 k.last.1.1.0 k.last.1.1.1.0 in
-    let call = sendCall x.queued x.by x.to x.thread x.signal x.value in
+    let call = send_call x.queued x.by x.to x.thread x.signal x.value in
     let v = view_of l in
     accepted-ends call l y.0 (Sent c.sent.result)
     (ap Sent c.sent.ensures
-    ∙ send-answers v x.by x.to x.thread x.signal x.value x.queued (generationOf f) y.1.0) m
+    ∙ send-answers v x.by x.to x.thread x.signal x.value x.queued (generation_of f) y.1.0) m
     (record {
       processes = k.kept.0;
       threads = k.kept.1.0;
-      threadBuffer = k.kept.1.1.0;
-      processBuffer = k.kept.1.1.1.0;
+      thread_buffer = k.kept.1.1.0;
+      process_buffer = k.kept.1.1.1.0;
     })
-    (bytes-each m.threadBuffer (λ i. omega (arith, c.before.before.before.slice-known7.given i)))
-    (bytes-each m.processBuffer (λ i. omega (arith, c.before.slice-known8.given i)))
+    (bytes-each m.thread_buffer (λ i. omega (arith, c.before.before.before.slice-known7.given i)))
+    (bytes-each m.process_buffer (λ i. omega (arith, c.before.slice-known8.given i)))
     (made_as k.ensures
-    (send-makes v x.by x.to x.thread x.signal x.value x.queued a.pre (generationOf f) r y.1.0
+    (send-makes v x.by x.to x.thread x.signal x.value x.queued a.pre (generation_of f) r y.1.0
     y.1.1)).store
 
 pub send-spec : {M : Type 1} → statement M

@@ -1,7 +1,7 @@
 -- `write` meets its contract. Assumes nothing.
 use borrow.Author.Rules.{rules}
 use Prim.Native.Nat.{◌*◌}
-use Rattle.limits.specs.Limits.{recordBytes}
+use Rattle.limits.specs.Limits.{record_bytes}
 use Rattle.siginfo.proofs.Slots.{write-slot}
 use Rattle.siginfo.proofs.write.Statement.{statement}
 use Rattle.siginfo.proofs.write.Tie as tie
@@ -16,7 +16,7 @@ returns c =
     let c₂ = c₃.before.before.before.before in
     let c₁ = c₂.before.before.before.before in
     let s = c₁.before.before.before in
-    write-slot s.args.b.now (s.args.slot * recordBytes) s.args.r c₁.write-u32.ensures
+    write-slot s.args.b.now (s.args.slot * record_bytes) s.args.r c₁.write-u32.ensures
     c₂.write-u322.ensures
     c₃.write-u323.ensures c₄.write-u324.ensures c₅.write-u325.ensures c₆.write-u326.ensures
     c₇.write-u64.ensures

@@ -3,7 +3,7 @@ use borrow.Author.Rules.{rules}
 use mathlib.Core.Path.{ap, sym, ◌∙◌}
 use Prim.Native.Nat.{◌+◌, ◌/◌, ◌%◌, ◌^◌}
 use lib.Seq.{sets}
-use Rattle.siginfo.specs.Bytes.{u32Bytes, encode}
+use Rattle.siginfo.specs.Bytes.{u32_bytes, encode}
 use Rattle.siginfo.proofs.Numbers.{then-sets, encode-halves, length-encode}
 use Rattle.siginfo.proofs.write_u64.Statement.{statement}
 use Rattle.siginfo.proofs.write_u64.Tie as tie
@@ -16,11 +16,11 @@ returns c =
     let b = s.args.b.now in
     let at = s.args.at in
     let x = s.args.x in
-    let low = encode u32Bytes (x % 256 ^ u32Bytes) in
-    then-sets low (encode u32Bytes (x / 256 ^ u32Bytes)) b at (at + u32Bytes)
-    (ap (λ n. at + n) (sym (length-encode u32Bytes (x % 256 ^ u32Bytes))))
+    let low = encode u32_bytes (x % 256 ^ u32_bytes) in
+    then-sets low (encode u32_bytes (x / 256 ^ u32_bytes)) b at (at + u32_bytes)
+    (ap (λ n. at + n) (sym (length-encode u32_bytes (x % 256 ^ u32_bytes))))
     c₁.write-u32.ensures c₂.write-u322.ensures
-    ∙ ap (sets b at) (encode-halves u32Bytes u32Bytes x)
+    ∙ ap (sets b at) (encode-halves u32_bytes u32_bytes x)
 
 pub write-u64-spec : {M : Type 1} → statement M
 write-u64-spec =

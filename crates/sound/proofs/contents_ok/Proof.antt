@@ -4,7 +4,7 @@ use borrow.Author.Rules.{rules}
 use borrow.Author.Tests.{not-true, not-false}
 use native.Mathlib.Omega.{arith}
 use lib.ListN.{length, length-replicate}
-use Rattle.limits.specs.Limits.{processPlaces, threadPlaces}
+use Rattle.limits.specs.Limits.{process_places, thread_places}
 use Rattle.hints.proofs.Laws.{none-hinted}
 use Rattle.queue.proofs.Buffer.{length-laid}
 use Rattle.sound.proofs.Whole.{places-wrong, records-decide}
@@ -13,10 +13,10 @@ use Rattle.sound.proofs.contents_ok.Statement.{statement}
 use Rattle.sound.proofs.contents_ok.Tie as tie
 
 fill-requires : tie.Need-fill-requires
-fill-requires c κs = (search rules, (search rules, none-hinted processPlaces (omega arith)))
+fill-requires c κs = (search rules, (search rules, none-hinted process_places (omega arith)))
 
 fill-requires-2 : tie.Need-fill-requires-2
-fill-requires-2 c κs = (search rules, (search rules, none-hinted threadPlaces (omega arith)))
+fill-requires-2 c κs = (search rules, (search rules, none-hinted thread_places (omega arith)))
 
 places-ok-requires : tie.Need-places-ok-requires
 places-ok-requires c κs =
@@ -49,8 +49,8 @@ records-ok-requires c κs =
     let ignored = p.places-ok.new.1.1.1.1.0 in
     let owners = p.places-ok.new.1.1.1.1.1.0 in
     let kept = p.places-ok.auto.1.1.1.1 in
-    let long : (length ignored ≡ processPlaces) × (length owners ≡ threadPlaces) =
-    (kept.0 ∙ length-replicate {A = ℕ} processPlaces 0, kept.1.0 ∙ length-replicate {A = ℕ} threadPlaces 0) in (
+    let long : (length ignored ≡ process_places) × (length owners ≡ thread_places) =
+    (kept.0 ∙ length-replicate {A = ℕ} process_places 0, kept.1.0 ∙ length-replicate {A = ℕ} thread_places 0) in (
       (
         processes-noted a.args.ps.now a.args.ts.now ph th ignored owners a.requires.0 ok
             long (p.places-ok.ensures.1.0 held) (search rules, f.fill.ensures),

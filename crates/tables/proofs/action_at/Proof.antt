@@ -1,13 +1,13 @@
 -- `action_at` meets its contract. Assumes nothing.
 use mathlib.Core.Path.{sym}
 use borrow.Author.Rules.{rules}
-use Rattle.tables.specs.Tables.{actionFrom}
+use Rattle.tables.specs.Tables.{action_from}
 use Rattle.tables.proofs.Places.{action-words}
 use Rattle.tables.proofs.action_at.Statement.{statement}
 use Rattle.tables.proofs.action_at.Tie as tie
 
 returns : tie.Need-returns
-unfolding actionFrom
+unfolding action_from
 returns c =
     let b = c.before.before.before in
     let a = b.before.before in

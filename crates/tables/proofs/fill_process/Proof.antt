@@ -1,7 +1,7 @@
 -- `fill_process` meets its contract: each promise of `put_field` on what the one before left. Assumes nothing.
 use borrow.Author.Rules.{rules}
-use Rattle.tables.specs.Tables.{processesOf}
-use Rattle.tables.proofs.Words.{length-processesOf}
+use Rattle.tables.specs.Tables.{processes_of}
+use Rattle.tables.proofs.Words.{length-processes_of}
 use Rattle.tables.proofs.Places.{process-filled}
 use Rattle.tables.proofs.fill_process.Statement.{statement}
 use Rattle.tables.proofs.fill_process.Tie as tie
@@ -15,8 +15,8 @@ returns c =
     let p₁ = p₂.before.before.before.before in
     let p₀ = p₁.before.before.before.before in
     let a = p₀.before.before.before.before.before.before.before.before in
-    process-filled (processesOf a.args.ps.now) _ _ _ _ _ _ a.args.place a.args.new
-    (rw length-processesOf a.requires.1)
+    process-filled (processes_of a.args.ps.now) _ _ _ _ _ _ a.args.place a.args.new
+    (rw length-processes_of a.requires.1)
     p₀.clear-process.ensures p₁.put-field.ensures p₂.put-field2.ensures p₃.put-field3.ensures
     p₄.put-field4.ensures p₅.put-field5.ensures
 

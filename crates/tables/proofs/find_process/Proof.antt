@@ -4,9 +4,9 @@ use mathlib.Core.Bool.{not}
 use borrow.Author.Tests.{ne_eqb}
 use borrow.Author.Rules.{rules}
 use Rattle.lists.specs.Lists.{find}
-use Rattle.rules.specs.View.{isProcess}
-use Rattle.tables.specs.Tables.{heldProcesses, hasProcessId}
-use Rattle.tables.proofs.Words.{length-heldProcesses}
+use Rattle.rules.specs.View.{is_process}
+use Rattle.tables.specs.Tables.{held_processes, has_process_id}
+use Rattle.tables.proofs.Words.{length-held_processes}
 use Rattle.tables.proofs.Places.{find-zero, find-live}
 use Rattle.tables.proofs.find_process.Statement.{statement}
 use Rattle.tables.proofs.find_process.Tie as tie
@@ -14,14 +14,14 @@ use Rattle.tables.proofs.find_process.Tie as tie
 returns : tie.Need-returns
 returns c =
     let a = c.before.before in
-    let xs = heldProcesses a.args.ps.now in
-    sym (ap (λ n. find (isProcess n) xs) c.if1.true ∙ find-zero xs ∙ length-heldProcesses a.args.ps.now)
+    let xs = held_processes a.args.ps.now in
+    sym (ap (λ n. find (is_process n) xs) c.if1.true ∙ find-zero xs ∙ length-held_processes a.args.ps.now)
 
 returns-2 : tie.Need-returns-2
 returns-2 c =
     let a = c.before.before.before in
-    let xs = heldProcesses a.args.ps.now in
-    let e : c.process-place.result ≡ find (hasProcessId a.args.id) xs = c.process-place.ensures in
+    let xs = held_processes a.args.ps.now in
+    let e : c.process-place.result ≡ find (has_process_id a.args.id) xs = c.process-place.ensures in
     e ∙ sym (find-live xs a.args.id (ap not (ne_eqb a.args.id 0 c.before.if1.false)))
 
 pub find-process-spec : {M : Type 1} → statement M

@@ -5,36 +5,36 @@ use native.Mathlib.Omega.{arith}
 use borrow.Author.Rules.{rules}
 use borrow.Author.Tests.{eq-eqb, ne_eqb}
 use lib.ListN.{drop}
-use Rattle.limits.specs.Limits.{processPlaces}
+use Rattle.limits.specs.Limits.{process_places}
 use Rattle.lists.specs.Lists.{find}
 use Rattle.lists.proofs.Loops.{find_none, find-more, find-here, find-done}
-use Rattle.rules.specs.Types.{noProcess}
-use Rattle.tables.specs.Tables.{heldProcesses, hasProcessId}
-use Rattle.tables.proofs.Words.{length-heldProcesses}
+use Rattle.rules.specs.Types.{no_process}
+use Rattle.tables.specs.Tables.{held_processes, has_process_id}
+use Rattle.tables.proofs.Words.{length-held_processes}
 use Rattle.tables.proofs.Places.{process-test}
 use Rattle.tables.proofs.process_place.Statement.{statement}
 use Rattle.tables.proofs.process_place.Tie as tie
 
 abbrev invariant-loop : tie.invariant-loop
 invariant-loop ps id i₀ i =
-    (i ≤ processPlaces)
-    × (find (hasProcessId id) (heldProcesses ps) ≡ i + find (hasProcessId id) (drop i (heldProcesses ps)))
+    (i ≤ process_places)
+    × (find (has_process_id id) (held_processes ps) ≡ i + find (has_process_id id) (drop i (held_processes ps)))
 
 abbrev decreases-loop : tie.decreases-loop
-decreases-loop ps id i₀ i = processPlaces - i
+decreases-loop ps id i₀ i = process_places - i
 
 loop-holds : tie.Need-loop-init invariant-loop decreases-loop
 loop-holds c =
     let a = c.before in
-    (omega arith, find_none (hasProcessId a.args.id) noProcess (heldProcesses a.args.ps.now))
+    (omega arith, find_none (has_process_id a.args.id) no_process (held_processes a.args.ps.now))
 
 returns : tie.Need-returns invariant-loop decreases-loop
 returns c =
     let l = c.before.before.before in
     let a = l.before.before in
     let w = c.before.field_at.result in
-    sym (find-here (hasProcessId a.args.id) noProcess (heldProcesses a.args.ps.now) l.loop.i
-    (rw length-heldProcesses (omega arith)) l.loop.invariant.1
+    sym (find-here (has_process_id a.args.id) no_process (held_processes a.args.ps.now) l.loop.i
+    (rw length-held_processes (omega arith)) l.loop.invariant.1
     (process-test a.args.ps.now l.loop.i a.args.id w c.before.field_at.ensures
     ∙ eq-eqb w a.args.id c.if1.true))
 
@@ -44,8 +44,8 @@ loop-again c =
     let a = l.before.before in
     let w = c.before.field_at.result in (
       omega arith,
-      find-more (hasProcessId a.args.id) noProcess (heldProcesses a.args.ps.now) l.loop.i
-          (rw length-heldProcesses (omega arith)) l.loop.invariant.1
+      find-more (has_process_id a.args.id) no_process (held_processes a.args.ps.now) l.loop.i
+          (rw length-held_processes (omega arith)) l.loop.invariant.1
           (process-test a.args.ps.now l.loop.i a.args.id w c.before.field_at.ensures
           ∙ ne_eqb w a.args.id c.if1.false),
     )
@@ -53,8 +53,8 @@ loop-again c =
 returns-2 : tie.Need-returns-2 invariant-loop decreases-loop
 returns-2 c =
     let a = c.before.before.before in
-    sym (find-done (hasProcessId a.args.id) noProcess (heldProcesses a.args.ps.now) c.before.loop.i
-    (rw length-heldProcesses (omega arith)) c.before.loop.invariant.1)
+    sym (find-done (has_process_id a.args.id) no_process (held_processes a.args.ps.now) c.before.loop.i
+    (rw length-held_processes (omega arith)) c.before.loop.invariant.1)
 
 pub process-place-spec : {M : Type 1} → statement M
 process-place-spec =

@@ -2,7 +2,7 @@
 use native.Mathlib.Omega.{arith}
 use borrow.Author.Rules.{rules}
 use lib.ListN.{length-set}
-use Rattle.tables.specs.Tables.{actionTo}
+use Rattle.tables.specs.Tables.{action_to}
 use Rattle.tables.proofs.Places.{action-put}
 use Rattle.tables.proofs.put_action.Statement.{statement}
 use Rattle.tables.proofs.put_action.Tie as tie
@@ -14,7 +14,7 @@ slice-write-ps-3 : tie.Need-slice-write-ps-3
 slice-write-ps-3 c = simp length-set (omega arith)
 
 returns : tie.Need-returns
-unfolding actionTo
+unfolding action_to
 returns c =
     let b = c.before in
     let a = b.before.before in

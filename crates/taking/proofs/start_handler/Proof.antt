@@ -2,7 +2,7 @@
 use mathlib.Core.Path.{◌∙◌, sym}
 use borrow.Author.Rules.{rules}
 use Rattle.effects.proofs.Makes.{ready-first, ready-last, made-last, made_as}
-use Rattle.effects.specs.Effects.{threadOf}
+use Rattle.effects.specs.Effects.{thread_of}
 use Rattle.taking.proofs.Handlers.{starts, keeping, resetting}
 use Rattle.taking.proofs.start_handler.Statement.{statement}
 use Rattle.taking.proofs.start_handler.Tie as tie
@@ -10,13 +10,13 @@ use Rattle.taking.proofs.start_handler.Tie as tie
 set-mask-requires : tie.Need-set-mask-requires
 set-mask-requires c κs =
     let a = c.before.before.before.before.before.before.before.before.before in
-    let t = threadOf a.args.thread a.args.process a.args.mask in
+    let t = thread_of a.args.thread a.args.process a.args.mask in
     ready-first a.requires (starts t a.args.a a.args.signal c.handler-mask.result c.handler-mask.ensures)
 
 store-action-requires : tie.Need-store-action-requires
 store-action-requires c κs =
     let a = c.before.before.before.before.before.before.before.before.before.before.before.before.before.before.before.before.before.before.before in
-    let t = threadOf a.args.thread a.args.process a.args.mask in
+    let t = thread_of a.args.thread a.args.process a.args.mask in
     let m = c.before.before.before.before.before.before.before.before.before.before.handler-mask in
     let w = c.before.before.before.before.before.before.before.before.before.set-mask in
     let r =
@@ -29,7 +29,7 @@ returns : tie.Need-returns
 returns c =
     let a =
     c.before.before.before.before.before.before.before.before.before.before.before.before.before.before.before.before.before.before.before.before.before.before.before.before.before.before.before.before in
-    let t = threadOf a.args.thread a.args.process a.args.mask in
+    let t = thread_of a.args.thread a.args.process a.args.mask in
     let m = c.before.before.before.before.before.before.before.before.before.before.before.before.before.before.before.before.before.before.before.handler-mask in
     let w = c.before.before.before.before.before.before.before.before.before.before.before.before.before.before.before.before.before.before.set-mask in
     let r = sym c.before.before.before.before.before.before.before.before.before.before.before.before.before.before.before.is-reset.ensures
@@ -43,7 +43,7 @@ returns-2 : tie.Need-returns-2
 returns-2 c =
     let a =
     c.before.before.before.before.before.before.before.before.before.before.before.before.before.before in
-    let t = threadOf a.args.thread a.args.process a.args.mask in
+    let t = thread_of a.args.thread a.args.process a.args.mask in
     let m = c.before.before.before.before.before.handler-mask in
     let w = c.before.before.before.before.set-mask in
     let r = sym c.before.is-reset.ensures ∙ c.if1.false in

@@ -34,11 +34,11 @@ returns-2 c =
     let x = c.before.before.next_of in
     take-nothing l t n.result n.ensures c.before.before.before.before.before.before.before.if1.false
     x.result x.ensures c.enum_told.given.1
-    (bytes-each l.threadBuffer (λ i. omega (
+    (bytes-each l.thread_buffer (λ i. omega (
       arith,
       c.before.before.before.before.before.before.before.before.before.before.before.before.before.before.slice-known3.given i,
     )))
-    (bytes-each l.processBuffer (λ i. omega (
+    (bytes-each l.process_buffer (λ i. omega (
       arith,
       c.before.before.before.before.before.before.before.before.before.before.before.before.before.slice-known4.given i,
     )))
@@ -72,8 +72,8 @@ returns-3 c =
     (record {
       processes = search rules;
       threads = search rules;
-      threadBuffer = search rules;
-      processBuffer = search rules;
+      thread_buffer = search rules;
+      process_buffer = search rules;
     })
     (bytes-each w.new.1.1.0 (λ i. omega (arith, c.before.before.slice-known7.given i)))
     (bytes-each w.new.1.1.1.0 (λ i. omega (arith, c.slice-known8.given i)))

@@ -3,7 +3,7 @@ use borrow.Author.Rules.{rules}
 use Rattle.rules.specs.Taking.{deliver}
 use Rattle.sound.proofs.Facts.{processes-long, threads-long, thread-listed}
 use Rattle.sound.specs.Lent.{given}
-use Rattle.effects.specs.Effects.{threadOf}
+use Rattle.effects.specs.Effects.{thread_of}
 use Rattle.effects.proofs.Makes.{ready-part, ready-last, made-last}
 use Rattle.view.proofs.Live.{owner-good, process-held}
 use Rattle.taking.proofs.Taken.{answered, signal-named, known}
@@ -51,7 +51,7 @@ dequeue-requires c κs =
     let d =
     known l a.pre.sound t a.pre.live a.args.next a.pre.next a.pre.something r.result r.ensures
     p.result p.ensures m.result m.ensures b.result b.ensures in
-    ready-part (deliver (threadOf t p.result m.result) b.result r.result.signal) d.ready d.parts
+    ready-part (deliver (thread_of t p.result m.result) b.result r.result.signal) d.ready d.parts
 
 deliver-requires : tie.Need-deliver-requires
 deliver-requires c κs =

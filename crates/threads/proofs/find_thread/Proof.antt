@@ -47,9 +47,9 @@ use denote.Triple.Statement.{Contract}
 use denote.Triple.Table.{entered}
 use denote.Triple.Walked.{says}
 use Rattle.lists.specs.Lists.{find}
-use Rattle.threads.specs.Records.{noThread, hasId}
+use Rattle.threads.specs.Records.{no_thread, has_id}
 use Rattle.threads.specs.declared.Thread.{Thread}
-use Rattle.threads.proofs.Size.{recordSize, near}
+use Rattle.threads.proofs.Size.{record_size, near}
 use Rattle.threads.proofs.Search.{Passed, starts, found, passed, at-end}
 use Rattle.threads.proofs.Walk.{Cell, spare, holds, slots, cells, frees_all, Truths, truths, Its, ends_by}
 use Rattle.threads.proofs.Walk.{meets-by}
@@ -97,7 +97,7 @@ module _ {M : Type 1} {𝓤 : Ura M} (𝓛 : Logic 𝓤) (mem : Memory → SProp
   abbrev Part : Share → Fml
   Part s = (arr_parts (shares T.the_row) n).part s ys b o
 
-  exits : (r : ℕ) → r ≡ find (hasId id) ys → r < 2 ^ 64 → ent 𝓤 (⋆ 𝓛 (‵ (flft κ q) ∷ [])) (Post (vint w64 r))
+  exits : (r : ℕ) → r ≡ find (has_id id) ys → r < 2 ^ 64 → ent 𝓤 (⋆ 𝓛 (‵ (flft κ q) ∷ [])) (Post (vint w64 r))
   exits r e gr =
       qed 𝓛 (‵ (flft κ q) ∷ []) ∵
       suffices ! _ (ends_by 𝓛 f.ended (f.clauses 𝓛 mem run) bound (vint w64 r) r (tt, (tt, tt))) $
@@ -164,15 +164,15 @@ module _ {M : Type 1} {𝓤 : Ura M} (𝓛 : Logic 𝓤) (mem : Memory → SProp
         assigns ! (bin ! (load ! (from ! (fld ! refl (stop !))) (look_in ! 14 (sub ! 0 refl (whole !))))
         (load ! (from ! (stop !)) (look ! 8 refl)) tt)
         (from ! (stop !)) (init ! 4 refl (tt, tt)) $
-        rewrite ! 4 (λ (p : ℕ). ‵ (fat full_share ty_ptr l₆ 0 (vptr b p))) (sym (place_is recordSize o i.0)) refl $
+        rewrite ! 4 (λ (p : ℕ). ‵ (fat full_share ty_ptr l₆ 0 (vptr b p))) (sym (place_is record_size o i.0)) refl $
         elem_out ! T.the_row (Is T.the_row) (shows 𝓛 T.the_row) vals (LL.tells T.the_type T'.the_laws) q' ys
-        i.0 noThread b o l (λ g.
+        i.0 no_thread b o l (λ g.
         -- [ts[i]; what it owns; the others; what shuts; the locals]
         assigns ! (of_opd ! (load ! (from ! (hop ! (look ! 6 refl) (fld ! refl (stop !))))
         (look_in ! 0 (sub ! 0 refl (whole !)))))
         (from ! (stop !))
-        (init ! 4 refl (tt, record { fits = (LL.owed T.the_type T'.the_laws (get_or ys i.0 noThread) _ g).0.1 })) $
-        elem_back ! T.the_row q' ys i.0 noThread (vals (get_or ys i.0 noThread)) b o l $
+        (init ! 4 refl (tt, record { fits = (LL.owed T.the_type T'.the_laws (get_or ys i.0 no_thread) _ g).0.1 })) $
+        elem_back ! T.the_row q' ys i.0 no_thread (vals (get_or ys i.0 no_thread)) b o l $
         assigns ! (bin ! (load ! (from ! (stop !)) (look ! 2 refl)) (load ! (from ! (stop !)) (look ! 12 refl)) tt)
         (from ! (stop !)) (store ! 6 refl (tt, tt)) $
         first ! $ branches ! (load ! (from ! (stop !)) (look ! 6 refl))
@@ -188,7 +188,7 @@ module _ {M : Type 1} {𝓤 : Ura M} (𝓛 : Logic 𝓤) (mem : Memory → SProp
         forget ! 2 refl $ forget ! 4 refl $ forget ! 6 refl $ forget ! 8 refl $
         again ! Nearer At i (next other) (add-one-dec n i.0 l)))
       where
-        next : T (not (eqb (get_or ys i.0 noThread).id id)) → Upto
+        next : T (not (eqb (get_or ys i.0 no_thread).id id)) → Upto
         next other = (i.0 + 1, (add-one-le l, passed ys id i.0 l i.1.1 other))
 
     -- the turn that leaves the loop

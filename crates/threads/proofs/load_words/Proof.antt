@@ -44,10 +44,10 @@ use denote.Triple.Spec.{Meets, triple_of}
 use denote.Triple.Statement.{Contract, Triple}
 use denote.Triple.Table.{entered, cited}
 use denote.Triple.Walked.{says, needs}
-use Rattle.limits.specs.Limits.{threadPlaces, threadTable}
-use Rattle.threads.specs.Records.{noThread, words_of, withRecord}
+use Rattle.limits.specs.Limits.{thread_places, thread_table}
+use Rattle.threads.specs.Records.{no_thread, words_of, with_record}
 use Rattle.threads.specs.declared.Thread.{Thread}
-use Rattle.threads.proofs.Size.{recordSize, near-full}
+use Rattle.threads.proofs.Size.{record_size, near-full}
 use Rattle.threads.proofs.Turns.{Upto, Nearer, Nearer-wf, fits, next, nearer, tested}
 use Rattle.threads.proofs.Lent.{at-list, lends_row, row_back, resolves}
 use Rattle.threads.proofs.Walk.{Cell, spare, holds, slots, cells, frees_all, copied, constant, reborrows, Its}
@@ -79,7 +79,7 @@ module _ {M : Type 1} {𝓤 : Ura M} (𝓛 : Logic 𝓤) (mem : Memory → SProp
 module _ {M : Type 1} {𝓤 : Ura M} (𝓛 : Logic 𝓤) (mem : Memory → SProp 𝓤)
     (run : Routine → Fun 𝓤) (κ₁ κ₂ : Lft) (q₁ q₂ : Share) (b o : ℕ) (γ : GName) (ys : List Thread) (b₂ o₂ : ℕ)
     (γ₂ : GName) (ds : List ℕ) (gn : Room T.the_row (length ys)) (gd : Room u64 (length ds))
-    (all : length ys ≡ threadPlaces) (long : length ds ≡ threadTable) where
+    (all : length ys ≡ thread_places) (long : length ds ≡ thread_table) where
   -- the slices' machine values
   open 𝓛 use {H}
 
@@ -124,8 +124,8 @@ module _ {M : Type 1} {𝓤 : Ura M} (𝓛 : Logic 𝓤) (mem : Memory → SProp
       (ν ∷ [], tt),
       (full_share, tt),
       tt,
-      (at-list b₂ o₂ δ (written ds ys i), (i, (get_or ys i noThread, tt))),
-      (s₂ ∷ [], (vint w64 i ∷ [], (vals (get_or ys i noThread), tt))),
+      (at-list b₂ o₂ δ (written ds ys i), (i, (get_or ys i no_thread, tt))),
+      (s₂ ∷ [], (vint w64 i ∷ [], (vals (get_or ys i no_thread), tt))),
     ),
     tt,
   )
@@ -133,14 +133,14 @@ module _ {M : Type 1} {𝓤 : Ura M} (𝓛 : Logic 𝓤) (mem : Memory → SProp
   abbrev Words : ℕ → GName → ℕ → Fml
   Words ν δ i = (MutSlice (named 0) (ν ∷ []) u64).own_val (at-list b₂ o₂ δ (written ds ys i)) (s₂ ∷ [])
 
-  asks-put : (ν : ℕ) (δ : GName) (i : ℕ) → i < threadPlaces → i < 2 ^ 64
-      → Is T.the_row (get_or ys i noThread) (vals (get_or ys i noThread))
+  asks-put : (ν : ℕ) (δ : GName) (i : ℕ) → i < thread_places → i < 2 ^ 64
+      → Is T.the_row (get_or ys i no_thread) (vals (get_or ys i no_thread))
       → ent 𝓤 (⋆ 𝓛 (‵ (flft (ν ∷ []) full_share) ∷ ‵ (Words ν δ i) ∷ [])) ((Put 𝓛 mem run).pre (to-put ν δ i))
   asks-put ν δ i l gi g =
       qed 𝓛 (‵ (flft (ν ∷ []) full_share) ∷ ‵ (Words ν δ i) ∷ []) ∵
       says ! (written-long ds ys i ∙ long, l) $ nothing ! $ move ! (1 ∷ 0 ∷ []) $ join ! $ frame ! $
-      nothing ! $ owned ! T.the_row (Is T.the_row) (LL.makes T.the_type T'.the_plain 𝓛) (get_or ys i noThread)
-      (vals (get_or ys i noThread)) g $
+      nothing ! $ owned ! T.the_row (Is T.the_row) (LL.makes T.the_type T'.the_plain 𝓛) (get_or ys i no_thread)
+      (vals (get_or ys i no_thread)) g $
       fjoin ! $ owned ! usize (Is usize) (uint_Makes 𝓛 w64) i _ (refl, gi) $ fjoin ! $ move ! (1 ∷ 0 ∷ []) $
       fjoin ! $ done !
 
@@ -179,11 +179,11 @@ module _ {M : Type 1} {𝓤 : Ura M} (𝓛 : Logic 𝓤) (mem : Memory → SProp
           (after_block 𝓤 H (after_seq 𝓤 H (Wp 𝓤 H C Λ En mir.t-3 (at_return 𝓤 H En Post)) (at_return 𝓤 H En Post)))
 
       -- a turn that writes the words of record i
-      writes : (i : Upto) → ltb i.0 threadPlaces ≡ true → i.0 < threadPlaces
+      writes : (i : Upto) → ltb i.0 thread_places ≡ true → i.0 < thread_places
           → Sq 𝓛 (At i) (runs C Λ En mir.turn-1 (any_q (Turned i)))
       unfolding after_turn
       writes i e l =
-          assigns ! (bin ! (copied ! 20 refl) (constant ! threadPlaces (refl, tt)) tt)
+          assigns ! (bin ! (copied ! 20 refl) (constant ! thread_places (refl, tt)) tt)
           (from ! (stop !)) (init ! 18 refl (tt, tt)) $
           rewrite ! 18 (λ (t : Bool). ‵ (fat full_share ty_bool l₄ 0 (vbool t))) e refl $
           stays ! (copied ! 18 refl) $
@@ -192,12 +192,12 @@ module _ {M : Type 1} {𝓤 : Ura M} (𝓛 : Logic 𝓤) (mem : Memory → SProp
           (from ! (stop !)) (init ! 10 refl (tt, record { fits = near-full i.0 l })) $
           assigns ! (bin ! (load ! (from ! (fld ! refl (stop !))) (look_in ! 24 (sub ! 0 refl (whole !))))
           (copied ! 10 refl) tt) (from ! (stop !)) (init ! 8 refl (tt, tt)) $
-          rewrite ! 8 (λ (p : ℕ). ‵ (fat full_share ty_ptr l₉ 0 (vptr b p))) (sym (place_is recordSize o i.0)) refl $
+          rewrite ! 8 (λ (p : ℕ). ‵ (fat full_share ty_ptr l₉ 0 (vptr b p))) (sym (place_is record_size o i.0)) refl $
           elem_out ! T.the_row (Is T.the_row) (shows 𝓛 T.the_row) vals (LL.tells T.the_type T'.the_laws) q' ys
-          i.0 noThread b o inside (λ g.
+          i.0 no_thread b o inside (λ g.
           assigns ! (of_opd ! (load ! (from ! (hop ! (look ! 10 refl) (stop !))) (look_raw ! 0 refl))) (from ! (stop !))
-          (init ! 8 refl ((LL.lawful T.the_type T'.the_laws 𝓛).typed (get_or ys i.0 noThread) _ g).0) $
-          elem_back ! T.the_row q' ys i.0 noThread (vals (get_or ys i.0 noThread)) b o inside $
+          (init ! 8 refl ((LL.lawful T.the_type T'.the_laws 𝓛).typed (get_or ys i.0 no_thread) _ g).0) $
+          elem_back ! T.the_row q' ys i.0 no_thread (vals (get_or ys i.0 no_thread)) b o inside $
           -- the words are lent for a lifetime ν of the call
           lft_new ! tt (λ ν. move ! (3 ∷ []) $
           lends_row ! tt u64 (named 0) (ν ∷ []) b₂ o₂ (length ds) (written ds ys i.0) (written-long ds ys i.0) gd
@@ -206,7 +206,7 @@ module _ {M : Type 1} {𝓤 : Ura M} (𝓛 : Logic 𝓤) (mem : Memory → SProp
           use2 𝓛 (raw ((Put 𝓛 mem run).pre (to-put ν δ i.0))) (asks-put ν δ i.0 l (fits i) g) $
           -- [what `put_record` asks; the lender's part; ts's row; what shuts; the open borrow; obs; auth; the locals]
           calls_by ! (fm_of 𝓤 H 𝓛.laws 𝓣) pr.ended (pr.clauses 𝓛 mem run) known-put (to-put ν δ i.0)
-          (λ u zs. zs.0 ≡ withRecord i.0 (get_or ys i.0 noThread) (written ds ys i.0)) (λ u zs. id⊢ 𝓤 _)
+          (λ u zs. zs.0 ≡ with_record i.0 (get_or ys i.0 no_thread) (written ds ys i.0)) (λ u zs. id⊢ 𝓤 _)
           (and_then ! (copied ! 13 refl) (and_then ! (copied ! 21 refl) (and_then ! (copied ! 7 refl) (no_more !))))
           (λ w u zs eq unit.
           land ! (from ! (stop !)) (init ! 19 refl ((Nothing-Lawful 𝓛).typed u (w ∷ []) unit).0) $
@@ -225,11 +225,11 @@ module _ {M : Type 1} {𝓤 : Ura M} (𝓛 : Logic 𝓤) (mem : Memory → SProp
           inside = subst (λ (k : ℕ). i.0 < k) (sym all) l
 
       -- the turn that leaves the loop, and the rest of the body
-      ends : (i : Upto) → ltb i.0 threadPlaces ≡ false → i.0 ≡ threadPlaces
+      ends : (i : Upto) → ltb i.0 thread_places ≡ false → i.0 ≡ thread_places
           → Sq 𝓛 (At i) (runs C Λ En mir.turn-1 (any_q (Turned i)))
       unfolding after_turn
       ends i e last =
-          assigns ! (bin ! (copied ! 20 refl) (constant ! threadPlaces (refl, tt)) tt)
+          assigns ! (bin ! (copied ! 20 refl) (constant ! thread_places (refl, tt)) tt)
           (from ! (stop !)) (init ! 18 refl (tt, tt)) $
           rewrite ! 18 (λ (t : Bool). ‵ (fat full_share ty_bool l₄ 0 (vbool t))) e refl $
           leaves_loop ! (copied ! 18 refl) $ exec ! C Λ En mir.t-3 (at_ret En Post) $

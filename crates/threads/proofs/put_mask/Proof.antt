@@ -40,7 +40,7 @@ use denote.Triple.Table.{entered, cited}
 use denote.Triple.Walked.{says}
 use Rattle.lists.specs.Lists.{find}
 use Rattle.sigset.specs.declared.SigSet.{SigSet}
-use Rattle.threads.specs.Records.{noThread, withMask, hasId, withMaskAt}
+use Rattle.threads.specs.Records.{no_thread, with_mask, has_id, with_mask_at}
 use Rattle.threads.specs.declared.Thread.{Thread}
 use Rattle.threads.proofs.Search.{mask-changed-at, mask-changed-out}
 use Rattle.threads.proofs.Lent.{at-list, shares-slice, shared_back, gives_up}
@@ -108,7 +108,7 @@ module _ {M : Type 1} {𝓤 : Ura M} (𝓛 : Logic 𝓤) (mem : Memory → SProp
   abbrev Last : List Thread → Fml
   Last zs = fsep (finally T.the_row γ zs) (feq ℕ (length zs) (length ys))
 
-  exits : (zs : List Thread) → zs ≡ withMaskAt id m ys
+  exits : (zs : List Thread) → zs ≡ with_mask_at id m ys
       → ent 𝓤 (⋆ 𝓛 (‵ (Last zs) ∷ ‵ (flft κ q) ∷ [])) (Post vunit)
   exits zs e =
       qed 𝓛 (‵ (Last zs) ∷ ‵ (flft κ q) ∷ []) ∵
@@ -164,14 +164,14 @@ module _ {M : Type 1} {𝓤 : Ura M} (𝓛 : Logic 𝓤) (mem : Memory → SProp
       En = slots (Frame (spare (ty_int w64) l₄))
 
       -- after the branch
-      leaves : (i : ℕ) (zs : List Thread) → zs ≡ withMaskAt id m ys
+      leaves : (i : ℕ) (zs : List Thread) → zs ≡ with_mask_at id m ys
           → Sq 𝓛 (‵ (Last zs) ∷ ‵ (flft κ q) ∷ cells (found_at i) []) (runs C Λ En mir.t-7 (at_ret En Post))
       leaves i zs e =
           assigns ! (of_opd ! (unit_lit !)) (from ! (stop !)) (init ! 24 refl (tt, tt)) $
           returns ! (look ! 24 refl) $ forget ! 24 refl $ frees_all ! 2 (found_at i) refl $ by ! (exits zs e)
 
       -- once the search has answered i: the place is looked at, and the mask put there if it is inside
-      puts : (i : ℕ) → i ≡ find (hasId id) ys → i < 2 ^ 64
+      puts : (i : ℕ) → i ≡ find (has_id id) ys → i < 2 ^ 64
           → Sq 𝓛 (‵ (flft κ q) ∷ ‵ Own ∷ cells (found_at i) []) (runs C Λ En mir.t-4 (at_ret En Post))
       puts i e gi =
           assigns ! (of_opd ! (load ! (from ! (fld ! refl (stop !))) (look_in ! 22 (sub ! 1 refl (whole !)))))
@@ -181,7 +181,7 @@ module _ {M : Type 1} {𝓤 : Ura M} (𝓛 : Logic 𝓤) (mem : Memory → SProp
           (λ y. reborrows ! 22 4 2 gn.0 refl refl refl refl refl refl refl refl $
           use2 𝓛 (raw ((Set 𝓛 mem run).pre (to_set i))) (asks_set i gi (ltb→lt i (length ys) y)) $
           calls-by-last ! fm st.ended (st.clauses 𝓛 mem run) known-set (to_set i)
-          (λ u zs. zs.0 ≡ set ys i (withMask m (get_or ys i noThread))) (λ u zs. id⊢ 𝓤 _)
+          (λ u zs. zs.0 ≡ set ys i (with_mask m (get_or ys i no_thread))) (λ u zs. id⊢ 𝓤 _)
           (and_then ! (copied ! 1 refl) (and_then ! (copied ! 15 refl) (and_then ! (copied ! 17 refl)
           (no_more !))))
           (λ w u zs e₁ unit.
@@ -204,7 +204,7 @@ module _ {M : Type 1} {𝓤 : Ura M} (𝓛 : Logic 𝓤) (mem : Memory → SProp
           lft_new ! tt (λ ν. move ! (2 ∷ 1 ∷ []) $
           shares-slice ! tt T.the_row (named 0) (named 0) (ν ∷ []) b o ys (λ δ.
           move ! (2 ∷ 0 ∷ []) $ use2 𝓛 (raw ((Find 𝓛 mem run).pre (to-find ν δ))) (asks-find ν δ) $
-          calls_by ! fm fd.ended (fd.clauses 𝓛 mem run) known-find (to-find ν δ) (λ r zs. r ≡ find (hasId id) ys)
+          calls_by ! fm fd.ended (fd.clauses 𝓛 mem run) known-find (to-find ν δ) (λ r zs. r ≡ find (has_id id) ys)
           (λ r zs. id⊢ 𝓤 _) (and_then ! (copied ! 12 refl) (and_then ! (copied ! 20 refl) (no_more !)))
           (λ w r zs e is.
           land ! (from ! (stop !)) (init ! 18 refl ((uint_Lawful 𝓛 w64).typed r _ is).0) $

@@ -2,7 +2,7 @@
 use native.Mathlib.Omega.{arith}
 use borrow.Author.Rules.{rules}
 use lib.ListN.{length-set}
-use Rattle.threads.specs.Records.{recordTo}
+use Rattle.threads.specs.Records.{record_to}
 use Rattle.threads.proofs.Words.{record-put}
 use Rattle.threads.proofs.put_record.Statement.{statement}
 use Rattle.threads.proofs.put_record.Tie as tie
@@ -17,7 +17,7 @@ slice-write-ws-4 : tie.Need-slice-write-ws-4
 slice-write-ws-4 c = simp length-set (omega arith)
 
 returns : tie.Need-returns
-unfolding recordTo
+unfolding record_to
 returns c =
     let a = c.before.before in
     record-put a.args.ws.now a.args.i a.args.t

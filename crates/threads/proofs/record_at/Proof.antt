@@ -1,12 +1,12 @@
 -- `record_at` meets its contract. Assumes nothing.
 use borrow.Author.Rules.{rules}
-use Rattle.threads.specs.Records.{recordFrom}
+use Rattle.threads.specs.Records.{record_from}
 use Rattle.threads.proofs.Words.{record-at}
 use Rattle.threads.proofs.record_at.Statement.{statement}
 use Rattle.threads.proofs.record_at.Tie as tie
 
 returns : tie.Need-returns
-unfolding recordFrom
+unfolding record_from
 returns c =
     let a = c.before.before.before.before in
     record-at a.args.ws.now a.args.i a.requires.0 a.requires.1

@@ -36,11 +36,11 @@ use denote.Triple.Spec.{Meets, triple_of}
 use denote.Triple.Statement.{Contract}
 use denote.Triple.Table.{entered}
 use denote.Triple.Walked.{says, needs}
-use Rattle.threads.specs.Records.{noThread, withMask}
+use Rattle.threads.specs.Records.{no_thread, with_mask}
 use Rattle.threads.specs.declared.Thread.{Thread}
 use Rattle.sigset.specs.declared.SigSet.{SigSet}
 use Rattle.threads.proofs.Search.{mask-kept}
-use Rattle.threads.proofs.Size.{recordSize, near}
+use Rattle.threads.proofs.Size.{record_size, near}
 use Rattle.threads.proofs.Lent.{resolves}
 use Rattle.threads.proofs.Walk.{Cell, spare, holds, slots, cells, frees_all, copied, Truths, truths, Its}
 use Rattle.threads.proofs.Walk.{ends_by, meets-by}
@@ -82,10 +82,10 @@ module _ {M : Type 1} {𝓤 : Ura M} (𝓛 : Logic 𝓤) (mem : Memory → SProp
   Post = (Me 𝓛 mem run).post bound
 
   abbrev old : Thread
-  old = get_or ys i noThread
+  old = get_or ys i no_thread
 
   abbrev new : Thread
-  new = withMask v old
+  new = with_mask v old
 
   -- what closing the borrow asks: the other fields' facts, and the new mask's
   made : Is T.the_row old (vals old) → Is S.the_row v (S'.lowered v ∷ []) → Is T.the_row new (vals new)
@@ -133,15 +133,15 @@ module _ {M : Type 1} {𝓤 : Ura M} (𝓛 : Logic 𝓤) (mem : Memory → SProp
       puts : Sq 𝓛 (‵ (row T.the_row full_share ys b o) ∷ ‵ (fobor κ q (Held T.the_row (length ys) b o γ))
           ∷ ‵ (fobs γ ((coded_holeys T.the_row).code (heres T.the_row ys)))
           ∷ ‵ (fauth γ ((coded_holeys T.the_row).code (heres T.the_row ys)))
-          ∷ cells (Frame (holds ty_ptr l₅ (vptr b (place recordSize o i)))) [])
+          ∷ cells (Frame (holds ty_ptr l₅ (vptr b (place record_size o i)))) [])
           (runs C Λ En mir.t-3 (at_ret En Post))
       puts =
           elem_out ! T.the_row (Is T.the_row) (shows 𝓛 T.the_row) vals (LL.tells T.the_type T'.the_laws) full_share
-          ys i noThread b o l (λ g.
+          ys i no_thread b o l (λ g.
           -- [ts[i]; what it owns; the others; the open borrow; obs; auth; the locals]
           -- behind the reference the record stands at its raw type; its field that is a struct is reached at its own
-          use1 𝓛 (‵ (fat full_share T'.mir b (place recordSize o i) (T'.lowered old)))
-          (𝓛.laws.raw_at full_share T'.mir b (place recordSize o i) (T'.lowered old)) $
+          use1 𝓛 (‵ (fat full_share T'.mir b (place record_size o i) (T'.lowered old)))
+          (𝓛.laws.raw_at full_share T'.mir b (place record_size o i) (T'.lowered old)) $
           assigns ! (of_opd ! (load ! (from ! (hop ! (look ! 14 refl) (fld ! refl (fld ! refl (stop !)))))
           (look_in ! 0 (sub ! 0 refl (sub ! 2 refl (whole !)))))) (from ! (stop !))
           (init ! 12 refl (tt, record { fits = held g })) $
@@ -152,13 +152,13 @@ module _ {M : Type 1} {𝓤 : Ura M} (𝓛 : Logic 𝓤) (mem : Memory → SProp
           (from ! (stop !)) (init ! 8 refl (tt, record { fits = near i (length ys) l gn.1 })) $
           assigns ! (bin ! (load ! (from ! (fld ! refl (stop !))) (look_in ! 22 (sub ! 0 refl (whole !))))
           (copied ! 8 refl) tt) (from ! (stop !)) (init ! 6 refl (tt, tt)) $
-          rewrite ! 6 (λ (p : ℕ). ‵ (fat full_share ty_ptr l₉ 0 (vptr b p))) (sym (place_is recordSize o i)) refl $
+          rewrite ! 6 (λ (p : ℕ). ‵ (fat full_share ty_ptr l₉ 0 (vptr b p))) (sym (place_is record_size o i)) refl $
           assigns_last ! (of_opd ! (copied ! 18 refl)) (from ! (hop ! (look ! 6 refl) (fld ! refl (stop !))))
           (store_in ! 0 (sub ! 2 refl (whole !))
           ((LL.lawful S.the_type S'.the_laws 𝓛).typed v (S'.lowered v ∷ []) gv).0) $
           exec ! C Λ En mir.t-6 (at_ret En Post) $
-          use1 𝓛 (‵ (cell_at full_share (T.the_row).mir (vals new) b (place recordSize o i)))
-          (𝓛.laws.at_raw full_share T'.mir b (place recordSize o i) (T'.lowered new)) $
+          use1 𝓛 (‵ (cell_at full_share (T.the_row).mir (vals new) b (place record_size o i)))
+          (𝓛.laws.at_raw full_share T'.mir b (place record_size o i) (T'.lowered new)) $
           move ! (1 ∷ []) $ drop ! $
           owned ! T.the_row (Is T.the_row) (LL.makes T.the_type T'.the_plain 𝓛) new (vals new) (made g gv) $
           move ! (1 ∷ 0 ∷ []) $ elem_put ! T.the_row full_share ys i new (vals new) b o l $
@@ -166,9 +166,9 @@ module _ {M : Type 1} {𝓤 : Ura M} (𝓛 : Logic 𝓤) (mem : Memory → SProp
           forget ! 3 refl $ forget ! 5 refl $ forget ! 7 refl $ forget ! 9 refl $ forget ! 11 refl $
           leaves (set ys i new) refl (length-set ys i new))
           (λ same. skips ! $ exec ! C Λ En mir.t-6 (at_ret En Post) $
-          use1 𝓛 (‵ (cell_at full_share (T.the_row).mir (vals old) b (place recordSize o i)))
-          (𝓛.laws.at_raw full_share T'.mir b (place recordSize o i) (T'.lowered old)) $
-          elem_back ! T.the_row full_share ys i noThread (vals old) b o l $
+          use1 𝓛 (‵ (cell_at full_share (T.the_row).mir (vals old) b (place record_size o i)))
+          (𝓛.laws.at_raw full_share T'.mir b (place record_size o i) (T'.lowered old)) $
+          elem_back ! T.the_row full_share ys i no_thread (vals old) b o l $
           closes_slice ! tt T.the_row ys ys refl b o $
           forget ! 7 refl $ forget ! 9 refl $ forget ! 11 refl $ leaves ys (mask-kept ys i v same) refl))
         where
@@ -194,7 +194,7 @@ module _ {M : Type 1} {𝓤 : Ura M} (𝓛 : Logic 𝓤) (mem : Memory → SProp
         assigns ! (bin ! (load ! (from ! (fld ! refl (stop !))) (look_in ! 16 (sub ! 0 refl (whole !))))
         (load ! (from ! (stop !)) (look ! 10 refl)) tt)
         (from ! (stop !)) (init ! 8 refl (tt, tt)) $
-        rewrite ! 8 (λ (p : ℕ). ‵ (fat full_share ty_ptr l₅ 0 (vptr b p))) (sym (place_is recordSize o i)) refl $
+        rewrite ! 8 (λ (p : ℕ). ‵ (fat full_share ty_ptr l₅ 0 (vptr b p))) (sym (place_is record_size o i)) refl $
         forget ! 10 refl $
         move ! (21 ∷ []) $ fsplit ! $ move ! (1 ∷ []) $ drop ! $ fsplit ! $ drop ! $ fsplit ! $ move ! (22 ∷ []) $
         split ! $ move ! (1 ∷ []) $ drop ! $

@@ -44,10 +44,10 @@ use denote.Triple.Spec.{Meets, triple_of}
 use denote.Triple.Statement.{Contract, Triple}
 use denote.Triple.Table.{entered, cited}
 use denote.Triple.Walked.{says, needs}
-use Rattle.limits.specs.Limits.{threadPlaces, threadTable}
-use Rattle.threads.specs.Records.{noThread, recordsOf, sameRecord}
+use Rattle.limits.specs.Limits.{thread_places, thread_table}
+use Rattle.threads.specs.Records.{no_thread, records_of, same_record}
 use Rattle.threads.specs.declared.Thread.{Thread}
-use Rattle.threads.proofs.Size.{recordSize, near-full}
+use Rattle.threads.proofs.Size.{record_size, near-full}
 use Rattle.threads.proofs.Turns.{Upto, Nearer, Nearer-wf, fits, next, nearer, tested}
 use Rattle.threads.proofs.Lent.{at-list, resolves}
 use Rattle.threads.proofs.Walk.{Cell, spare, holds, slots, cells, frees_all, copied, constant, is-yes, Its}
@@ -91,7 +91,7 @@ module _ {M : Type 1} {𝓤 : Ura M} (𝓛 : Logic 𝓤) (mem : Memory → SProp
 module _ {M : Type 1} {𝓤 : Ura M} (𝓛 : Logic 𝓤) (mem : Memory → SProp 𝓤)
     (run : Routine → Fun 𝓤) (κ₁ κ₂ : Lft) (q₁ q₂ : Share) (b o : ℕ) (γ : GName) (ys : List Thread) (b₂ o₂ : ℕ)
     (γ₂ : GName) (ws : List ℕ) (gn : Room T.the_row (length ys)) (gd : Room u64 (length ws))
-    (all : length ys ≡ threadPlaces) (long : length ws ≡ threadTable) where
+    (all : length ys ≡ thread_places) (long : length ws ≡ thread_table) where
   -- the slices' machine values, and the records of the words
   open 𝓛 use {H}
 
@@ -102,7 +102,7 @@ module _ {M : Type 1} {𝓤 : Ura M} (𝓛 : Logic 𝓤) (mem : Memory → SProp
   s₂ = slice_val (b₂, o₂) (length ws)
 
   abbrev zs : List Thread
-  zs = recordsOf threadPlaces ws
+  zs = records_of thread_places ws
 
   abbrev arg : Args f.signature (κ₁, (κ₂, tt))
   arg = (at-list b o γ ys, (at-list b₂ o₂ γ₂ ws, tt))
@@ -131,10 +131,10 @@ module _ {M : Type 1} {𝓤 : Ura M} (𝓛 : Logic 𝓤) (mem : Memory → SProp
 
   -- record i of the row, of which the first i were stored, and that of the words
   abbrev old : ℕ → Thread
-  old i = get_or (filled ys zs i) i noThread
+  old i = get_or (filled ys zs i) i no_thread
 
   abbrev new : ℕ → Thread
-  new i = get_or zs i noThread
+  new i = get_or zs i no_thread
 
   -- what each callee is handed, and what it asks
   abbrev Words : Fml
@@ -144,7 +144,7 @@ module _ {M : Type 1} {𝓤 : Ura M} (𝓛 : Logic 𝓤) (mem : Memory → SProp
   to_read i =
       (((κ₂, tt), (q₂, tt), tt, (at-list b₂ o₂ γ₂ ws, (i, tt)), (s₂ ∷ [], (vint w64 i ∷ [], tt))), tt)
 
-  asks_read : (i : ℕ) → i < threadPlaces → i < 2 ^ 64
+  asks_read : (i : ℕ) → i < thread_places → i < 2 ^ 64
       → ent 𝓤 (⋆ 𝓛 (‵ (flft κ₂ q₂) ∷ ‵ Words ∷ [])) ((Read 𝓛 mem run).pre (to_read i))
   asks_read i l gi =
       qed 𝓛 (‵ (flft κ₂ q₂) ∷ ‵ Words ∷ []) ∵
@@ -203,7 +203,7 @@ module _ {M : Type 1} {𝓤 : Ura M} (𝓛 : Logic 𝓤) (mem : Memory → SProp
           (after_block 𝓤 H (after_seq 𝓤 H (Wp 𝓤 H C Λ En mir.t-3 (at_return 𝓤 H En Post)) (at_return 𝓤 H En Post)))
 
       -- the turn's end
-      goes_on : (i : Upto) → i.0 < threadPlaces → Sq 𝓛 (Stored (i.0 + 1) i.0) (runs C Λ En bump (any_q (Turned i)))
+      goes_on : (i : Upto) → i.0 < thread_places → Sq 𝓛 (Stored (i.0 + 1) i.0) (runs C Λ En bump (any_q (Turned i)))
       unfolding after_turn
       goes_on i l =
           assigns_last ! (bin ! (copied ! 22 refl) (lit ! tt) (record { fits = fits (next i l) }))
@@ -211,11 +211,11 @@ module _ {M : Type 1} {𝓤 : Ura M} (𝓛 : Logic 𝓤) (mem : Memory → SProp
           again ! Nearer At i (next i l) (nearer i l)
 
       -- a turn at record i
-      stores : (i : Upto) → ltb i.0 threadPlaces ≡ true → i.0 < threadPlaces
+      stores : (i : Upto) → ltb i.0 thread_places ≡ true → i.0 < thread_places
           → Sq 𝓛 (At i) (runs C Λ En mir.turn-1 (any_q (Turned i)))
       unfolding after_turn
       stores i e l =
-          assigns ! (bin ! (copied ! 22 refl) (constant ! threadPlaces (refl, tt)) tt)
+          assigns ! (bin ! (copied ! 22 refl) (constant ! thread_places (refl, tt)) tt)
           (from ! (stop !)) (init ! 18 refl (tt, tt)) $
           rewrite ! 18 (λ (t : Bool). ‵ (fat full_share ty_bool l₅ 0 (vbool t))) e refl $
           stays ! (copied ! 18 refl) $ forget ! 18 refl $
@@ -236,17 +236,17 @@ module _ {M : Type 1} {𝓤 : Ura M} (𝓛 : Logic 𝓤) (mem : Memory → SProp
           (from ! (stop !)) (init ! 16 refl (tt, record { fits = near-full i.0 l })) $
           assigns ! (bin ! (load ! (from ! (fld ! refl (stop !))) (look_in ! 26 (sub ! 0 refl (whole !))))
           (copied ! 16 refl) tt) (from ! (stop !)) (init ! 14 refl (tt, tt)) $
-          rewrite ! 14 (λ (p : ℕ). ‵ (fat full_share ty_ptr l₇ 0 (vptr b p))) (sym (place_is recordSize o i.0)) refl $
+          rewrite ! 14 (λ (p : ℕ). ‵ (fat full_share ty_ptr l₇ 0 (vptr b p))) (sym (place_is record_size o i.0)) refl $
           elem_out ! T.the_row (Is T.the_row) (shows 𝓛 T.the_row) vals (LL.tells T.the_type T'.the_laws) full_share
-          (filled ys zs i.0) i.0 noThread b o inside (λ g.
+          (filled ys zs i.0) i.0 no_thread b o inside (λ g.
           assigns ! (of_opd ! (load ! (from ! (hop ! (look ! 16 refl) (stop !))) (look_raw ! 0 refl))) (from ! (stop !))
           (init ! 14 refl ((LL.lawful T.the_type T'.the_laws 𝓛).typed (old i.0) _ g).0) $
-          elem_back ! T.the_row full_share (filled ys zs i.0) i.0 noThread (vals (old i.0)) b o inside $
+          elem_back ! T.the_row full_share (filled ys zs i.0) i.0 no_thread (vals (old i.0)) b o inside $
           -- whether they are the same
           use0 𝓛 (raw ((Same 𝓛 mem run).pre (to_same (old i.0) (new i.0))))
           (asks-same (old i.0) (new i.0) g (made r w eq is)) $
           calls_by ! (fm_of 𝓤 H 𝓛.laws 𝓣) sm.ended (sm.clauses 𝓛 mem run) known_same
-          (to_same (old i.0) (new i.0)) (λ r' xs'. r' ≡ sameRecord (old i.0) (new i.0)) (λ r' xs'. id⊢ 𝓤 _)
+          (to_same (old i.0) (new i.0)) (λ r' xs'. r' ≡ same_record (old i.0) (new i.0)) (λ r' xs'. id⊢ 𝓤 _)
           (and_then ! (copied ! 13 refl) (and_then ! (copied ! 21 refl) (no_more !)))
           (λ w' r' xs' eq' is'.
           land ! (from ! (stop !)) (init ! 21 refl ((bool_Lawful 𝓛).typed r' _ is').0) $
@@ -259,9 +259,9 @@ module _ {M : Type 1} {𝓤 : Ura M} (𝓛 : Logic 𝓤) (mem : Memory → SProp
           (from ! (stop !)) (init ! 8 refl (tt, record { fits = near-full i.0 l })) $
           assigns ! (bin ! (load ! (from ! (fld ! refl (stop !))) (look_in ! 26 (sub ! 0 refl (whole !))))
           (copied ! 8 refl) tt) (from ! (stop !)) (init ! 6 refl (tt, tt)) $
-          rewrite ! 6 (λ (p : ℕ). ‵ (fat full_share ty_ptr l₁₁ 0 (vptr b p))) (sym (place_is recordSize o i.0)) refl $
+          rewrite ! 6 (λ (p : ℕ). ‵ (fat full_share ty_ptr l₁₁ 0 (vptr b p))) (sym (place_is record_size o i.0)) refl $
           elem_out ! T.the_row (Is T.the_row) (shows 𝓛 T.the_row) vals (LL.tells T.the_type T'.the_laws) full_share
-          (filled ys zs i.0) i.0 noThread b o inside (λ _.
+          (filled ys zs i.0) i.0 no_thread b o inside (λ _.
           assigns_last ! (of_opd ! (copied ! 22 refl)) (from ! (hop ! (look ! 8 refl) (stop !))) (store_raw ! 0 refl
           ((LL.lawful T.the_type T'.the_laws 𝓛).typed (new i.0) _ (made r w eq is)).0) $
           exec ! C Λ En bump (any_q (Turned i)) $
@@ -270,7 +270,7 @@ module _ {M : Type 1} {𝓤 : Ura M} (𝓛 : Logic 𝓤) (mem : Memory → SProp
           move ! (1 ∷ 0 ∷ []) $
           elem_put ! T.the_row full_share (filled ys zs i.0) i.0 (new i.0) (vals (new i.0)) b o inside $
           rewrite ! 0 (λ (xs : List Thread). ‵ (row T.the_row full_share xs b o))
-          (filled-suc ys zs i.0 threadPlaces all (records-long ws) l) refl $
+          (filled-suc ys zs i.0 thread_places all (records-long ws) l) refl $
           forget ! 6 refl $ forget ! 8 refl $ forget ! 10 refl $ forget ! 12 refl $ forget ! 14 refl $
           forget ! 16 refl $ forget ! 18 refl $ forget ! 20 refl $ goes_on i l))
           (λ same. skips ! $ exec ! C Λ En bump (any_q (Turned i)) $
@@ -287,23 +287,23 @@ module _ {M : Type 1} {𝓤 : Ura M} (𝓛 : Logic 𝓤) (mem : Memory → SProp
 
           inside : i.0 < length (filled ys zs i.0)
           inside =
-              subst (λ (k : ℕ). i.0 < k) (sym (filled-long ys zs i.0 threadPlaces all (records-long ws) i.1)) l
+              subst (λ (k : ℕ). i.0 < k) (sym (filled-long ys zs i.0 thread_places all (records-long ws) i.1)) l
 
-          kept : T (not (not (sameRecord (old i.0) (new i.0)))) → filled ys zs i.0 ≡ filled ys zs (i.0 + 1)
-          kept same = filled-same ys zs i.0 threadPlaces all (records-long ws) l
-              (same-is (old i.0) (new i.0) (is_true _ (is-yes (sameRecord (old i.0) (new i.0)) same)))
+          kept : T (not (not (same_record (old i.0) (new i.0)))) → filled ys zs i.0 ≡ filled ys zs (i.0 + 1)
+          kept same = filled-same ys zs i.0 thread_places all (records-long ws) l
+              (same-is (old i.0) (new i.0) (is_true _ (is-yes (same_record (old i.0) (new i.0)) same)))
 
       -- the turn that leaves the loop, and the rest of the body
-      ends : (i : Upto) → ltb i.0 threadPlaces ≡ false → i.0 ≡ threadPlaces
+      ends : (i : Upto) → ltb i.0 thread_places ≡ false → i.0 ≡ thread_places
           → Sq 𝓛 (At i) (runs C Λ En mir.turn-1 (any_q (Turned i)))
       unfolding after_turn
       ends i e last =
-          assigns ! (bin ! (copied ! 22 refl) (constant ! threadPlaces (refl, tt)) tt)
+          assigns ! (bin ! (copied ! 22 refl) (constant ! thread_places (refl, tt)) tt)
           (from ! (stop !)) (init ! 18 refl (tt, tt)) $
           rewrite ! 18 (λ (t : Bool). ‵ (fat full_share ty_bool l₅ 0 (vbool t))) e refl $
           leaves_loop ! (copied ! 18 refl) $ exec ! C Λ En mir.t-3 (at_ret En Post) $
           rewrite ! 0 (λ (xs : List Thread). ‵ (row T.the_row full_share xs b o))
-          (ap (filled ys zs) last ∙ filled-all ys zs threadPlaces all (records-long ws)) refl $
+          (ap (filled ys zs) last ∙ filled-all ys zs thread_places all (records-long ws)) refl $
           closes_slice ! tt T.the_row ys zs as_long b o $ resolves ! T.the_row (named 0) κ₁ γ zs $
           -- [the last records; the borrow; its token; what ws owns; its token; the locals]
           move ! (1 ∷ 3 ∷ []) $ drop ! $ drop ! $

@@ -4,15 +4,15 @@ use mathlib.Core.Path.{sym, ap, ◌∙◌}
 use Prim.Native.Nat.{ℕ}
 use native.Mathlib.Omega.{arith}
 use borrow.Author.Tests.{ne_eqb}
-use Rattle.rules.specs.View.{liveProcess, liveThread}
+use Rattle.rules.specs.View.{live_process, live_thread}
 use Rattle.rules.specs.Store.{view}
 use Rattle.rules.proofs.Queues.{queue-target, target-process, target-thread, target-owner}
 use Rattle.sound.specs.Lent.{decoded, view_of, given}
 use Rattle.sound.proofs.Facts.{processes-long, threads-long}
 use Rattle.view.proofs.Fields.{process-place, thread-place}
 use Rattle.view.proofs.Pending.{process-marks-read, thread-marks-read}
-use Rattle.sigset.specs.Set.{setOf}
-use Rattle.rules.specs.View.{targetQueue}
+use Rattle.sigset.specs.Set.{set_of}
+use Rattle.rules.specs.View.{target_queue}
 
 find-process-requires : tie.Need-find-process-requires
 find-process-requires c κs =
@@ -20,7 +20,7 @@ find-process-requires c κs =
     processes-long (given a.args.ps a.args.ts a.args.tb a.args.pb) a.requires.sound
 
 field-at-requires : tie.Need-field-at-requires
-unfolding liveProcess view decoded
+unfolding live_process view decoded
 field-at-requires c κs = let a = c.before.before.before.before.before.before in (
   processes-long (given a.args.ps a.args.ts a.args.tb a.args.pb) a.requires.sound,
   (
@@ -43,8 +43,8 @@ returns c = let a = c.before.before.before.before.before.before.before in
     (queue-target (view_of (given a.args.ps a.args.ts a.args.tb a.args.pb))
     a.args.process a.args.thread a.requires.live))
     c.before.find-process.ensures (omega (arith, c.field_at.type-inv)) c.field_at.ensures
-    ∙ ap (λ (n : ℕ). setOf ((view_of (given a.args.ps a.args.ts a.args.tb a.args.pb)).marks
-    (targetQueue a.args.process n))) (sym t)
+    ∙ ap (λ (n : ℕ). set_of ((view_of (given a.args.ps a.args.ts a.args.tb a.args.pb)).marks
+    (target_queue a.args.process n))) (sym t)
 
 find-thread-requires : tie.Need-find-thread-requires
 find-thread-requires c κs =
@@ -52,7 +52,7 @@ find-thread-requires c κs =
     threads-long (given a.args.ps a.args.ts a.args.tb a.args.pb) a.requires.sound
 
 thread-field-at-requires : tie.Need-thread-field-at-requires
-unfolding liveThread view decoded
+unfolding live_thread view decoded
 thread-field-at-requires c κs = let a = c.before.before.before.before.before.before in (
   threads-long (given a.args.ps a.args.ts a.args.tb a.args.pb) a.requires.sound,
   (

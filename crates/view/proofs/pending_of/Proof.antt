@@ -5,7 +5,7 @@ use Rattle.view.proofs.pending_of.Tie as tie
 use mathlib.Core.Path.{◌∙◌}
 use Rattle.sound.proofs.Facts.{thread-buffer-long, process-buffer-long}
 use Rattle.view.proofs.Pending.{pending-read}
-use Rattle.rules.specs.View.{targetQueue}
+use Rattle.rules.specs.View.{target_queue}
 
 queued-of-requires : tie.Need-queued-of-requires
 queued-of-requires c κs =
@@ -17,7 +17,7 @@ queued-of-requires c κs =
 returns : tie.Need-returns
 returns c = let a = c.before.before.before.before.before.before.before in
     c.union.ensures ∙ pending-read (given a.args.ps a.args.ts a.args.tb a.args.pb)
-    (targetQueue a.args.process a.args.thread) c.before.queued-of.result
+    (target_queue a.args.process a.args.thread) c.before.queued-of.result
     c.before.before.marks-of.result c.before.queued-of.ensures c.before.before.marks-of.ensures
 
 pub pending-of-spec : {M : Type 1} → statement M

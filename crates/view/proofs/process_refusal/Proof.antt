@@ -3,7 +3,7 @@ use mathlib.Core.Path.{sym, ◌∙◌}
 use mathlib.Core.List.{[], ◌∷◌}
 use borrow.Author.Rules.{rules}
 use borrow.Author.Tests.{not-true, not-false}
-use Rattle.rules.specs.Refusals.{esrch, noProcessLive}
+use Rattle.rules.specs.Refusals.{esrch, no_process_live}
 use Rattle.sound.proofs.Facts.{processes-long}
 use Rattle.sound.specs.Lent.{view_of, given}
 use Rattle.answers.proofs.Endings.{rows-fault}
@@ -17,7 +17,7 @@ returns c =
     let s = c.before in
     let a = s.before.before.before.before.before in
     let l = given a.args.ps a.args.ts a.args.tb a.args.pb in
-    rows-fault (esrch (noProcessLive (view_of l) a.args.process) ∷ []) l
+    rows-fault (esrch (no_process_live (view_of l) a.args.process) ∷ []) l
     (sym s.sound.ensures ∙ not-true s.sound.result c.if1.true)
 
 is-process-requires : tie.Need-is-process-requires
@@ -34,7 +34,7 @@ returns-2 c =
     let a = s.before.before.before.before.before in
     let l = given a.args.ps a.args.ts a.args.tb a.args.pb in
     rows_at l (sym s.sound.ensures ∙ not-false s.sound.result i.before.if1.false) []
-    (esrch (noProcessLive (view_of l) a.args.process)) [] tt
+    (esrch (no_process_live (view_of l) a.args.process)) [] tt
     (no-process l a.args.process i.is-process.result i.is-process.ensures ∙ c.if2.true)
 
 returns-3 : tie.Need-returns-3
@@ -44,7 +44,7 @@ returns-3 c =
     let a = s.before.before.before.before.before in
     let l = given a.args.ps a.args.ts a.args.tb a.args.pb in
     rows_none l (sym s.sound.ensures ∙ not-false s.sound.result i.before.if1.false)
-    (esrch (noProcessLive (view_of l) a.args.process) ∷ [])
+    (esrch (no_process_live (view_of l) a.args.process) ∷ [])
     (no-process l a.args.process i.is-process.result i.is-process.ensures ∙ c.if2.false, tt)
 
 pub process-refusal-spec : {M : Type 1} → statement M

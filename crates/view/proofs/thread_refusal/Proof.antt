@@ -3,7 +3,7 @@ use mathlib.Core.Path.{sym, ◌∙◌}
 use mathlib.Core.List.{[], ◌∷◌}
 use borrow.Author.Rules.{rules}
 use borrow.Author.Tests.{not-true, not-false}
-use Rattle.rules.specs.Refusals.{esrch, noThreadLive}
+use Rattle.rules.specs.Refusals.{esrch, no_thread_live}
 use Rattle.sound.proofs.Facts.{threads-long}
 use Rattle.sound.specs.Lent.{view_of, given}
 use Rattle.answers.proofs.Endings.{rows-fault}
@@ -17,7 +17,7 @@ returns c =
     let s = c.before in
     let a = s.before.before.before.before.before in
     let l = given a.args.ps a.args.ts a.args.tb a.args.pb in
-    rows-fault (esrch (noThreadLive (view_of l) a.args.thread) ∷ []) l
+    rows-fault (esrch (no_thread_live (view_of l) a.args.thread) ∷ []) l
     (sym s.sound.ensures ∙ not-true s.sound.result c.if1.true)
 
 is-thread-requires : tie.Need-is-thread-requires
@@ -34,7 +34,7 @@ returns-2 c =
     let a = s.before.before.before.before.before in
     let l = given a.args.ps a.args.ts a.args.tb a.args.pb in
     rows_at l (sym s.sound.ensures ∙ not-false s.sound.result i.before.if1.false) []
-    (esrch (noThreadLive (view_of l) a.args.thread)) [] tt
+    (esrch (no_thread_live (view_of l) a.args.thread)) [] tt
     (no-thread l a.args.thread i.is-thread.result i.is-thread.ensures ∙ c.if2.true)
 
 returns-3 : tie.Need-returns-3
@@ -44,7 +44,7 @@ returns-3 c =
     let a = s.before.before.before.before.before in
     let l = given a.args.ps a.args.ts a.args.tb a.args.pb in
     rows_none l (sym s.sound.ensures ∙ not-false s.sound.result i.before.if1.false)
-    (esrch (noThreadLive (view_of l) a.args.thread) ∷ [])
+    (esrch (no_thread_live (view_of l) a.args.thread) ∷ [])
     (no-thread l a.args.thread i.is-thread.result i.is-thread.ensures ∙ c.if2.false, tt)
 
 pub thread-refusal-spec : {M : Type 1} → statement M

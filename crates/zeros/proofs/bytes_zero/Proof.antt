@@ -4,7 +4,7 @@ use borrow.Author.Rules.{rules}
 use mathlib.Core.Path.{◌≡◌, ◌∙◌, refl, sym}
 use borrow.Author.Tests.{not-true, not-false}
 use native.Mathlib.Omega.{arith}
-use Rattle.zeros.specs.Zeros.{blockBytes}
+use Rattle.zeros.specs.Zeros.{block_bytes}
 use Rattle.zeros.proofs.Zeros.{zeroes, last-zero, last-not}
 use Rattle.zeros.proofs.bytes_zero.Statement.{statement}
 use Rattle.zeros.proofs.bytes_zero.Tie as tie
@@ -24,7 +24,7 @@ returns c =
     let l = z.before.before in
     let a = l.before.before.args in
     sym
-    (last-not a.b.now a.from a.n l.loop.left blockBytes (omega arith) l.loop.invariant.1
+    (last-not a.b.now a.from a.n l.loop.left block_bytes (omega arith) l.loop.invariant.1
     (sym z.bytes-part-zero.ensures ∙ not-true z.bytes-part-zero.result c.if1.true))
 
 loop-again : tie.Need-loop-preserved invariant-loop decreases-loop
@@ -33,7 +33,7 @@ loop-again c =
     let l = z.before.before in
     let a = l.before.before.args in (
       omega arith,
-      last-zero a.b.now a.from a.n l.loop.left blockBytes (omega arith) l.loop.invariant.1
+      last-zero a.b.now a.from a.n l.loop.left block_bytes (omega arith) l.loop.invariant.1
           (sym z.bytes-part-zero.ensures ∙ not-false z.bytes-part-zero.result c.if1.false),
     )
 

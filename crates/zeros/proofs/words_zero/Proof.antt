@@ -4,7 +4,7 @@ use borrow.Author.Rules.{rules}
 use mathlib.Core.Path.{◌≡◌, ◌∙◌, refl, sym}
 use borrow.Author.Tests.{not-true, not-false}
 use native.Mathlib.Omega.{arith}
-use Rattle.zeros.specs.Zeros.{blockWords}
+use Rattle.zeros.specs.Zeros.{block_words}
 use Rattle.zeros.proofs.Zeros.{zeroes, last-zero, last-not}
 use Rattle.zeros.proofs.words_zero.Statement.{statement}
 use Rattle.zeros.proofs.words_zero.Tie as tie
@@ -24,7 +24,7 @@ returns c =
     let l = z.before.before in
     let a = l.before.before.args in
     sym
-    (last-not a.ws.now a.from a.n l.loop.left blockWords (omega arith) l.loop.invariant.1
+    (last-not a.ws.now a.from a.n l.loop.left block_words (omega arith) l.loop.invariant.1
     (sym z.words-part-zero.ensures ∙ not-true z.words-part-zero.result c.if1.true))
 
 loop-again : tie.Need-loop-preserved invariant-loop decreases-loop
@@ -33,7 +33,7 @@ loop-again c =
     let l = z.before.before in
     let a = l.before.before.args in (
       omega arith,
-      last-zero a.ws.now a.from a.n l.loop.left blockWords (omega arith) l.loop.invariant.1
+      last-zero a.ws.now a.from a.n l.loop.left block_words (omega arith) l.loop.invariant.1
           (sym z.words-part-zero.ensures ∙ not-false z.words-part-zero.result c.if1.false),
     )
 
