@@ -1,4 +1,5 @@
 // Every call by its value: what a host hands in, and what the layer answers.
+#![tactic(auto)]
 ghost use Rattle.std.specs.Prelude.{◌≡◌};
 ghost use Rattle.sound.specs.Lent.{before};
 ghost use Rattle.answers.specs.Step.{step_on, stepped};

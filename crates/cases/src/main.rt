@@ -1,6 +1,7 @@
 // Document 01's "Numbers to run against": tables of calls,
 // made one after the other through the boundary's entry, and a line for each number with what was answered.
 // Signals that are taken have a flagless handler unless the case says otherwise, and a return follows each take.
+#![tactic(auto)]
 use limits::{
     ANSWER_HANDLER, ANSWER_WORDS, BUFFER_BYTES, CALL_ADD_PROCESS, CALL_CLEAR, CALL_KILL,
     CALL_SIGACTION, CALL_SIGMASK, CALL_SIGPENDING, CALL_SIGQUEUE, CALL_SIGRETURN, CALL_TAKE,

@@ -1,4 +1,5 @@
 // Clearing the store.
+#![tactic(auto)]
 ghost use Rattle.std.specs.Prelude.{◌≡◌};
 ghost use Rattle.rules.specs.Types as call;
 ghost use Rattle.sound.specs.Lent.{lengths_are, before};

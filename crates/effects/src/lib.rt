@@ -1,6 +1,7 @@
 // Each primitive change of the rules, on the lent tables:
 // what they say after it is what the rules' `apply` makes of what they said before, and sound tables stay sound.
 // A table that a change does not touch is lent to it for reading: soundness is of all four.
+#![tactic(auto)]
 ghost use Rattle.std.specs.Prelude.{◌≡◌, true, [], ◌∷◌, map, length, set};
 ghost use Rattle.limits.specs.Limits.{thread_table, process_table};
 ghost use Rattle.lists.specs.Lists.{any, find};

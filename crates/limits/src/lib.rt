@@ -1,4 +1,5 @@
 // Every capacity, offset and number of document 01, by name. specs/Limits.antt has the same; no other file writes them.
+#![tactic(auto)]
 
 // ---- capacities
 

@@ -1,1 +1,2 @@
 // Generic list laws stand in specs/ and proofs/. This crate has no code.
+#![tactic(auto)]

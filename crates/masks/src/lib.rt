@@ -1,4 +1,5 @@
 // Masks and what they block: sigmask, sigreturn, sigpending.
+#![tactic(auto)]
 ghost use Rattle.std.specs.Prelude.{◌≡◌};
 ghost use Rattle.rules.specs.Types as call;
 ghost use Rattle.rules.specs.View.{the_thread};

@@ -1,4 +1,5 @@
 // What a thread takes next.
+#![tactic(auto)]
 ghost use Rattle.std.specs.Prelude.{◌≡◌, length};
 ghost use Rattle.limits.specs.Limits.{buffer_bytes};
 ghost use Rattle.rules.specs.View.{target_queue, the_thread};

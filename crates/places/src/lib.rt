@@ -1,5 +1,6 @@
 // Is each place of the process and of the thread table sound? The first half of the test of the whole store.
 // In passing it is noted which signals each process ignores, and in which place the process of each thread is.
+#![tactic(auto)]
 ghost use Rattle.std.specs.Prelude.{◌≡◌, true, cond, ◌+◌, ◌≤◌, ◌<◌, eqb, length};
 ghost use Rattle.std.specs.Int.Bits.{bit_or};
 ghost use Rattle.limits.specs.Limits.{process_places, process_table, thread_places, thread_table, signals, sig_ign};

@@ -1,5 +1,6 @@
 // What the programs write: texts with numbers set in, and what is in use of the tables.
 // A contract cannot speak of output; each program's file `stdout` does.
+#![tactic(auto)]
 ghost use Rattle.std.specs.Prelude.{◌≤◌, ◌<◌};
 ghost use Rattle.limits.specs.Limits.{process_places, thread_places, buffer_records, signals};
 

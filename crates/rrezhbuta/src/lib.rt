@@ -1,4 +1,5 @@
 // The layer as a host links it: the thread table is a lent row of records, and every call goes through one entry.
+#![tactic(auto)]
 ghost use Rattle.std.specs.Prelude.{◌≡◌, length};
 ghost use Rattle.limits.specs.Limits.{thread_places, thread_table};
 ghost use Rattle.boundary.specs.Boundary.{arguments};

@@ -1,4 +1,5 @@
 // Sends: kill, without a value, and queue, with one.
+#![tactic(auto)]
 ghost use Rattle.std.specs.Prelude.{◌≡◌, true, false, ◌&&◌, leb, ◌≤◌};
 ghost use Rattle.limits.specs.Limits.{signals, record_limit};
 ghost use Rattle.sigset.specs.Set.{set_of};

@@ -1,4 +1,5 @@
 // Signal sets. Signal s, from 1 to 64, is bit s - 1.
+#![tactic(auto)]
 ghost use Rattle.std.specs.Prelude.{◌≡◌};
 ghost use Rattle.sigset.specs.Set.{has, union, without, intersect, maskable, of_signal, lowest, bits};
 

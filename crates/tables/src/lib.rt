@@ -1,4 +1,5 @@
 // The process table and the thread table as words: a place found by id, read, written, filled and cleared.
+#![tactic(auto)]
 ghost use Rattle.std.specs.Prelude.{◌≡◌, ◌+◌, ◌-◌, ◌*◌, ◌≤◌, ◌<◌, length, get_or, set, replicate};
 ghost use Rattle.std.proofs.lemmas.List.Edits.{sets};
 ghost use Rattle.limits.specs.Limits.{process_places, process_table, thread_places, thread_table, signals, process_words};

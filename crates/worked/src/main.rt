@@ -1,6 +1,7 @@
 // A worked history: a table of calls, the first of them clear, made one after the other through the boundary's entry.
 // After each it writes the call, its answer, and what the tables then say, read from their words and bytes.
 // host/ledger reads it.
+#![tactic(auto)]
 use limits::{
     ANSWER_WORDS, BUFFER_BYTES, CALL_ADD_PROCESS, CALL_ADD_THREAD, CALL_CLEAR, CALL_KILL,
     CALL_LOOK, CALL_SIGACTION, CALL_SIGMASK, CALL_SIGPENDING, CALL_SIGQUEUE, CALL_SIGRETURN,

@@ -2,12 +2,8 @@
 use mathlib.Core.Path.{refl}
 use Rattle.hints.specs.Hints.{first_slot}
 use Rattle.hints.proofs.Laws.{first_below}
-use Rattle.hints.proofs.first_slot.Statement.{statement}
-use Rattle.hints.proofs.first_slot.Tie as tie
+use Rattle.hints.proofs.first_slot.Goals as goal
 
-returns : tie.Need-returns
+pub returns : goal.returns
 unfolding first_slot
 returns c = (refl, first_below c.args.id)
-
-pub first-slot-spec : {M : Type 1} → statement M
-first-slot-spec = tie.close (tie.spec returns)
