@@ -34,6 +34,8 @@ LEMMAS = [
     ("crates/rules/proofs/Aimed.antt", "same_queue"),
     ("crates/rules/proofs/FoundByKey.antt", "same_queue"),
     ("crates/rules/proofs/Marks.antt", "same_queue"),
+    ("crates/rules/proofs/PendingSomewhere.antt", "same_queue"),
+    ("crates/rules/proofs/PendingSound.antt", "same_queue"),
 ]
 
 

@@ -20,7 +20,7 @@ use Rattle.rules.specs.Store.{Place, Store, held, free_thread, used, records_for
 use Rattle.rules.specs.Store.{view}
 use Rattle.rules.specs.Sound.{aimed_at_thread, aimed_at_process}
 use Rattle.rules.specs.Fitting.{pends_at, pends_somewhere}
-use Rattle.rules.proofs.Marks.{thread_with, thread-below, thread-is, process-named, same_queue}
+use Rattle.rules.proofs.Marks.{thread_with, thread-below, thread-is, process-named, same_queue_lem}
 use Rattle.rules.proofs.Aimed.{thread-live, thread-process-live, thread-owner, process-own}
 use Rattle.rules.proofs.FoundByKey.{recorded, thread-record-queued, process-record-queued}
 
@@ -44,7 +44,7 @@ module _ (st : Store) where
   unfolding mark_in
   process-marked x m s g h =
       let q : Queue = process_queue x.holds.id in
-      and_both g (or_left (any (thread_mark q s) st.threads) (m (process_mark q s) (and_both (same_queue q q refl) h)))
+      and_both g (or_left (any (thread_mark q s) st.threads) (m (process_mark q s) (and_both (same_queue_lem q q refl) h)))
 
   pub thread-marked : (x : Place Thread) → Stands st.threads x → (s : ℕ) → is_signal s ≡ true
       → has x.marks s ≡ true → mark_in st (thread_queue x.holds) s ≡ true
@@ -52,7 +52,7 @@ module _ (st : Store) where
   thread-marked x m s g h =
       let q : Queue = thread_queue x.holds in
       and_both g (or_right (any (process_mark q s) st.processes)
-      (m (thread_mark q s) (and_both (same_queue q q refl) h)))
+      (m (thread_mark q s) (and_both (same_queue_lem q q refl) h)))
 
   -- ---- in a process
 

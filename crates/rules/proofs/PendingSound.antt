@@ -29,7 +29,7 @@ use Rattle.rules.specs.Refusals.{bad_target}
 use Rattle.rules.specs.Fitting.{live_queue, admits, fits}
 use Rattle.rules.proofs.BuffersSound.{with_buffers, buffers-sound}
 use Rattle.rules.proofs.Facts.{within-limit}
-use Rattle.rules.proofs.Marks.{process-named, queue-same, same_queue}
+use Rattle.rules.proofs.Marks.{process-named, queue-same, same_queue_lem}
 use Rattle.rules.proofs.ClausesByPlace.{GoodRecord, GoodBuffer, good}
 use Rattle.rules.proofs.FoundByKey.{recorded, thread-records, process-records}
 use Rattle.rules.proofs.PendingSomewhere.{pending-is}
@@ -149,7 +149,7 @@ not-again r rs h =
     let u : eqb y.signal r.signal ≡ true = and-fst (eqb y.signal r.signal) _ t in
     let z : standard r.signal ≡ true = ap standard (sym (eqb-true y.signal r.signal u)) ∙ k in
     let w : queue_of y ≡ queue_of r = queue-same (queue_of y) (queue_of r) (and-snd (eqb y.signal r.signal) _ t) in
-    clash (and_both (same_queue (queue_of r) (queue_of y) (sym w)) u) (f z))
+    clash (and_both (same_queue_lem (queue_of r) (queue_of y) (sym w)) u) (f z))
     (λ t. ap not t)))
     rs a)
 
