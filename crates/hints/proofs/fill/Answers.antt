@@ -7,9 +7,10 @@ use borrow.Author.Rules.{rules}
 use lib.ListN.{get_or}
 use Rattle.hints.proofs.Table.{in_table, Filling, filling-noted}
 use Rattle.hints.proofs.fill.Goals as goal
+use Rattle.hints.proofs.fill.Goals.{then-id-ne0, else-id-ne0}
 
 pub loop-i-init : goal.loop-i-init
-loop-i-init c = (search rules, c.requires.1)
+loop-i-init c = (search rules, c.requires.hints_len)
 
 pub overflow_mul-id : goal.overflow_mul-id
 overflow_mul-id c =
@@ -30,11 +31,12 @@ pub loop-i-preserved : goal.loop-i-preserved
 loop-i-preserved c =
     let a = c.args in (
       omega arith,
-      ⊎_elim
-          (λ w. filling-noted a.places c.loop-i.hints c.if-id-ne0.hints (get_or a.ws.now (c.loop-i.i * a.width) 0)
-          c.loop-i.i c.loop-i.invariant.1 (omega arith) (w.5 ∙ w.2.ensures))
-          (λ w. subst (Filling a.places) (sym w.1) c.loop-i.invariant.1)
-          c.if-id-ne0.branch,
+      elim c.if-id-ne0.branch [
+        then-id-ne0 w ↦
+            filling-noted a.places c.loop-i.hints c.if-id-ne0.hints (get_or a.ws.now (c.loop-i.i * a.width) 0)
+            c.loop-i.i c.loop-i.invariant.1 (omega arith) (w.hints-is ∙ w.note.ensures)
+        | else-id-ne0 w ↦ subst (Filling a.places) (sym w.hints-is) c.loop-i.invariant.1
+      ],
     )
 
 pub returns : goal.returns
