@@ -13,7 +13,7 @@ use sigset::SigSet;
 use types::{Action, Answer, Reply};
 
 // A new action, or none: then the call enquires.
-#[derive(Drop)]
+#[derive(Clone, Copy)]
 pub enum GivenAction {
     NoAction,
     Action(Action),

@@ -13,7 +13,7 @@ use types::{Answer, NewProcess};
 // ---- the calls by family, each with its arguments in the documented order
 
 // Who lives.
-#[derive(Drop)]
+#[derive(Clone, Copy)]
 pub enum Placing {
     AddProcess(NewProcess),
     // creator, id
@@ -22,7 +22,7 @@ pub enum Placing {
     EndThread(u32),
 }
 
-#[derive(Drop)]
+#[derive(Clone, Copy)]
 pub enum Sending {
     // by, to, thread, signal
     Kill(u32, u32, u32, u32),
@@ -31,7 +31,7 @@ pub enum Sending {
 }
 
 // Actions and masks.
-#[derive(Drop)]
+#[derive(Clone, Copy)]
 pub enum Setting {
     // process, signal, new action
     Sigaction(u32, u32, GivenAction),
@@ -42,7 +42,7 @@ pub enum Setting {
 }
 
 // What changes no table.
-#[derive(Drop)]
+#[derive(Clone, Copy)]
 pub enum Asking {
     Sigpending(u32),
     Look(u32),
@@ -50,7 +50,7 @@ pub enum Asking {
     Who(u32),
 }
 
-#[derive(Drop)]
+#[derive(Clone, Copy)]
 pub enum Call {
     Clear,
     Place(Placing),

@@ -23,7 +23,7 @@ use sigset::SigSet;
 use types::{Action, NewProcess, Siginfo};
 
 // How marks change: signals are added to them or removed from them.
-#[derive(Drop)]
+#[derive(Clone, Copy)]
 enum Marking {
     Adding(SigSet),
     Removing(SigSet),

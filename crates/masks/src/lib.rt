@@ -14,7 +14,7 @@ use sigset::SigSet;
 use types::{Answer, Reply};
 
 // A set to change a mask by, or none: then the call enquires.
-#[derive(Drop)]
+#[derive(Clone, Copy)]
 pub enum GivenSet {
     NoSet,
     Set(SigSet),

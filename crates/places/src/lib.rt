@@ -27,7 +27,7 @@ use sigset::SigSet;
 use types::Action;
 
 // What all actions of a process have together: their flags, their masks, and the signals that are set to ignore.
-#[derive(Drop)]
+#[derive(Clone, Copy)]
 pub struct Gathered {
     pub flags: u64,
     pub masks: SigSet,

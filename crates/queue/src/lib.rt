@@ -16,7 +16,7 @@ use types::Siginfo;
 
 // What a discard takes away: the records of a process or of a thread that ends,
 // or those of a process whose signals are in a set.
-#[derive(Drop)]
+#[derive(Clone, Copy)]
 pub enum Discarded {
     OfProcess(u32),
     OfThread(u32),

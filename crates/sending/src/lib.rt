@@ -23,7 +23,7 @@ use sigset::SigSet;
 use types::{Answer, Reply, Sent, Siginfo};
 
 // What the generation of a signal comes to.
-#[derive(Drop)]
+#[derive(Clone, Copy)]
 enum Generation {
     Testing,
     Killing,
@@ -35,7 +35,7 @@ enum Generation {
 }
 
 // A send is refused with an error number, or allowed, with what its generation comes to and its record.
-#[derive(Drop)]
+#[derive(Clone, Copy)]
 enum Decision {
     Refused(u32),
     Allowed(Generation, Siginfo),

@@ -6,7 +6,7 @@ ghost use Rattle.sigset.specs.Set.{has, union, without, intersect, maskable, of_
 use limits::{SIGKILL, SIGNALS, SIGSTOP};
 
 #[repr(C)]
-#[derive(Drop)]
+#[derive(Clone, Copy)]
 pub struct SigSet(pub u64);
 
 impl SigSet {

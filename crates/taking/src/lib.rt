@@ -75,7 +75,7 @@ fn start_handler(
 // ---- default outcomes
 
 // What a signal does by default.
-#[derive(Drop)]
+#[derive(Clone, Copy)]
 enum Outcome {
     Ignores,
     Stops,

@@ -11,7 +11,7 @@ use sigset::SigSet;
 
 // One record, as document 01 names its fields; all are words of 64 bits, so a C host has the same struct.
 #[repr(C)]
-#[derive(Drop)]
+#[derive(Clone, Copy)]
 pub struct Thread {
     pub id: u64,
     // the id of its process

@@ -4,7 +4,7 @@ use limits::SIG_DFL;
 use sigset::SigSet;
 
 // What a process does about a signal: a handler number (0 default, 1 ignore), flags, and a mask.
-#[derive(Drop)]
+#[derive(Clone, Copy)]
 pub struct Action {
     pub handler: u64,
     pub flags: u64,
@@ -21,7 +21,7 @@ impl Action {
 }
 
 // A pending signal with a value: document 01's record.
-#[derive(Drop)]
+#[derive(Clone, Copy)]
 pub struct Siginfo {
     pub process: u32,
     // 0 in the process buffer
@@ -35,7 +35,7 @@ pub struct Siginfo {
 }
 
 // A process to add: its ids, its first thread and that thread's mask.
-#[derive(Drop)]
+#[derive(Clone, Copy)]
 pub struct NewProcess {
     pub id: u32,
     // user ids
@@ -50,7 +50,7 @@ pub struct NewProcess {
 // ---- what the calls answer, in document 01's words
 
 // A send's answer.
-#[derive(Drop)]
+#[derive(Clone, Copy)]
 pub enum Sent {
     Tested,
     Acted,
@@ -61,7 +61,7 @@ pub enum Sent {
 }
 
 // What a thread takes next.
-#[derive(Drop)]
+#[derive(Clone, Copy)]
 pub enum Next {
     Nothing,
     // a mark: the process and the thread of its queue, and the signal
@@ -70,7 +70,7 @@ pub enum Next {
 }
 
 // A take's answer.
-#[derive(Drop)]
+#[derive(Clone, Copy)]
 pub enum Taken {
     Nothing,
     // handler number, signal, record, flags, saved mask
@@ -82,7 +82,7 @@ pub enum Taken {
 }
 
 // What an accepted call replies; "done" where it has nothing to say.
-#[derive(Drop)]
+#[derive(Clone, Copy)]
 pub enum Reply {
     Done,
     Sent(Sent),
@@ -97,7 +97,7 @@ pub enum Reply {
 }
 
 // The answer of a call.
-#[derive(Drop)]
+#[derive(Clone, Copy)]
 pub enum Answer {
     // the errno
     Refused(u32),

@@ -1,0 +1,17 @@
+-- `write_u32` meets its contract. Assumes nothing.
+use native.Mathlib.Omega.{arith}
+use lib.ListN.{length-set}
+use Rattle.siginfo.proofs.Numbers.{store_bytes}
+use Rattle.siginfo.proofs.write_u32.Goals as goal
+
+pub bounds-b-at-2 : goal.bounds-b-at-2
+bounds-b-at-2 c = simp length-set (omega arith)
+
+pub bounds-b-at-3 : goal.bounds-b-at-3
+bounds-b-at-3 c = simp length-set (omega arith)
+
+pub bounds-b-at-4 : goal.bounds-b-at-4
+bounds-b-at-4 c = simp length-set (omega arith)
+
+pub returns : goal.returns
+returns c = store_bytes c.args.b.now c.args.at c.args.x
