@@ -36,7 +36,7 @@ loop-i-preserved c =
       omega arith,
       elim c.if-process-r.branch [
         then-process-r w ↦
-            w.set-is ∙ w.union.ensures ∙ ap₂ union c.loop-i.invariant.2 w.of_signal.ensures
+            w.set-is ∙ w.union-set.ensures ∙ ap₂ union c.loop-i.invariant.2 w.of_signal.ensures
             ∙ signals-here rs i h r e q w.if-process-r.true
         | else-process-r w ↦ w.set-is ∙ c.loop-i.invariant.2 ∙ sym (signals-other rs i h r e q w.if-process-r.false)
       ],
