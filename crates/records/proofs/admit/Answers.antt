@@ -10,19 +10,20 @@ use Rattle.records.proofs.admit.Goals as goal
 pub returns-then-has : goal.returns-then-has
 returns-then-has c =
     let a = c.args in
-    let hit = c.has.ensures ∙ ap (λ (b : SigSet). has b a.s) c.intersect-once.ensures in 
+    let hit = c.has.ensures ∙ ap (λ (b : SigSet). has b a.s) c.intersect-once.ensures in
     record {
       value = sym (ap not c.if-has.true) ∙ fresh-by a.seen.now a.queue a.s hit;
       counts_after = refl;
       seen_after = refl;
     }
+
 pub returns : goal.returns
 unfolding bumped noted
 returns c =
     let a = c.args in
     let hit = c.has.ensures ∙ ap (λ (b : SigSet). has b a.s) c.intersect-once.ensures in
     let e : c.union-after.result ≡ union (bits (get_or a.seen.now a.queue 0)) (of_signal a.s) =
-    c.union-after.ensures ∙ ap (union (bits (get_or a.seen.now a.queue 0))) c.of_signal.ensures in 
+    c.union-after.ensures ∙ ap (union (bits (get_or a.seen.now a.queue 0))) c.of_signal.ensures in
     record {
       value = sym (ap not c.if-has.false) ∙ fresh-by a.seen.now a.queue a.s hit;
       counts_after = refl;

@@ -9,9 +9,6 @@ use Rattle.lists.proofs.Loops.{range_none, range-more, range-fails}
 use Rattle.soundness.specs.Check.{within_at, all_within}
 use Rattle.records.proofs.all_within.Goals as goal
 
-)
-
-
 pub loop-i-init : goal.loop-i-init
 loop-i-init c =
     (search rules, range_none (within_at c.args.cs.now c.args.ds.now) 0)
@@ -36,6 +33,7 @@ loop-i-preserved c = (
       c.args.ds.now)
       (zero-add c.loop-i.i)
       ∙ sym c.within_at.ensures ∙ c.if-not-within_at.false),
+)
 
 pub returns : goal.returns
 unfolding all_within

@@ -1,5 +1,6 @@
 use Prim.Native.Nat.{◌<◌, ◌-◌}
 use mathlib.Core.Path.{sym, ◌∙◌}
+use mathlib.Core.List.{[]}
 use borrow.Author.Rules.{rules}
 use native.Mathlib.Omega.{arith}
 use lib.ListN.{length, length-set}

@@ -1,5 +1,6 @@
 use Prim.Native.Nat.{◌≤◌, ◌-◌}
 use mathlib.Core.Path.{◌≡◌}
+use mathlib.Core.List.{[]}
 use lib.ListN.{length}
 use Rattle.limits.specs.Limits.{process_places}
 use Rattle.lists.proofs.Loops.{filled}

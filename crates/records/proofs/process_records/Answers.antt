@@ -30,21 +30,20 @@ read-requires c =
 
 pub process_record-requires : goal.process_record-requires
 process_record-requires c =
-    let inside : c.loop-i.i < length (records_of c.args.b.now) = rw (← c.used-n.ensures) (omega arith) in 
-    let both = (
-      c.requires.processes_noted.0,
-      process-ready c.args.ps.now c.args.b.now c.loop-i.counts c.loop-i.seen c.loop-i.i
-          c.loop-i.invariant.1.1.1 inside,
-    ) in
-    record { processes_noted = both.0; counts_len = both.1.0; small_counts = both.1.1; }
+    let inside : c.loop-i.i < length (records_of c.args.b.now) = rw (← c.used-n.ensures) (omega arith) in
+    let rest = process-ready c.args.ps.now c.args.b.now c.loop-i.counts c.loop-i.seen c.loop-i.i
+          c.loop-i.invariant.1.1.1 inside in
+    record { processes_noted = c.requires.processes_noted.0; counts_len = rest.0; small_counts = rest.1; }
+
 pub returns-then-not-process_record : goal.returns-then-not-process_record
 returns-then-not-process_record c =
-    let inside : c.loop-i.i < length (records_of c.args.b.now) = rw (← c.used-n.ensures) (omega arith) in 
+    let inside : c.loop-i.i < length (records_of c.args.b.now) = rw (← c.used-n.ensures) (omega arith) in
     let both = process-fails c.args.ps.now c.args.b.now c.loop-i.counts c.loop-i.seen c.loop-i.i
     c.loop-i.invariant.1.1.1 inside c.read.result
     c.read.ensures c.process_record.ensures.value
     (c.if-not-process_record.true) in
     record { value = both.0; counts_after = both.1; }
+
 pub loop-i-preserved : goal.loop-i-preserved
 loop-i-preserved c =
     let inside : c.loop-i.i < length (records_of c.args.b.now) = rw (← c.used-n.ensures) (omega arith) in
@@ -52,13 +51,13 @@ loop-i-preserved c =
     process-next c.args.ps.now c.args.b.now c.loop-i.counts c.loop-i.seen c.loop-i.i
     c.loop-i.invariant.1.1.1 inside c.read.result
     c.read.ensures c.process_record.ensures.value
-    c.process_record.new.ph.1.1.1.0 c.process_record.new.ph.1.1.1.1.0 c.pre.0.0.one
+    c.process_record.new.counts c.process_record.new.seen c.requires.processes_noted.0.one
     (c.if-not-process_record.false) c.process_record.ensures.counts_after
     c.process_record.ensures.seen_after in
     (search rules, (search rules, (search rules, next)))
 
 pub returns : goal.returns
-returns c = 
+returns c =
     let both = process-end c.args.ps.now c.args.b.now c.loop-i.counts c.loop-i.seen
     c.loop-i.i (rw (← c.used-n.ensures) (omega arith)) c.loop-i.invariant.1.1.1 in
-    record { value = both.0; counts_after = both.1.0; seen_after = both.1.1; }
+    record { value = both.0; counts_after = both.1; }

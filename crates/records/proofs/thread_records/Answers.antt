@@ -29,21 +29,20 @@ read-requires c =
 
 pub thread_record-requires : goal.thread_record-requires
 thread_record-requires c =
-    let inside : c.loop-i.i < length (records_of c.args.b.now) = rw (← c.used-n.ensures) (omega arith) in 
-    let both = (
-      c.requires.threads_noted.0,
-      thread-ready c.args.ps.now c.args.ts.now c.args.b.now c.loop-i.counts c.loop-i.seen
-          c.loop-i.i c.loop-i.invariant.1.1.1 inside,
-    ) in
-    record { threads_noted = both.0; counts_len = both.1.0; small_counts = both.1.1; }
+    let inside : c.loop-i.i < length (records_of c.args.b.now) = rw (← c.used-n.ensures) (omega arith) in
+    let rest = thread-ready c.args.ps.now c.args.ts.now c.args.b.now c.loop-i.counts c.loop-i.seen
+          c.loop-i.i c.loop-i.invariant.1.1.1 inside in
+    record { threads_noted = c.requires.threads_noted.0; counts_len = rest.0; small_counts = rest.1; }
+
 pub returns-then-not-thread_record : goal.returns-then-not-thread_record
 returns-then-not-thread_record c =
-    let inside : c.loop-i.i < length (records_of c.args.b.now) = rw (← c.used-n.ensures) (omega arith) in 
+    let inside : c.loop-i.i < length (records_of c.args.b.now) = rw (← c.used-n.ensures) (omega arith) in
     let both = thread-fails c.args.ps.now c.args.ts.now c.args.b.now c.loop-i.counts c.loop-i.seen c.loop-i.i
     c.loop-i.invariant.1.1.1 inside c.read.result
     c.read.ensures c.thread_record.ensures.value
     (c.if-not-thread_record.true) in
     record { value = both.0; counts_after = both.1; }
+
 pub loop-i-preserved : goal.loop-i-preserved
 loop-i-preserved c =
     let inside : c.loop-i.i < length (records_of c.args.b.now) = rw (← c.used-n.ensures) (omega arith) in
@@ -51,14 +50,14 @@ loop-i-preserved c =
     thread-next c.args.ps.now c.args.ts.now c.args.b.now c.loop-i.counts c.loop-i.seen c.loop-i.i
     c.loop-i.invariant.1.1.1 inside c.read.result
     c.read.ensures c.thread_record.ensures.value
-    c.thread_record.new.ts.1.1.1.1.1.0 c.thread_record.new.ts.1.1.1.1.1.1.0
-    c.pre.0.0.one_process c.pre.0.0.one_thread
+    c.thread_record.new.counts c.thread_record.new.seen
+    c.requires.threads_noted.0.one_process c.requires.threads_noted.0.one_thread
     (c.if-not-thread_record.false) c.thread_record.ensures.counts_after
     c.thread_record.ensures.seen_after in
     (search rules, (search rules, (search rules, next)))
 
 pub returns : goal.returns
-returns c = 
+returns c =
     let both = thread-end c.args.ps.now c.args.ts.now c.args.b.now c.loop-i.counts c.loop-i.seen
     c.loop-i.i (rw (← c.used-n.ensures) (omega arith)) c.loop-i.invariant.1.1.1 in
-    record { value = both.0; counts_after = both.1.0; seen_after = both.1.1; }
+    record { value = both.0; counts_after = both.1; }
