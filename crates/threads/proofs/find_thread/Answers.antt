@@ -12,9 +12,9 @@ returns-then-ts-i c =
 
 pub loop-i-preserved : goal.loop-i-preserved
 loop-i-preserved c = record {
-      within = omega arith;
-      passed = passed c.args.ts.now c.args.id c.loop-i.i c.loop-i-test.true c.loop-i.invariant.passed c.if-ts-i.false;
-    }
+  within = omega arith;
+  passed = passed c.args.ts.now c.args.id c.loop-i.i c.loop-i-test.true c.loop-i.invariant.passed c.if-ts-i.false;
+}
 
 pub returns : goal.returns
 returns c = at-end c.args.ts.now c.args.id c.loop-i.i (omega arith) c.loop-i.invariant.passed

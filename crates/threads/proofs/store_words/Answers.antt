@@ -1,6 +1,5 @@
 -- `store_words` meets its contract. Assumes nothing.
 use Rattle.std.proofs.Common.{◌≡◌, ◌<◌, ◌∙◌, ap, sym, arith, get_or, set}
-use borrow.Author.Tests.{not-true, not-false}
 use lib.Seq.{paste-zero}
 use Rattle.limits.specs.Limits.{thread_places}
 use Rattle.threads.specs.Records.{no_thread, records_of}
@@ -11,9 +10,9 @@ use Rattle.threads.proofs.store_words.Goals.{then-not-same, else-not-same}
 
 pub loop-i-init : goal.loop-i-init
 loop-i-init c = record {
-      within = omega arith;
-      so_far = paste-zero c.args.ts.now 0 (records_of thread_places c.args.ws.now);
-    }
+  within = omega arith;
+  so_far = paste-zero c.args.ts.now 0 (records_of thread_places c.args.ws.now);
+}
 
 pub loop-i-preserved : goal.loop-i-preserved
 loop-i-preserved c =
@@ -26,7 +25,7 @@ loop-i-preserved c =
       within = omega arith;
       so_far =
           elim c.if-not-same.branch [
-            then-not-same w ↦
+            | then-not-same w ↦
                 w.ts-is
                 ∙ ap (set c.loop-i.ts i) c.record_at-u.ensures
                 ∙ ap (λ xs. set xs i (get_or zs i no_thread)) h
@@ -34,10 +33,10 @@ loop-i-preserved c =
             | else-not-same w ↦
                 w.ts-is ∙ h
                 ∙ filled-same d zs i thread_places c.requires.0 long l
-                  (ap (λ xs. get_or xs i no_thread) (sym h)
-                  ∙ same-is (get_or c.loop-i.ts i no_thread) c.record_at-u.result
-                    (sym c.same.ensures ∙ not-false c.same.result w.if-not-same.false-raw)
-                  ∙ c.record_at-u.ensures)
+                (ap (λ xs. get_or xs i no_thread) (sym h)
+                ∙ same-is (get_or c.loop-i.ts i no_thread) c.record_at-u.result
+                (sym c.same.ensures ∙ w.if-not-same.false)
+                ∙ c.record_at-u.ensures)
           ];
     }
 

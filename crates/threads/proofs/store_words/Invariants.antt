@@ -7,9 +7,9 @@ use Rattle.threads.proofs.store_words.Given as goal
 
 abbrev pub invariant-loop-i : goal.invariant-loop-i
 invariant-loop-i l = record {
-      within : l.i ≤ thread_places;
-      so_far : l.ts ≡ filled l.initial.ts (records_of thread_places l.ws) l.i;
-    }
+  within : l.i ≤ thread_places;
+  so_far : l.ts ≡ filled l.initial.ts (records_of thread_places l.ws) l.i;
+}
 
 abbrev pub decreases-loop-i : goal.decreases-loop-i
 decreases-loop-i l = thread_places - l.i
