@@ -1,4 +1,5 @@
 -- `put_mask` meets its contract. Assumes nothing.
+use Rattle.std.proofs.Common.{arith}
 use Rattle.threads.proofs.Search.{mask-changed-at, mask-changed-out}
 use Rattle.threads.proofs.put_mask.Goals as goal
 
@@ -9,4 +10,4 @@ returns-then-i-ts c =
 
 pub returns-else-i-ts : goal.returns-else-i-ts
 returns-else-i-ts c =
-    mask-changed-out c.args.ts.now c.args.id c.find_thread-i.result c.args.m c.find_thread-i.ensures c.if-i-ts.false
+    mask-changed-out c.args.ts.now c.args.id c.find_thread-i.result c.args.m c.find_thread-i.ensures (omega arith)
