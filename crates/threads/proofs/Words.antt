@@ -7,7 +7,7 @@ use native.Mathlib.Numerals.{add-one}
 use native.Mathlib.Omega.{arith}
 use lib.Dec.{eqb}
 use lib.ListN.{length, get_or, take}
-use lib.Seq.{sets, length-sets, take-suc, take_all, length-take-le}
+use lib.Seq.{sets, take-suc, take_all, length-take-le}
 use borrow.Author.Tests.{eqb-true}
 use Rattle.limits.specs.Limits.{thread_places, thread_words, thread_table}
 use Rattle.lists.specs.Rows.{flat}
@@ -59,9 +59,6 @@ written d ts i = sets d 0 (words_of (take i ts))
 pub written_none : (d : List ℕ) (ts : List Thread) → d ≡ written d ts 0
 unfolding words_of flat
 written_none d ts = refl
-
-pub written-long : (d : List ℕ) (ts : List Thread) (i : ℕ) → length (written d ts i) ≡ length d
-written-long d ts i = length-sets d 0 (words_of (take i ts))
 
 pub written-suc : (d : List ℕ) (ts : List Thread) (i : ℕ) → length ts ≡ thread_places → i < thread_places
     → with_record i (get_or ts i no_thread) (written d ts i) ≡ written d ts (i + 1)

@@ -1,5 +1,6 @@
 // The thread table as a host lends it: a row of thread records.
 #![tactic(auto)]
+
 ghost use Rattle.std.specs.Prelude.{◌≡◌, ◌<◌, length, get_or, set};
 ghost use Rattle.limits.specs.Limits.{thread_places, thread_table};
 ghost use Rattle.lists.specs.Lists.{find};

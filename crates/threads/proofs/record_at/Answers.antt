@@ -5,5 +5,4 @@ use Rattle.threads.proofs.record_at.Goals as goal
 
 pub returns : goal.returns
 unfolding record_from
-returns c =
-    record-at c.args.ws.now c.args.i c.requires.0 c.requires.1
+returns c = record-at c.args.ws.now c.args.i c.requires.0 c.requires.1
