@@ -4,7 +4,7 @@ ghost use Rattle.std.specs.Prelude.{◌≡◌};
 ghost use Rattle.rules.specs.Types as call;
 ghost use Rattle.rules.specs.Actions.{stored};
 ghost use Rattle.rules.specs.Refusals.{unstorable, bad_action};
-ghost use Rattle.sound.specs.Lent.{before};
+ghost use Rattle.sound.specs.Lent.{lent};
 ghost use Rattle.answers.specs.Step.{refusal_on, stepped};
 ghost use Rattle.actions.specs.Given.{new_action};
 
@@ -56,7 +56,7 @@ fn action_refusal(
     signal: u32,
     new: GivenAction,
 ) -> u32
-    ensures { result ≡ refusal_on (call.sigaction process signal (new_action new)) (before ps ts tb pb) }
+    ensures { result ≡ refusal_on (call.sigaction process signal (new_action new)) (lent ps.now ts.now tb.now pb.now) }
 {
     if !sound::sound(ps, ts, tb, pb) {
         return EFAULT;
@@ -80,7 +80,8 @@ pub fn sigaction(
     signal: u32,
     new: GivenAction,
 ) -> Answer
-    ensures { stepped (call.sigaction process signal (new_action new)) result ps ts tb pb }
+    ensures { stepped (call.sigaction process signal (new_action new)) result
+        (lent ps.old ts.old tb.old pb.old) (lent ps.new ts.new tb.new pb.new) }
 {
     let n = action_refusal(ps, ts, tb, pb, process, signal, new);
     if n != 0 {

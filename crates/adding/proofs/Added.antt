@@ -21,7 +21,7 @@ use Rattle.rules.specs.Refusals.{rows, is_clear, no_thread_live, no_process_plac
 use Rattle.rules.specs.Calls.{changes, reply}
 use Rattle.rules.proofs.RefusalTable.{Off}
 use Rattle.tables.specs.Tables.{processes_of, threads_of, held_processes, held_threads}
-use Rattle.sound.specs.Lent.{Lent, lent, decoded, view_of, lengths_are, sound_tables, given}
+use Rattle.sound.specs.Lent.{Lent, lent, decoded, view_of, lengths_are, sound_tables}
 use Rattle.effects.proofs.Places.{with_all}
 use Rattle.sound.proofs.Facts.{right-processes, right-threads, threads-long}
 use Rattle.effects.specs.Effects.{thread_of}

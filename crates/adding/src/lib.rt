@@ -2,7 +2,7 @@
 #![tactic(auto)]
 ghost use Rattle.std.specs.Prelude.{◌≡◌};
 ghost use Rattle.rules.specs.Types as call;
-ghost use Rattle.sound.specs.Lent.{before};
+ghost use Rattle.sound.specs.Lent.{lent};
 ghost use Rattle.answers.specs.Step.{refusal_on, stepped};
 
 use limits::{EAGAIN, EEXIST, EFAULT, EINVAL, ESRCH};
@@ -10,7 +10,7 @@ use sigset::SigSet;
 use types::{Answer, NewProcess, Reply};
 
 fn add_process_refusal(ps: &[u64], ts: &[u64], tb: &[u8], pb: &[u8], new: NewProcess) -> u32
-    ensures { result ≡ refusal_on (call.add_process new) (before ps ts tb pb) }
+    ensures { result ≡ refusal_on (call.add_process new) (lent ps.now ts.now tb.now pb.now) }
 {
     let id = new.id;
     let thread = new.thread;
@@ -37,7 +37,8 @@ pub fn add_process(
     pb: &mut [u8],
     new: NewProcess,
 ) -> Answer
-    ensures { stepped (call.add_process new) result ps ts tb pb }
+    ensures { stepped (call.add_process new) result (lent ps.old ts.old tb.old pb.old)
+        (lent ps.new ts.new tb.new pb.new) }
 {
     let n = add_process_refusal(ps, ts, tb, pb, new);
     if n != 0 {
@@ -50,7 +51,7 @@ pub fn add_process(
 }
 
 fn add_thread_refusal(ps: &[u64], ts: &[u64], tb: &[u8], pb: &[u8], creator: u32, id: u32) -> u32
-    ensures { result ≡ refusal_on (call.add_thread creator id) (before ps ts tb pb) }
+    ensures { result ≡ refusal_on (call.add_thread creator id) (lent ps.now ts.now tb.now pb.now) }
 {
     if !sound::sound(ps, ts, tb, pb) {
         return EFAULT;
@@ -79,7 +80,8 @@ pub fn add_thread(
     creator: u32,
     id: u32,
 ) -> Answer
-    ensures { stepped (call.add_thread creator id) result ps ts tb pb }
+    ensures { stepped (call.add_thread creator id) result (lent ps.old ts.old tb.old pb.old)
+        (lent ps.new ts.new tb.new pb.new) }
 {
     let n = add_thread_refusal(ps, ts, tb, pb, creator, id);
     if n != 0 {

@@ -9,7 +9,7 @@ use Rattle.rules.specs.Store.{Store}
 use Rattle.rules.specs.Refusals.{Row, refusal, refusal_of}
 use Rattle.rules.specs.Calls.{step, is_refused}
 use Rattle.tables.specs.Tables.{process_words_of, thread_words_of}
-use Rattle.sound.specs.Lent.{Lent, lent, decoded, lengths_are, sound_tables, Slices, before, after}
+use Rattle.sound.specs.Lent.{Lent, lent, decoded, lengths_are, sound_tables}
 
 -- the words and bytes that say it
 unfoldable pub encoded : Store → Lent
@@ -37,5 +37,5 @@ step_on c l =
 
 -- what a function that makes a call promises: the tables after it and its answer are those of the call on the tables
 -- before it
-abbrev pub stepped : Call → Answer → (ps ts tb pb : Slices) → Type 0
-stepped c a ps ts tb pb = (after ps ts tb pb, a) ≡ step_on c (before ps ts tb pb)
+abbrev pub stepped : Call → Answer → (before after : Lent) → Type 0
+stepped c a before after = (after, a) ≡ step_on c before

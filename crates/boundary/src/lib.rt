@@ -5,7 +5,7 @@ ghost use Rattle.limits.specs.Limits.{EFAULT, EINVAL, answer_words};
 ghost use Rattle.lists.specs.Lists.{padded};
 ghost use Rattle.sigset.specs.Set.{bits};
 ghost use Rattle.types.specs.Values.{new_of};
-ghost use Rattle.sound.specs.Lent.{given, before, after};
+ghost use Rattle.sound.specs.Lent.{lent};
 ghost use Rattle.actions.specs.Given.{new_action};
 ghost use Rattle.masks.specs.Given.{new_set};
 ghost use Rattle.calls.specs.Calls.{call_of};
@@ -265,7 +265,7 @@ fn is_accepted(number: u32, room: usize) -> bool
 
 // Does errno 14 not apply? Clearing checks lengths only.
 fn is_usable(ps: &[u64], ts: &[u64], tb: &[u8], pb: &[u8], number: u32) -> bool
-    ensures { result ≡ usable number (before ps ts tb pb) }
+    ensures { result ≡ usable number (lent ps.now ts.now tb.now pb.now) }
 {
     if number == CALL_CLEAR {
         return clearing::lengths_are(ps, ts, tb, pb);
@@ -275,7 +275,7 @@ fn is_usable(ps: &[u64], ts: &[u64], tb: &[u8], pb: &[u8], number: u32) -> bool
 
 // The errno of what is not accepted: 14 comes first.
 fn refusal(ps: &[u64], ts: &[u64], tb: &[u8], pb: &[u8], number: u32) -> u32
-    ensures { result ≡ cond (usable number (before ps ts tb pb)) EINVAL EFAULT }
+    ensures { result ≡ cond (usable number (lent ps.now ts.now tb.now pb.now)) EINVAL EFAULT }
 {
     if is_usable(ps, ts, tb, pb, number) {
         return EINVAL;
@@ -301,8 +301,8 @@ pub fn serve(
     y: u64,
     z: u64,
 ) -> u64
-    ensures { record { tables = after ps ts tb pb; words = out.new; errno = result }
-        ≡ served number (arguments a b c d e f x y z) out.old (before ps ts tb pb) }
+    ensures { record { tables = lent ps.new ts.new tb.new pb.new; words = out.new; errno = result }
+        ≡ served number (arguments a b c d e f x y z) out.old (lent ps.old ts.old tb.old pb.old) }
 {
     if !is_accepted(number, out.len()) {
         return refusal(ps, ts, tb, pb, number) as u64;

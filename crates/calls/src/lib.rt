@@ -1,7 +1,7 @@
 // Every call by its value: what a host hands in, and what the layer answers.
 #![tactic(auto)]
 ghost use Rattle.std.specs.Prelude.{◌≡◌};
-ghost use Rattle.sound.specs.Lent.{before};
+ghost use Rattle.sound.specs.Lent.{lent};
 ghost use Rattle.answers.specs.Step.{step_on, stepped};
 ghost use Rattle.calls.specs.Calls.{placing_of, sending_of, setting_of, asking_of, call_of};
 
@@ -64,7 +64,8 @@ pub enum Call {
 // ---- a call of each family
 
 fn place(ps: &mut [u64], ts: &mut [u64], tb: &mut [u8], pb: &mut [u8], c: Placing) -> Answer
-    ensures { stepped (placing_of c) result ps ts tb pb }
+    ensures { stepped (placing_of c) result (lent ps.old ts.old tb.old pb.old)
+        (lent ps.new ts.new tb.new pb.new) }
 {
     match c {
         Placing::AddProcess(new) => adding::add_process(ps, ts, tb, pb, new),
@@ -75,7 +76,8 @@ fn place(ps: &mut [u64], ts: &mut [u64], tb: &mut [u8], pb: &mut [u8], c: Placin
 }
 
 fn send(ps: &mut [u64], ts: &mut [u64], tb: &mut [u8], pb: &mut [u8], c: Sending) -> Answer
-    ensures { stepped (sending_of c) result ps ts tb pb }
+    ensures { stepped (sending_of c) result (lent ps.old ts.old tb.old pb.old)
+        (lent ps.new ts.new tb.new pb.new) }
 {
     match c {
         Sending::Kill(by, to, thread, s) => sending::kill(ps, ts, tb, pb, by, to, thread, s),
@@ -86,7 +88,8 @@ fn send(ps: &mut [u64], ts: &mut [u64], tb: &mut [u8], pb: &mut [u8], c: Sending
 }
 
 fn set(ps: &mut [u64], ts: &mut [u64], tb: &mut [u8], pb: &mut [u8], c: Setting) -> Answer
-    ensures { stepped (setting_of c) result ps ts tb pb }
+    ensures { stepped (setting_of c) result (lent ps.old ts.old tb.old pb.old)
+        (lent ps.new ts.new tb.new pb.new) }
 {
     match c {
         Setting::Sigaction(process, s, new) => actions::sigaction(ps, ts, tb, pb, process, s, new),
@@ -96,7 +99,7 @@ fn set(ps: &mut [u64], ts: &mut [u64], tb: &mut [u8], pb: &mut [u8], c: Setting)
 }
 
 fn ask(ps: &[u64], ts: &[u64], tb: &[u8], pb: &[u8], c: Asking) -> Answer
-    ensures { result ≡ (step_on (asking_of c) (before ps ts tb pb)).1 }
+    ensures { result ≡ (step_on (asking_of c) (lent ps.now ts.now tb.now pb.now)).1 }
 {
     match c {
         Asking::Sigpending(thread) => masks::sigpending(ps, ts, tb, pb, thread),
@@ -108,7 +111,8 @@ fn ask(ps: &[u64], ts: &[u64], tb: &[u8], pb: &[u8], c: Asking) -> Answer
 // One call on the lent tables. Any tables and any arguments are answered;
 // a refused call leaves every table exactly as it was.
 pub fn step(ps: &mut [u64], ts: &mut [u64], tb: &mut [u8], pb: &mut [u8], c: Call) -> Answer
-    ensures { stepped (call_of c) result ps ts tb pb }
+    ensures { stepped (call_of c) result (lent ps.old ts.old tb.old pb.old)
+        (lent ps.new ts.new tb.new pb.new) }
 {
     match c {
         Call::Clear => clearing::clear(ps, ts, tb, pb),

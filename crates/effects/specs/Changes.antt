@@ -4,7 +4,7 @@ use Rattle.std.specs.Prelude.{◌≡◌, true, List}
 use Rattle.rules.specs.View.{Change}
 use Rattle.rules.specs.Store.{apply_all}
 use Rattle.rules.specs.Fitting.{fits_all}
-use Rattle.sound.specs.Lent.{Lent, decoded, sound_tables, Slice, Slices, given, before, after}
+use Rattle.sound.specs.Lent.{Lent, decoded, sound_tables}
 
 pub record Ready (cs : List Change) (l : Lent) : Type 0 where
   pub sound : sound_tables l ≡ true
@@ -13,10 +13,3 @@ pub record Ready (cs : List Change) (l : Lent) : Type 0 where
 pub record Changed (cs : List Change) (l l' : Lent) : Type 0 where
   pub store : decoded l' ≡ apply_all cs (decoded l)
   pub sound : sound_tables l' ≡ true
-
--- of the lent slices
-abbrev pub ready : List Change → (ps ts tb pb : Slice) → Type 0
-ready cs ps ts tb pb = Ready cs (given ps ts tb pb)
-
-abbrev pub changed : List Change → (ps ts tb pb : Slices) → Type 0
-changed cs ps ts tb pb = Changed cs (before ps ts tb pb) (after ps ts tb pb)

@@ -11,8 +11,8 @@ ghost use Rattle.rules.specs.Store.{free_thread, is_free_process, is_free_thread
 ghost use Rattle.rules.specs.Actions.{store_changes};
 ghost use Rattle.rules.specs.Adding.{added_process};
 ghost use Rattle.tables.specs.Tables.{processes_of, threads_of, held_processes, held_threads, process_at, thread_at};
-ghost use Rattle.sound.specs.Lent.{decoded, lengths_are, given, before, after};
-ghost use Rattle.effects.specs.Changes.{ready, changed};
+ghost use Rattle.sound.specs.Lent.{decoded, lengths_are, lent};
+ghost use Rattle.effects.specs.Changes.{Ready, Changed};
 ghost use Rattle.effects.specs.Effects.{marked_by, with_marking, with_marking_of, thread_of};
 
 use limits::{
@@ -94,8 +94,10 @@ pub fn set_mark(
     thread: u32,
     signal: u32,
 )
-    requires { ready (set_mark (target_queue process thread) signal ∷ []) ps ts tb pb }
-    ensures { changed (set_mark (target_queue process thread) signal ∷ []) ps ts tb pb }
+    requires { Ready (set_mark (target_queue process thread) signal ∷ [])
+        (lent ps.old ts.old tb.now pb.now) }
+    ensures { Changed (set_mark (target_queue process thread) signal ∷ [])
+        (lent ps.old ts.old tb.now pb.now) (lent ps.new ts.new tb.now pb.now) }
 {
     let how = Marking::Adding(SigSet::of_signal(signal));
     if thread == 0 {
@@ -115,8 +117,10 @@ pub fn clear_mark(
     thread: u32,
     signal: u32,
 )
-    requires { ready (clear_mark (target_queue process thread) signal ∷ []) ps ts tb pb }
-    ensures { changed (clear_mark (target_queue process thread) signal ∷ []) ps ts tb pb }
+    requires { Ready (clear_mark (target_queue process thread) signal ∷ [])
+        (lent ps.old ts.old tb.now pb.now) }
+    ensures { Changed (clear_mark (target_queue process thread) signal ∷ [])
+        (lent ps.old ts.old tb.now pb.now) (lent ps.new ts.new tb.now pb.now) }
 {
     let how = Marking::Removing(SigSet::of_signal(signal));
     if thread == 0 {
@@ -130,8 +134,9 @@ pub fn clear_mark(
 
 // A record at the end of its buffer.
 pub fn append(ps: &[u64], ts: &[u64], tb: &mut [u8], pb: &mut [u8], r: Siginfo)
-    requires { ready (append r ∷ []) ps ts tb pb }
-    ensures { changed (append r ∷ []) ps ts tb pb }
+    requires { Ready (append r ∷ []) (lent ps.now ts.now tb.old pb.old) }
+    ensures { Changed (append r ∷ []) (lent ps.now ts.now tb.old pb.old)
+        (lent ps.now ts.now tb.new pb.new) }
 {
     if r.thread == 0 {
         queue::append(pb, r);
@@ -150,8 +155,10 @@ pub fn drop_oldest(
     thread: u32,
     signal: u32,
 )
-    requires { ready (drop_oldest (target_queue process thread) signal ∷ []) ps ts tb pb }
-    ensures { changed (drop_oldest (target_queue process thread) signal ∷ []) ps ts tb pb }
+    requires { Ready (drop_oldest (target_queue process thread) signal ∷ [])
+        (lent ps.now ts.now tb.old pb.old) }
+    ensures { Changed (drop_oldest (target_queue process thread) signal ∷ [])
+        (lent ps.now ts.now tb.old pb.old) (lent ps.now ts.now tb.new pb.new) }
 {
     if thread == 0 {
         let k = queue::first_of(pb, process, thread, signal);
@@ -171,8 +178,9 @@ pub fn discard(
     process: u32,
     signals: SigSet,
 )
-    requires { ready (discard process signals ∷ []) ps ts tb pb }
-    ensures { changed (discard process signals ∷ []) ps ts tb pb }
+    requires { Ready (discard process signals ∷ []) (lent ps.old ts.old tb.old pb.old) }
+    ensures { Changed (discard process signals ∷ []) (lent ps.old ts.old tb.old pb.old)
+        (lent ps.new ts.new tb.new pb.new) }
 {
     queue::discard(tb, Discarded::OfSignals(process, signals));
     queue::discard(pb, Discarded::OfSignals(process, signals));
@@ -184,8 +192,9 @@ pub fn discard(
 
 // 1 stops a process, 0 lets it run.
 pub fn set_stopped(ps: &mut [u64], ts: &[u64], tb: &[u8], pb: &[u8], process: u32, stopped: u64)
-    requires { ready (set_stopped process stopped ∷ []) ps ts tb pb }
-    ensures { changed (set_stopped process stopped ∷ []) ps ts tb pb }
+    requires { Ready (set_stopped process stopped ∷ []) (lent ps.old ts.now tb.now pb.now) }
+    ensures { Changed (set_stopped process stopped ∷ []) (lent ps.old ts.now tb.now pb.now)
+        (lent ps.new ts.now tb.now pb.now) }
 {
     let place = tables::find_process(ps, process as u64);
     tables::put_field(ps, place, PROCESS_STOPPED, stopped);
@@ -201,8 +210,9 @@ pub fn set_action(
     signal: u32,
     a: Action,
 )
-    requires { ready (set_action process signal a ∷ []) ps ts tb pb }
-    ensures { changed (set_action process signal a ∷ []) ps ts tb pb }
+    requires { Ready (set_action process signal a ∷ []) (lent ps.old ts.now tb.now pb.now) }
+    ensures { Changed (set_action process signal a ∷ []) (lent ps.old ts.now tb.now pb.now)
+        (lent ps.new ts.now tb.now pb.now) }
 {
     let place = tables::find_process(ps, process as u64);
     tables::put_action(ps, place, signal, a);
@@ -218,8 +228,9 @@ pub fn store_action(
     signal: u32,
     a: Action,
 )
-    requires { ready (store_changes process signal a) ps ts tb pb }
-    ensures { changed (store_changes process signal a) ps ts tb pb }
+    requires { Ready (store_changes process signal a) (lent ps.old ts.old tb.old pb.old) }
+    ensures { Changed (store_changes process signal a) (lent ps.old ts.old tb.old pb.old)
+        (lent ps.new ts.new tb.new pb.new) }
 {
     if decide::is_ignored(a, signal) {
         discard(ps, ts, tb, pb, process, SigSet::of_signal(signal));
@@ -231,8 +242,9 @@ pub fn store_action(
 
 // The mask of a thread.
 pub fn set_mask(ps: &[u64], ts: &mut [u64], tb: &[u8], pb: &[u8], thread: u32, mask: SigSet)
-    requires { ready (set_mask thread mask ∷ []) ps ts tb pb }
-    ensures { changed (set_mask thread mask ∷ []) ps ts tb pb }
+    requires { Ready (set_mask thread mask ∷ []) (lent ps.now ts.old tb.now pb.now) }
+    ensures { Changed (set_mask thread mask ∷ []) (lent ps.now ts.old tb.now pb.now)
+        (lent ps.now ts.new tb.now pb.now) }
 {
     let place = tables::find_thread(ts, thread as u64);
     tables::put_thread_field(ts, place, THREAD_MASK, mask.0);
@@ -279,8 +291,9 @@ fn vacate_threads(ts: &mut [u64], process: u32)
 
 // A process goes, with its threads and all that is pending for it and for them.
 pub fn remove_process(ps: &mut [u64], ts: &mut [u64], tb: &mut [u8], pb: &mut [u8], process: u32)
-    requires { ready (remove_process process ∷ []) ps ts tb pb }
-    ensures { changed (remove_process process ∷ []) ps ts tb pb }
+    requires { Ready (remove_process process ∷ []) (lent ps.old ts.old tb.old pb.old) }
+    ensures { Changed (remove_process process ∷ []) (lent ps.old ts.old tb.old pb.old)
+        (lent ps.new ts.new tb.new pb.new) }
 {
     let place = tables::find_process(ps, process as u64);
     tables::clear_process(ps, place);
@@ -291,8 +304,9 @@ pub fn remove_process(ps: &mut [u64], ts: &mut [u64], tb: &mut [u8], pb: &mut [u
 
 // A thread goes, with all that is pending for it.
 pub fn remove_thread(ps: &[u64], ts: &mut [u64], tb: &mut [u8], pb: &mut [u8], thread: u32)
-    requires { ready (remove_thread thread ∷ []) ps ts tb pb }
-    ensures { changed (remove_thread thread ∷ []) ps ts tb pb }
+    requires { Ready (remove_thread thread ∷ []) (lent ps.now ts.old tb.old pb.old) }
+    ensures { Changed (remove_thread thread ∷ []) (lent ps.now ts.old tb.old pb.old)
+        (lent ps.now ts.new tb.new pb.new) }
 {
     let place = tables::find_thread(ts, thread as u64);
     tables::clear_thread(ts, place);
@@ -302,8 +316,8 @@ pub fn remove_thread(ps: &[u64], ts: &mut [u64], tb: &mut [u8], pb: &mut [u8], t
 
 // All of the store is cleared, whatever it held.
 pub fn forget(ps: &mut [u64], ts: &mut [u64], tb: &mut [u8], pb: &mut [u8])
-    requires { lengths_are (given ps ts tb pb) ≡ true }
-    ensures { decoded (after ps ts tb pb) ≡ apply forget (decoded (before ps ts tb pb)) }
+    requires { lengths_are (lent ps.old ts.old tb.old pb.old) ≡ true }
+    ensures { decoded (lent ps.new ts.new tb.new pb.new) ≡ apply forget (decoded (lent ps.old ts.old tb.old pb.old)) }
 {
     tables::clear_processes(ps);
     tables::clear_threads(ts);

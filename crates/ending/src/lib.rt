@@ -8,8 +8,8 @@ ghost use Rattle.rules.specs.Types.{no_thread};
 ghost use Rattle.rules.specs.View.{the_thread};
 ghost use Rattle.rules.specs.Adding.{end_thread_changes};
 ghost use Rattle.tables.specs.Tables.{held_threads};
-ghost use Rattle.sound.specs.Lent.{view_of, given, before, WithThread};
-ghost use Rattle.effects.specs.Changes.{changed};
+ghost use Rattle.sound.specs.Lent.{view_of, WithThread, lent};
+ghost use Rattle.effects.specs.Changes.{Changed};
 ghost use Rattle.answers.specs.Step.{stepped};
 ghost use Rattle.ending.specs.Others.{is_other};
 
@@ -18,7 +18,8 @@ use types::{Answer, Reply};
 
 // Ends a process, as KILL does.
 pub fn end_process(ps: &mut [u64], ts: &mut [u64], tb: &mut [u8], pb: &mut [u8], id: u32) -> Answer
-    ensures { stepped (call.end_process id) result ps ts tb pb }
+    ensures { stepped (call.end_process id) result (lent ps.old ts.old tb.old pb.old)
+        (lent ps.new ts.new tb.new pb.new) }
 {
     let n = view::process_refusal(ps, ts, tb, pb, id);
     if n != 0 {
@@ -55,9 +56,9 @@ fn has_other(ts: &[u64], process: u32, thread: u32) -> bool
 
 // The thread goes, and its process with it where it is the last one.
 fn remove(ps: &mut [u64], ts: &mut [u64], tb: &mut [u8], pb: &mut [u8], thread: u32)
-    requires { WithThread thread (given ps ts tb pb) }
+    requires { WithThread thread (lent ps.old ts.old tb.old pb.old) }
     ensures { changed
-        (end_thread_changes (view_of (before ps ts tb pb)) (the_thread (view_of (before ps ts tb pb)) thread)) ps
+        (end_thread_changes (view_of (lent ps.old ts.old tb.old pb.old)) (the_thread (view_of (lent ps.old ts.old tb.old pb.old)) thread)) ps
         ts tb pb }
 {
     let process = view::process_of(ts, thread);
@@ -70,7 +71,8 @@ fn remove(ps: &mut [u64], ts: &mut [u64], tb: &mut [u8], pb: &mut [u8], thread: 
 
 // Ends a thread; the last one of a process ends the process.
 pub fn end_thread(ps: &mut [u64], ts: &mut [u64], tb: &mut [u8], pb: &mut [u8], id: u32) -> Answer
-    ensures { stepped (call.end_thread id) result ps ts tb pb }
+    ensures { stepped (call.end_thread id) result (lent ps.old ts.old tb.old pb.old)
+        (lent ps.new ts.new tb.new pb.new) }
 {
     let n = view::thread_refusal(ps, ts, tb, pb, id);
     if n != 0 {

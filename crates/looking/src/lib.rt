@@ -8,7 +8,7 @@ ghost use Rattle.rules.specs.Types as call;
 ghost use Rattle.rules.specs.Types.{no_thread};
 ghost use Rattle.rules.specs.Taking.{can_take_some};
 ghost use Rattle.tables.specs.Tables.{held_threads};
-ghost use Rattle.sound.specs.Lent.{view_of, sound_tables, given, before};
+ghost use Rattle.sound.specs.Lent.{view_of, sound_tables, lent};
 ghost use Rattle.answers.specs.Step.{step_on};
 ghost use Rattle.looking.specs.Looks.{look_slot, look_bytes};
 
@@ -30,7 +30,7 @@ fn slot_of(b: &[u8], k: usize) -> &[u8]
 // The slot of the record that a thread takes next, by number: those of the thread buffer from 1 on,
 // then those of the process buffer; 0 for a mark, for nothing, and where the look is refused.
 pub fn look_slot(ps: &[u64], ts: &[u64], tb: &[u8], pb: &[u8], thread: u32) -> usize
-    ensures { result ≡ look_slot thread (before ps ts tb pb) }
+    ensures { result ≡ look_slot thread (lent ps.now ts.now tb.now pb.now) }
 {
     if view::thread_refusal(ps, ts, tb, pb, thread) != 0 {
         return 0;
@@ -50,7 +50,7 @@ pub fn look_slot(ps: &[u64], ts: &[u64], tb: &[u8], pb: &[u8], thread: u32) -> u
 // The 32 bytes of the record that a thread takes next, in the buffer that holds it;
 // an empty part for a mark, for nothing, and where the look is refused.
 pub fn look_part<'a>(ps: &[u64], ts: &[u64], tb: &'a [u8], pb: &'a [u8], thread: u32) -> &'a [u8]
-    ensures { result.now ≡ look_bytes thread (before ps ts tb pb) }
+    ensures { result.now ≡ look_bytes thread (lent ps.now ts.now tb.now pb.now) }
 {
     let n = look_slot(ps, ts, tb, pb, thread);
     if n == 0 {
@@ -64,7 +64,7 @@ pub fn look_part<'a>(ps: &[u64], ts: &[u64], tb: &'a [u8], pb: &'a [u8], thread:
 
 // What the look found, or its errno.
 pub fn look(ps: &[u64], ts: &[u64], tb: &[u8], pb: &[u8], thread: u32) -> Answer
-    ensures { result ≡ (step_on (call.look thread) (before ps ts tb pb)).1 }
+    ensures { result ≡ (step_on (call.look thread) (lent ps.now ts.now tb.now pb.now)).1 }
 {
     let n = view::thread_refusal(ps, ts, tb, pb, thread);
     if n != 0 {
@@ -77,9 +77,9 @@ pub fn look(ps: &[u64], ts: &[u64], tb: &[u8], pb: &[u8], thread: u32) -> Answer
 
 // Is the thread in a place of the process, and can it take something?
 fn can_take(ps: &[u64], ts: &[u64], tb: &[u8], pb: &[u8], process: u32, place: usize) -> bool
-    requires pb_value { sound_tables (given ps ts tb pb) ≡ true }
+    requires pb_value { sound_tables (lent ps.now ts.now tb.now pb.now) ≡ true }
     requires place_lt_thread_places { place < thread_places }
-    ensures { result ≡ can_take_some (view_of (before ps ts tb pb)) process
+    ensures { result ≡ can_take_some (view_of (lent ps.now ts.now tb.now pb.now)) process
         (get_or (held_threads ts.now) place no_thread) }
 {
     if process == 0 {
@@ -94,8 +94,8 @@ fn can_take(ps: &[u64], ts: &[u64], tb: &[u8], pb: &[u8], process: u32, place: u
 
 // The lowest place whose thread can, or the number of places.
 fn taker_place(ps: &[u64], ts: &[u64], tb: &[u8], pb: &[u8], process: u32) -> usize
-    requires { sound_tables (given ps ts tb pb) ≡ true }
-    ensures { result ≡ find (can_take_some (view_of (before ps ts tb pb)) process) (held_threads ts.now) }
+    requires { sound_tables (lent ps.now ts.now tb.now pb.now) ≡ true }
+    ensures { result ≡ find (can_take_some (view_of (lent ps.now ts.now tb.now pb.now)) process) (held_threads ts.now) }
 {
     let mut i = 0;
     while i < THREAD_PLACES {
@@ -109,7 +109,7 @@ fn taker_place(ps: &[u64], ts: &[u64], tb: &[u8], pb: &[u8], process: u32) -> us
 
 // Names the live thread of a process in the lowest place that can take something, or says that none can.
 pub fn who(ps: &[u64], ts: &[u64], tb: &[u8], pb: &[u8], process: u32) -> Answer
-    ensures { result ≡ (step_on (call.who process) (before ps ts tb pb)).1 }
+    ensures { result ≡ (step_on (call.who process) (lent ps.now ts.now tb.now pb.now)).1 }
 {
     let n = view::process_refusal(ps, ts, tb, pb, process);
     if n != 0 {

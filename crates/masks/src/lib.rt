@@ -5,7 +5,7 @@ ghost use Rattle.rules.specs.Types as call;
 ghost use Rattle.rules.specs.View.{the_thread};
 ghost use Rattle.rules.specs.Actions.{new_mask, blocked_pending};
 ghost use Rattle.rules.specs.Refusals.{bad_way};
-ghost use Rattle.sound.specs.Lent.{view_of, given, before, WithThread};
+ghost use Rattle.sound.specs.Lent.{view_of, WithThread, lent};
 ghost use Rattle.answers.specs.Step.{refusal_on, step_on, stepped};
 ghost use Rattle.masks.specs.Given.{new_set};
 
@@ -53,7 +53,7 @@ fn mask_refusal(
     way: u32,
     set: GivenSet,
 ) -> u32
-    ensures { result ≡ refusal_on (call.sigmask thread way (new_set set)) (before ps ts tb pb) }
+    ensures { result ≡ refusal_on (call.sigmask thread way (new_set set)) (lent ps.now ts.now tb.now pb.now) }
 {
     if !sound::sound(ps, ts, tb, pb) {
         return EFAULT;
@@ -77,7 +77,8 @@ pub fn sigmask(
     way: u32,
     set: GivenSet,
 ) -> Answer
-    ensures { stepped (call.sigmask thread way (new_set set)) result ps ts tb pb }
+    ensures { stepped (call.sigmask thread way (new_set set)) result
+        (lent ps.old ts.old tb.old pb.old) (lent ps.new ts.new tb.new pb.new) }
 {
     let n = mask_refusal(ps, ts, tb, pb, thread, way, set);
     if n != 0 {
@@ -102,7 +103,8 @@ pub fn sigreturn(
     thread: u32,
     saved: SigSet,
 ) -> Answer
-    ensures { stepped (call.sigreturn thread saved) result ps ts tb pb }
+    ensures { stepped (call.sigreturn thread saved) result (lent ps.old ts.old tb.old pb.old)
+        (lent ps.new ts.new tb.new pb.new) }
 {
     sigmask(ps, ts, tb, pb, thread, SIG_SETMASK, GivenSet::Set(saved))
 }
@@ -111,9 +113,9 @@ pub fn sigreturn(
 
 // The signals that a thread blocks and that are pending for it or for its process.
 fn blocked(ps: &[u64], ts: &[u64], tb: &[u8], pb: &[u8], thread: u32) -> SigSet
-    requires { WithThread thread (given ps ts tb pb) }
-    ensures { result ≡ blocked_pending (view_of (before ps ts tb pb))
-        (the_thread (view_of (before ps ts tb pb)) thread) }
+    requires { WithThread thread (lent ps.now ts.now tb.now pb.now) }
+    ensures { result ≡ blocked_pending (view_of (lent ps.now ts.now tb.now pb.now))
+        (the_thread (view_of (lent ps.now ts.now tb.now pb.now)) thread) }
 {
     let process = view::process_of(ts, thread);
     let own = view::pending_of(ps, ts, tb, pb, process, thread);
@@ -122,7 +124,7 @@ fn blocked(ps: &[u64], ts: &[u64], tb: &[u8], pb: &[u8], thread: u32) -> SigSet
 }
 
 pub fn sigpending(ps: &[u64], ts: &[u64], tb: &[u8], pb: &[u8], thread: u32) -> Answer
-    ensures { result ≡ (step_on (call.sigpending thread) (before ps ts tb pb)).1 }
+    ensures { result ≡ (step_on (call.sigpending thread) (lent ps.now ts.now tb.now pb.now)).1 }
 {
     let n = view::thread_refusal(ps, ts, tb, pb, thread);
     if n != 0 {

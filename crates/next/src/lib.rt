@@ -6,7 +6,7 @@ ghost use Rattle.rules.specs.View.{target_queue, the_thread};
 ghost use Rattle.rules.specs.Taking.{next_signal};
 ghost use Rattle.rules.specs.Taking.{next as next_for};
 ghost use Rattle.queue.specs.Queue.{records_of};
-ghost use Rattle.sound.specs.Lent.{view_of, given, before, WithThread};
+ghost use Rattle.sound.specs.Lent.{view_of, WithThread, lent};
 ghost use Rattle.answers.specs.Answers.{next_of};
 ghost use Rattle.next.specs.Nexts.{is_next_in};
 
@@ -15,8 +15,8 @@ use types::Next;
 
 // The lowest signal that a thread can take, or 0.
 pub fn next_signal(ps: &[u64], ts: &[u64], tb: &[u8], pb: &[u8], thread: u32) -> u32
-    requires { WithThread thread (given ps ts tb pb) }
-    ensures { result ≡ next_signal (view_of (before ps ts tb pb)) (the_thread (view_of (before ps ts tb pb)) thread) }
+    requires { WithThread thread (lent ps.now ts.now tb.now pb.now) }
+    ensures { result ≡ next_signal (view_of (lent ps.now ts.now tb.now pb.now)) (the_thread (view_of (lent ps.now ts.now tb.now pb.now)) thread) }
 {
     let process = view::process_of(ts, thread);
     if view::is_stopped(ps, process) {
@@ -41,9 +41,9 @@ fn next_in(b: &[u8], process: u32, thread: u32, signal: u32) -> Next
 
 // What a thread takes next: its own queue goes before its process's.
 pub fn next_of(ps: &[u64], ts: &[u64], tb: &[u8], pb: &[u8], thread: u32) -> Next
-    requires { WithThread thread (given ps ts tb pb) }
+    requires { WithThread thread (lent ps.now ts.now tb.now pb.now) }
     ensures { next_of result
-        ≡ next_for (view_of (before ps ts tb pb)) (the_thread (view_of (before ps ts tb pb)) thread) }
+        ≡ next_for (view_of (lent ps.now ts.now tb.now pb.now)) (the_thread (view_of (lent ps.now ts.now tb.now pb.now)) thread) }
 {
     let s = next_signal(ps, ts, tb, pb, thread);
     if s == 0 {

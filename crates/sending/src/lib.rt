@@ -8,8 +8,8 @@ ghost use Rattle.rules.specs.Types as call;
 ghost use Rattle.rules.specs.View.{target_queue};
 ghost use Rattle.rules.specs.Sending.{absorbs, generation, info_of, job_control, send_changes, send_answer, needs_record};
 ghost use Rattle.rules.specs.Refusals.{bad_target};
-ghost use Rattle.sound.specs.Lent.{view_of, sound_tables, given, before, WithQueue, WithProcess};
-ghost use Rattle.effects.specs.Changes.{ready, changed};
+ghost use Rattle.sound.specs.Lent.{view_of, sound_tables, WithQueue, WithProcess, lent};
+ghost use Rattle.effects.specs.Changes.{Ready, Changed};
 ghost use Rattle.answers.specs.Step.{refusal_on, stepped};
 ghost use Rattle.sending.specs.Generations.{generation_of};
 ghost use Rattle.sending.specs.JobControl.{controls, discarded_by};
@@ -54,9 +54,9 @@ fn is_absorbed(
     thread: u32,
     signal: u32,
 ) -> bool
-    requires with_queue { WithQueue (target_queue process thread) (given ps ts tb pb) }
+    requires with_queue { WithQueue (target_queue process thread) (lent ps.now ts.now tb.now pb.now) }
     requires le_signal { (1 ≤ signal) × (signal ≤ signals) }
-    ensures { result ≡ absorbs (view_of (before ps ts tb pb)) queued (target_queue process thread) signal }
+    ensures { result ≡ absorbs (view_of (lent ps.now ts.now tb.now pb.now)) queued (target_queue process thread) signal }
 {
     let pending = view::pending_of(ps, ts, tb, pb, process, thread);
     let marks = view::marks_of(ps, ts, tb, pb, process, thread);
@@ -74,10 +74,10 @@ fn generation_of(
     thread: u32,
     signal: u32,
 ) -> Generation
-    requires with_queue { WithQueue (target_queue process thread) (given ps ts tb pb) }
+    requires with_queue { WithQueue (target_queue process thread) (lent ps.now ts.now tb.now pb.now) }
     requires signal_le_signals { signal ≤ signals }
     ensures { generation_of result
-        ≡ generation (view_of (before ps ts tb pb)) queued (target_queue process thread) signal }
+        ≡ generation (view_of (lent ps.now ts.now tb.now pb.now)) queued (target_queue process thread) signal }
 {
     if signal == 0 {
         return Generation::Testing;
@@ -112,8 +112,8 @@ fn info(
     signal: u32,
     value: u64,
 ) -> Siginfo
-    requires { WithProcess by (given ps ts tb pb) }
-    ensures { result ≡ info_of (view_of (before ps ts tb pb)) by to thread signal value }
+    requires { WithProcess by (lent ps.now ts.now tb.now pb.now) }
+    ensures { result ≡ info_of (view_of (lent ps.now ts.now tb.now pb.now)) by to thread signal value }
 {
     Siginfo {
         process: to,
@@ -162,8 +162,9 @@ fn job_control(
     process: u32,
     signal: u32,
 )
-    requires { ready (job_control process signal) ps ts tb pb }
-    ensures { changed (job_control process signal) ps ts tb pb }
+    requires { Ready (job_control process signal) (lent ps.old ts.old tb.old pb.old) }
+    ensures { Changed (job_control process signal) (lent ps.old ts.old tb.old pb.old)
+        (lent ps.new ts.new tb.new pb.new) }
 {
     if !is_job_control(signal) {
         return;
@@ -176,8 +177,9 @@ fn job_control(
 
 // Generates the signal. Job control comes first, whatever becomes pending.
 fn generate(ps: &mut [u64], ts: &mut [u64], tb: &mut [u8], pb: &mut [u8], f: Generation, r: Siginfo)
-    requires { ready (send_changes (generation_of f) r) ps ts tb pb }
-    ensures { changed (send_changes (generation_of f) r) ps ts tb pb }
+    requires { Ready (send_changes (generation_of f) r) (lent ps.old ts.old tb.old pb.old) }
+    ensures { Changed (send_changes (generation_of f) r) (lent ps.old ts.old tb.old pb.old)
+        (lent ps.new ts.new tb.new pb.new) }
 {
     match f {
         Generation::Testing => return,
@@ -213,8 +215,8 @@ fn sent(f: Generation) -> Sent
 
 // Is the target not a live process, or the thread neither 0 nor a live thread of it?
 fn is_bad_target(ps: &[u64], ts: &[u64], tb: &[u8], pb: &[u8], to: u32, thread: u32) -> bool
-    requires { sound_tables (given ps ts tb pb) ≡ true }
-    ensures { result ≡ bad_target (view_of (before ps ts tb pb)) to thread }
+    requires { sound_tables (lent ps.now ts.now tb.now pb.now) ≡ true }
+    ensures { result ≡ bad_target (view_of (lent ps.now ts.now tb.now pb.now)) to thread }
 {
     if !view::is_process(ps, to) {
         return true;
@@ -239,7 +241,7 @@ fn kill_refusal(
     thread: u32,
     signal: u32,
 ) -> u32
-    ensures { result ≡ refusal_on (call.kill by to thread signal) (before ps ts tb pb) }
+    ensures { result ≡ refusal_on (call.kill by to thread signal) (lent ps.now ts.now tb.now pb.now) }
 {
     if !sound::sound(ps, ts, tb, pb) {
         return EFAULT;
@@ -259,8 +261,8 @@ fn kill_refusal(
 // Is the send kept, and has the process all the records that it may have? The buffers are counted
 // only for a send that is kept.
 fn has_no_room(ps: &[u64], ts: &[u64], tb: &[u8], pb: &[u8], f: Generation, to: u32) -> bool
-    requires { sound_tables (given ps ts tb pb) ≡ true }
-    ensures { result ≡ (needs_record (generation_of f) && leb record_limit ((view_of (before ps ts tb pb)).queued to)) }
+    requires { sound_tables (lent ps.now ts.now tb.now pb.now) ≡ true }
+    ensures { result ≡ (needs_record (generation_of f) && leb record_limit ((view_of (lent ps.now ts.now tb.now pb.now)).queued to)) }
 {
     match f {
         Generation::Keeping => RECORD_LIMIT <= queue::count_of(tb, to) + queue::count_of(pb, to),
@@ -281,7 +283,7 @@ fn judge(
     signal: u32,
     value: u64,
 ) -> Decision
-    ensures { Decided (before ps ts tb pb) queued by to thread signal value result }
+    ensures { Decided (lent ps.now ts.now tb.now pb.now) queued by to thread signal value result }
 {
     let n = kill_refusal(ps, ts, tb, pb, by, to, thread, signal);
     if n != 0 {
@@ -310,7 +312,8 @@ fn send(
     value: u64,
 ) -> Answer
     requires { queued ≡ false → value ≡ 0 }
-    ensures { stepped (send_call queued by to thread signal value) result ps ts tb pb }
+    ensures { stepped (send_call queued by to thread signal value) result
+        (lent ps.old ts.old tb.old pb.old) (lent ps.new ts.new tb.new pb.new) }
 {
     let decision = judge(ps, ts, tb, pb, queued, by, to, thread, signal, value);
     match decision {
@@ -333,7 +336,8 @@ pub fn kill(
     thread: u32,
     signal: u32,
 ) -> Answer
-    ensures { stepped (call.kill by to thread signal) result ps ts tb pb }
+    ensures { stepped (call.kill by to thread signal) result (lent ps.old ts.old tb.old pb.old)
+        (lent ps.new ts.new tb.new pb.new) }
 {
     send(ps, ts, tb, pb, false, by, to, thread, signal, 0)
 }
@@ -350,7 +354,8 @@ pub fn sigqueue(
     signal: u32,
     value: u64,
 ) -> Answer
-    ensures { stepped (call.sigqueue by to thread signal value) result ps ts tb pb }
+    ensures { stepped (call.sigqueue by to thread signal value) result
+        (lent ps.old ts.old tb.old pb.old) (lent ps.new ts.new tb.new pb.new) }
 {
     send(ps, ts, tb, pb, true, by, to, thread, signal, value)
 }

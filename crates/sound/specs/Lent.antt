@@ -1,8 +1,6 @@
 -- The four lent tables as one, what they say as the rules' store, and when they are sound: their lengths in words
 -- and bytes, and the rules' test.
 use Rattle.std.specs.Prelude.{ℕ, ◌≡◌, Bool, true, ◌&&◌, List, eqb, length}
-use Rattle.std.specs.Borrow.{Bor}
-use denote.Triple.Both.{Both}
 use Rattle.limits.specs.Limits.{process_table, thread_table, buffer_bytes}
 use Rattle.rules.specs.Types.{Queue}
 use Rattle.rules.specs.View.{View, live_process, live_thread}
@@ -59,22 +57,3 @@ pub record WithProcess (process : ℕ) (l : Lent) : Type 0 where
 pub record WithQueue (queue : Queue) (l : Lent) : Type 0 where
   pub sound : sound_tables l ≡ true
   pub live : live_queue (view_of l) queue ≡ true
-
--- ---- in contracts
-
--- a lent slice as a `requires` names it, and as an `ensures` does
-abbrev pub Slice : Type 0
-Slice = Bor (List ℕ)
-
-abbrev pub Slices : Type 0
-Slices = Both Slice Slice
-
--- the tables of a `requires`; of an `ensures`, before the call and after it
-abbrev pub given : (ps ts tb pb : Slice) → Lent
-given ps ts tb pb = lent ps.now ts.now tb.now pb.now
-
-abbrev pub before : (ps ts tb pb : Slices) → Lent
-before ps ts tb pb = given ps.entry ts.entry tb.entry pb.entry
-
-abbrev pub after : (ps ts tb pb : Slices) → Lent
-after ps ts tb pb = given ps.exit ts.exit tb.exit pb.exit

@@ -3,7 +3,7 @@
 ghost use Rattle.std.specs.Prelude.{◌≡◌, true, length};
 ghost use Rattle.limits.specs.Limits.{process_table, thread_table};
 ghost use Rattle.queue.specs.Queue.{is_laid};
-ghost use Rattle.sound.specs.Lent.{sound_tables, before};
+ghost use Rattle.sound.specs.Lent.{sound_tables, lent};
 
 use hints::HINT_SLOTS;
 use limits::{
@@ -14,7 +14,7 @@ use limits::{
 fn contents_ok(ps: &[u64], ts: &[u64], tb: &[u8], pb: &[u8]) -> bool
     requires ps_len { (length ps.now ≡ process_table) × (length ts.now ≡ thread_table) }
     requires tb_value { (is_laid tb.now ≡ true) × (is_laid pb.now ≡ true) }
-    ensures { result ≡ sound_tables (before ps ts tb pb) }
+    ensures { result ≡ sound_tables (lent ps.now ts.now tb.now pb.now) }
 {
     let mut ph = [0u16; HINT_SLOTS];
     let mut th = [0u16; HINT_SLOTS];
@@ -30,7 +30,7 @@ fn contents_ok(ps: &[u64], ts: &[u64], tb: &[u8], pb: &[u8]) -> bool
 
 // Is the store sound? Any words, any bytes and any lengths are answered.
 pub fn sound(ps: &[u64], ts: &[u64], tb: &[u8], pb: &[u8]) -> bool
-    ensures { result ≡ sound_tables (before ps ts tb pb) }
+    ensures { result ≡ sound_tables (lent ps.now ts.now tb.now pb.now) }
 {
     if (ps.len() != PROCESS_TABLE) | (ts.len() != THREAD_TABLE) {
         return false;
@@ -47,7 +47,7 @@ pub fn sound(ps: &[u64], ts: &[u64], tb: &[u8], pb: &[u8]) -> bool
 // The same for a host that links it.
 #[unsafe(no_mangle)]
 pub extern "C" fn rrezhbuta_sound(ps: &[u64], ts: &[u64], tb: &[u8], pb: &[u8]) -> bool
-    ensures { result ≡ sound_tables (before ps ts tb pb) }
+    ensures { result ≡ sound_tables (lent ps.now ts.now tb.now pb.now) }
 {
     sound(ps, ts, tb, pb)
 }

@@ -8,7 +8,7 @@ use Rattle.rules.specs.Signals.{Outcome, ignores, stops, continues, ends}
 use Rattle.rules.specs.View.{Change, set_mask, clear_mark, drop_oldest, target_queue, live_thread, the_thread}
 use Rattle.rules.specs.Taking.{mark_info, handler_mask, reset_changes, take_changes, take_answer}
 use Rattle.rules.specs.Taking.{next as next_for}
-use Rattle.sound.specs.Lent.{Lent, view_of, sound_tables, Slice, Slices, given, before, after}
+use Rattle.sound.specs.Lent.{Lent, view_of, sound_tables}
 use Rattle.effects.specs.Changes.{Changed}
 use Rattle.taking.specs.declared.Outcome as declared
 use Rattle.taking.specs.declared.Outcome.TheVariants as cases
@@ -54,9 +54,3 @@ pub record Takeable (t : ℕ) (n : Next) (l : Lent) : Type 0 where
 pub record Took (t : ℕ) (n : Next) (a : Taken) (l l' : Lent) : Type 0 where
   pub answer : a ≡ take_answer (view_of l) (the_thread (view_of l) t) n
   pub tables : Changed (take_changes (view_of l) (the_thread (view_of l) t) n) l l'
-
-abbrev pub takeable : ℕ → Next → (ps ts tb pb : Slice) → Type 0
-takeable t n ps ts tb pb = Takeable t n (given ps ts tb pb)
-
-abbrev pub took : ℕ → Next → Taken → (ps ts tb pb : Slices) → Type 0
-took t n a ps ts tb pb = Took t n a (before ps ts tb pb) (after ps ts tb pb)

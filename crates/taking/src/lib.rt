@@ -7,10 +7,11 @@ ghost use Rattle.rules.specs.View.{target_queue};
 ghost use Rattle.rules.specs.Taking.{mark_info, handler_mask, resets, reset, outcome_changes, outcome_answer, deliver};
 ghost use Rattle.rules.specs.Taking.{delivered};
 ghost use Rattle.answers.specs.Answers.{next_of};
+ghost use Rattle.sound.specs.Lent.{lent};
 ghost use Rattle.answers.specs.Step.{stepped};
-ghost use Rattle.effects.specs.Changes.{ready, changed};
+ghost use Rattle.effects.specs.Changes.{Ready, Changed};
 ghost use Rattle.effects.specs.Effects.{thread_of};
-ghost use Rattle.taking.specs.Takes.{outcome_of, info_in, dequeue_changes, handler_changes, takeable, took};
+ghost use Rattle.taking.specs.Takes.{outcome_of, info_in, dequeue_changes, handler_changes, Takeable, Took};
 
 use limits::{
     KNOWN_FLAGS, SA_NODEFER, SA_RESETHAND, SA_SIGINFO, SIG_DFL, SIGCONT, SIGILL, SIGSTOP, SIGTRAP,
@@ -63,8 +64,10 @@ fn start_handler(
     a: Action,
     signal: u32,
 )
-    requires { ready (handler_changes (thread_of thread process mask) a signal) ps ts tb pb }
-    ensures { changed (handler_changes (thread_of thread process mask) a signal) ps ts tb pb }
+    requires { Ready (handler_changes (thread_of thread process mask) a signal)
+        (lent ps.old ts.old tb.old pb.old) }
+    ensures { Changed (handler_changes (thread_of thread process mask) a signal)
+        (lent ps.old ts.old tb.old pb.old) (lent ps.new ts.new tb.new pb.new) }
 {
     effects::set_mask(ps, ts, tb, pb, thread, handler_mask(mask, a, signal));
     if is_reset(a, signal) {
@@ -106,8 +109,9 @@ fn act_by_default(
     o: Outcome,
     process: u32,
 )
-    requires { ready (outcome_changes (outcome_of o) process) ps ts tb pb }
-    ensures { changed (outcome_changes (outcome_of o) process) ps ts tb pb }
+    requires { Ready (outcome_changes (outcome_of o) process) (lent ps.old ts.old tb.old pb.old) }
+    ensures { Changed (outcome_changes (outcome_of o) process) (lent ps.old ts.old tb.old pb.old)
+        (lent ps.new ts.new tb.new pb.new) }
 {
     match o {
         Outcome::Ignores => {}
@@ -142,8 +146,10 @@ fn deliver(
     a: Action,
     signal: u32,
 )
-    requires { ready (deliver (thread_of thread process mask) a signal) ps ts tb pb }
-    ensures { changed (deliver (thread_of thread process mask) a signal) ps ts tb pb }
+    requires { Ready (deliver (thread_of thread process mask) a signal)
+        (lent ps.old ts.old tb.old pb.old) }
+    ensures { Changed (deliver (thread_of thread process mask) a signal)
+        (lent ps.old ts.old tb.old pb.old) (lent ps.new ts.new tb.new pb.new) }
 {
     if a.handler == SIG_DFL {
         act_by_default(ps, ts, tb, pb, outcome_of(signal), process);
@@ -165,8 +171,9 @@ fn delivered(mask: SigSet, a: Action, r: Siginfo) -> Taken
 
 // The record or the mark leaves its queue.
 fn dequeue(ps: &mut [u64], ts: &mut [u64], tb: &mut [u8], pb: &mut [u8], next: Next)
-    requires { ready (dequeue_changes (next_of next)) ps ts tb pb }
-    ensures { changed (dequeue_changes (next_of next)) ps ts tb pb }
+    requires { Ready (dequeue_changes (next_of next)) (lent ps.old ts.old tb.old pb.old) }
+    ensures { Changed (dequeue_changes (next_of next)) (lent ps.old ts.old tb.old pb.old)
+        (lent ps.new ts.new tb.new pb.new) }
 {
     match next {
         Next::Nothing => {}
@@ -213,8 +220,9 @@ fn take_next(
     thread: u32,
     next: Next,
 ) -> Taken
-    requires { takeable thread (next_of next) ps ts tb pb }
-    ensures { took thread (next_of next) result ps ts tb pb }
+    requires { Takeable thread (next_of next) (lent ps.old ts.old tb.old pb.old) }
+    ensures { Took thread (next_of next) result (lent ps.old ts.old tb.old pb.old)
+        (lent ps.new ts.new tb.new pb.new) }
 {
     let r = info_of(next);
     let process = view::process_of(ts, thread);
@@ -227,7 +235,8 @@ fn take_next(
 
 // A thread takes its next signal.
 pub fn take(ps: &mut [u64], ts: &mut [u64], tb: &mut [u8], pb: &mut [u8], thread: u32) -> Answer
-    ensures { stepped (call.take thread) result ps ts tb pb }
+    ensures { stepped (call.take thread) result (lent ps.old ts.old tb.old pb.old)
+        (lent ps.new ts.new tb.new pb.new) }
 {
     let n = view::thread_refusal(ps, ts, tb, pb, thread);
     if n != 0 {

@@ -12,7 +12,7 @@ ghost use Rattle.rules.specs.Sending.{may_signal};
 ghost use Rattle.rules.specs.Refusals.{esrch, no_process_live, no_thread_live};
 ghost use Rattle.queue.specs.Queue.{records_of, signals_in};
 ghost use Rattle.tables.specs.Tables.{held_processes, held_threads};
-ghost use Rattle.sound.specs.Lent.{view_of, given, before, WithQueue};
+ghost use Rattle.sound.specs.Lent.{view_of, WithQueue, lent};
 ghost use Rattle.answers.specs.Step.{rows_on};
 ghost use Rattle.view.specs.Named.{process_named, thread_named};
 
@@ -132,8 +132,8 @@ pub fn may_signal(ps: &[u64], by: u32, to: u32, signal: u32) -> bool
 
 // The signals that are marked in it.
 pub fn marks_of(ps: &[u64], ts: &[u64], tb: &[u8], pb: &[u8], process: u32, thread: u32) -> SigSet
-    requires { WithQueue (target_queue process thread) (given ps ts tb pb) }
-    ensures { result ≡ set_of ((view_of (before ps ts tb pb)).marks (target_queue process thread)) }
+    requires { WithQueue (target_queue process thread) (lent ps.now ts.now tb.now pb.now) }
+    ensures { result ≡ set_of ((view_of (lent ps.now ts.now tb.now pb.now)).marks (target_queue process thread)) }
 {
     if thread == 0 {
         let place = tables::find_process(ps, process as u64);
@@ -157,8 +157,8 @@ fn queued_of(tb: &[u8], pb: &[u8], process: u32, thread: u32) -> SigSet
 
 // The signals that are pending in it, by a mark or by a record.
 pub fn pending_of(ps: &[u64], ts: &[u64], tb: &[u8], pb: &[u8], process: u32, thread: u32) -> SigSet
-    requires { WithQueue (target_queue process thread) (given ps ts tb pb) }
-    ensures { result ≡ set_of (pending_in (view_of (before ps ts tb pb)) (target_queue process thread)) }
+    requires { WithQueue (target_queue process thread) (lent ps.now ts.now tb.now pb.now) }
+    ensures { result ≡ set_of (pending_in (view_of (lent ps.now ts.now tb.now pb.now)) (target_queue process thread)) }
 {
     let marks = marks_of(ps, ts, tb, pb, process, thread);
     let queued = queued_of(tb, pb, process, thread);
@@ -169,8 +169,8 @@ pub fn pending_of(ps: &[u64], ts: &[u64], tb: &[u8], pb: &[u8], process: u32, th
 
 // 14 where the tables are not sound, 3 where the process is not live, else 0.
 pub fn process_refusal(ps: &[u64], ts: &[u64], tb: &[u8], pb: &[u8], process: u32) -> u32
-    ensures { result ≡ rows_on (esrch (no_process_live (view_of (before ps ts tb pb)) process) ∷ [])
-        (before ps ts tb pb) }
+    ensures { result ≡ rows_on (esrch (no_process_live (view_of (lent ps.now ts.now tb.now pb.now)) process) ∷ [])
+        (lent ps.now ts.now tb.now pb.now) }
 {
     if !sound::sound(ps, ts, tb, pb) {
         return EFAULT;
@@ -183,8 +183,8 @@ pub fn process_refusal(ps: &[u64], ts: &[u64], tb: &[u8], pb: &[u8], process: u3
 
 // The same of a thread.
 pub fn thread_refusal(ps: &[u64], ts: &[u64], tb: &[u8], pb: &[u8], thread: u32) -> u32
-    ensures { result ≡ rows_on (esrch (no_thread_live (view_of (before ps ts tb pb)) thread) ∷ [])
-        (before ps ts tb pb) }
+    ensures { result ≡ rows_on (esrch (no_thread_live (view_of (lent ps.now ts.now tb.now pb.now)) thread) ∷ [])
+        (lent ps.now ts.now tb.now pb.now) }
 {
     if !sound::sound(ps, ts, tb, pb) {
         return EFAULT;

@@ -2,7 +2,7 @@
 use mathlib.Core.Path.{sym, ◌∙◌}
 use borrow.Author.Tests.{not-true, not-false}
 use Rattle.sound.proofs.Facts.{processes-long}
-use Rattle.sound.specs.Lent.{given}
+use Rattle.sound.specs.Lent.{lent}
 use Rattle.view.proofs.Live.{no-process}
 use Rattle.actions.specs.Given.{new_action}
 use Rattle.actions.proofs.Actions.{action-fault, action-bad, action-gone, action-none}
@@ -13,14 +13,14 @@ use Rattle.actions.proofs.action_refusal.Tie as tie
 returns : tie.Need-returns
 returns c =
     let a = c.before.before.before.before.before.before in
-    let l = given a.args.ps a.args.ts a.args.tb a.args.pb in
+    let l = lent a.args.ps.now a.args.ts.now a.args.tb.now a.args.pb.now in
     action-fault l a.args.process a.args.signal (new_action a.args.new)
     (sym c.before.sound.ensures ∙ not-true c.before.sound.result c.if1.true)
 
 returns-2 : tie.Need-returns-2
 returns-2 c =
     let a = c.before.before.before.before.before.before.before.before in
-    let l = given a.args.ps a.args.ts a.args.tb a.args.pb in
+    let l = lent a.args.ps.now a.args.ts.now a.args.tb.now a.args.pb.now in
     let e =
     sym c.before.before.before.sound.ensures
     ∙ not-false c.before.before.before.sound.result c.before.before.if1.false in
@@ -30,7 +30,7 @@ returns-2 c =
 is-process-requires : tie.Need-is-process-requires
 is-process-requires c κs =
     let a = c.before.before.before.before.before.before.before.before in
-    let l = given a.args.ps a.args.ts a.args.tb a.args.pb in
+    let l = lent a.args.ps.now a.args.ts.now a.args.tb.now a.args.pb.now in
     processes-long l
     (sym c.before.before.before.sound.ensures
     ∙ not-false c.before.before.before.sound.result c.before.before.if1.false)
@@ -38,7 +38,7 @@ is-process-requires c κs =
 returns-3 : tie.Need-returns-3
 returns-3 c =
     let a = c.before.before.before.before.before.before.before.before.before.before in
-    let l = given a.args.ps a.args.ts a.args.tb a.args.pb in
+    let l = lent a.args.ps.now a.args.ts.now a.args.tb.now a.args.pb.now in
     let e =
     sym c.before.before.before.before.before.sound.ensures
     ∙ not-false c.before.before.before.before.before.sound.result
@@ -50,7 +50,7 @@ returns-3 c =
 returns-4 : tie.Need-returns-4
 returns-4 c =
     let a = c.before.before.before.before.before.before.before.before.before.before in
-    let l = given a.args.ps a.args.ts a.args.tb a.args.pb in
+    let l = lent a.args.ps.now a.args.ts.now a.args.tb.now a.args.pb.now in
     let e =
     sym c.before.before.before.before.before.sound.ensures
     ∙ not-false c.before.before.before.before.before.sound.result

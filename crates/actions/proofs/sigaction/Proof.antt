@@ -4,7 +4,7 @@ use native.Mathlib.Omega.{arith}
 use Rattle.siginfo.proofs.Numbers.{bytes-each}
 use Rattle.rules.specs.Types.{sigaction}
 use Rattle.sound.proofs.Facts.{processes-long, process-listed}
-use Rattle.sound.specs.Lent.{lent, given}
+use Rattle.sound.specs.Lent.{lent}
 use Rattle.answers.proofs.Endings.{refused-ends}
 use Rattle.actions.specs.Given.{new_action}
 use Rattle.actions.proofs.Actions.{asked-signal, action-accepted, action-kept, action-ready, action-stored}
@@ -15,7 +15,7 @@ use Rattle.actions.proofs.sigaction.Tie as tie
 returns : tie.Need-returns
 returns c =
     let a = c.before.before.before.before.before.before.before.before.before.before in
-    let l = given a.args.ps a.args.ts a.args.tb a.args.pb in
+    let l = lent a.args.ps.now a.args.ts.now a.args.tb.now a.args.pb.now in
     let p = a.args.process in
     let s = a.args.signal in
     let new = new_action a.args.new in
@@ -26,7 +26,7 @@ returns c =
 action-of-requires : tie.Need-action-of-requires
 action-of-requires c κs =
     let a = c.before.before.before.before.before.before.before.before.before.before.before in
-    let l = given a.args.ps a.args.ts a.args.tb a.args.pb in
+    let l = lent a.args.ps.now a.args.ts.now a.args.tb.now a.args.pb.now in
     let p = a.args.process in
     let s = a.args.signal in
     let new = new_action a.args.new in
@@ -38,7 +38,7 @@ store-action-requires : tie.Need-store-action-requires
 unfolding new_action
 store-action-requires c κs =
     let a = c.before.before.before.before.before.before.before.before.before.before.before.before.before.before.before.before.before.before.before.before in
-    let l = given a.args.ps a.args.ts a.args.tb a.args.pb in
+    let l = lent a.args.ps.now a.args.ts.now a.args.tb.now a.args.pb.now in
     let p = a.args.process in
     let s = a.args.signal in
     let new = new_action a.args.new in
@@ -56,7 +56,7 @@ unfolding new_action
 returns-2 c =
     let a =
     c.before.before.before.before.before.before.before.before.before.before.before.before.before.before in
-    let l = given a.args.ps a.args.ts a.args.tb a.args.pb in
+    let l = lent a.args.ps.now a.args.ts.now a.args.tb.now a.args.pb.now in
     let p = a.args.process in
     let s = a.args.signal in
     let new = new_action a.args.new in
@@ -76,7 +76,7 @@ unfolding new_action
 returns-3 c =
     let w = c.before.before.before.before.before.before.before.before in
     let a = c.before.before.before.before.before.before.before.before.before.before.before.before.before.before.before.before.before.before.before.before.before.before.before.before.before.before.before.before.before in
-    let l = given a.args.ps a.args.ts a.args.tb a.args.pb in
+    let l = lent a.args.ps.now a.args.ts.now a.args.tb.now a.args.pb.now in
     let p = a.args.process in
     let s = a.args.signal in
     let new = new_action a.args.new in

@@ -1,7 +1,7 @@
 -- `add_process` meets its contract: refused, or the process and its first thread are in their places. Assumes nothing.
 use native.Mathlib.Omega.{arith}
 use Rattle.siginfo.proofs.Numbers.{bytes-each}
-use Rattle.sound.specs.Lent.{given}
+use Rattle.sound.specs.Lent.{lent}
 use Rattle.adding.proofs.Added.{process-refused, process-room, first-thread-room, process-added}
 use borrow.Author.Rules.{rules}
 use Rattle.adding.proofs.add_process.Statement.{statement}
@@ -11,7 +11,7 @@ returns : tie.Need-returns
 returns c =
     let r = c.before in
     let a = r.before.before.before.before.before.before.before.before.before in
-    process-refused (given a.args.ps a.args.ts a.args.tb a.args.pb)
+    process-refused (lent a.args.ps.now a.args.ts.now a.args.tb.now a.args.pb.now)
     a.args.new r.add-process-refusal.result r.add-process-refusal.ensures c.if1.true
 
 new-process-requires : tie.Need-new-process-requires
@@ -19,7 +19,7 @@ new-process-requires c κs =
     let i = c.before in
     let r = i.before in
     let a = r.before.before.before.before.before.before.before.before.before in
-    process-room (given a.args.ps a.args.ts a.args.tb a.args.pb)
+    process-room (lent a.args.ps.now a.args.ts.now a.args.tb.now a.args.pb.now)
     a.args.new r.add-process-refusal.result r.add-process-refusal.ensures i.if1.false
 
 new-thread-requires : tie.Need-new-thread-requires
@@ -27,7 +27,7 @@ new-thread-requires c κs =
     let i = c.before.before.before.before.before.before.before in
     let r = i.before in
     let a = r.before.before.before.before.before.before.before.before.before in
-    first-thread-room (given a.args.ps a.args.ts a.args.tb a.args.pb)
+    first-thread-room (lent a.args.ps.now a.args.ts.now a.args.tb.now a.args.pb.now)
     a.args.new r.add-process-refusal.result r.add-process-refusal.ensures i.if1.false
 
 returns-2 : tie.Need-returns-2
@@ -38,7 +38,7 @@ returns-2 c =
     let r = i.before in
     let k = r.before.before.before.before.before in
     let a = k.before.before.before.before in
-    process-added (given a.args.ps a.args.ts a.args.tb a.args.pb)
+    process-added (lent a.args.ps.now a.args.ts.now a.args.tb.now a.args.pb.now)
     a.args.new r.add-process-refusal.result r.add-process-refusal.ensures
     p.new-process.new.0 t.new-thread.new.0 t.before.maskable.result t.before.maskable.ensures
     p.new-process.ensures t.new-thread.ensures

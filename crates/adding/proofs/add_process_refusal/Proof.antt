@@ -1,7 +1,7 @@
 -- `add_process_refusal` meets its contract: the rows in order. Assumes nothing.
 use mathlib.Core.Path.{sym, ◌∙◌}
 use borrow.Author.Tests.{not-false}
-use Rattle.sound.specs.Lent.{given}
+use Rattle.sound.specs.Lent.{lent}
 use Rattle.sound.proofs.Facts.{processes-long, threads-long}
 use Rattle.adding.proofs.ProcessRows.{process-fault, process-bad, process-there, process-full, process-accepted}
 use borrow.Author.Rules.{rules}
@@ -12,7 +12,7 @@ returns : tie.Need-returns
 returns c =
     let s = c.before in
     let a = s.before.before.before.before.before in
-    process-fault (given a.args.ps a.args.ts a.args.tb a.args.pb) a.args.new
+    process-fault (lent a.args.ps.now a.args.ts.now a.args.tb.now a.args.pb.now) a.args.new
     s.sound.result s.sound.ensures c.if1.true
 
 returns-2 : tie.Need-returns-2
@@ -20,7 +20,7 @@ returns-2 c =
     let i = c.before in
     let s = i.before.before.before in
     let a = s.before.before.before.before.before in
-    process-bad (given a.args.ps a.args.ts a.args.tb a.args.pb)
+    process-bad (lent a.args.ps.now a.args.ts.now a.args.tb.now a.args.pb.now)
     a.args.new s.sound.result s.sound.ensures i.before.before.if1.false
     i.before.is-id.result i.is-id2.result i.before.is-id.ensures i.is-id2.ensures c.if2.true
 
@@ -29,7 +29,7 @@ is-process-requires c κs =
     let i = c.before in
     let s = i.before.before.before in
     let a = s.before.before.before.before.before in
-    processes-long (given a.args.ps a.args.ts a.args.tb a.args.pb)
+    processes-long (lent a.args.ps.now a.args.ts.now a.args.tb.now a.args.pb.now)
     (sym s.sound.ensures ∙ not-false s.sound.result i.before.before.if1.false)
 
 is-thread-requires : tie.Need-is-thread-requires
@@ -37,7 +37,7 @@ is-thread-requires c κs =
     let i = c.before.before in
     let s = i.before.before.before in
     let a = s.before.before.before.before.before in
-    threads-long (given a.args.ps a.args.ts a.args.tb a.args.pb)
+    threads-long (lent a.args.ps.now a.args.ts.now a.args.tb.now a.args.pb.now)
     (sym s.sound.ensures ∙ not-false s.sound.result i.before.before.if1.false)
 
 returns-3 : tie.Need-returns-3
@@ -46,7 +46,7 @@ returns-3 c =
     let i = t.before.before.before in
     let s = i.before.before.before in
     let a = s.before.before.before.before.before in
-    process-there (given a.args.ps a.args.ts a.args.tb a.args.pb)
+    process-there (lent a.args.ps.now a.args.ts.now a.args.tb.now a.args.pb.now)
     a.args.new s.sound.result s.sound.ensures i.before.before.if1.false
     i.before.is-id.result i.is-id2.result i.before.is-id.ensures i.is-id2.ensures
     t.before.before.if2.false
@@ -59,7 +59,7 @@ has-process-place-requires c κs =
     let i = t.before.before.before in
     let s = i.before.before.before in
     let a = s.before.before.before.before.before in
-    processes-long (given a.args.ps a.args.ts a.args.tb a.args.pb)
+    processes-long (lent a.args.ps.now a.args.ts.now a.args.tb.now a.args.pb.now)
     (sym s.sound.ensures ∙ not-false s.sound.result i.before.before.if1.false)
 
 has-thread-place-requires : tie.Need-has-thread-place-requires
@@ -68,7 +68,7 @@ has-thread-place-requires c κs =
     let i = t.before.before.before in
     let s = i.before.before.before in
     let a = s.before.before.before.before.before in
-    threads-long (given a.args.ps a.args.ts a.args.tb a.args.pb)
+    threads-long (lent a.args.ps.now a.args.ts.now a.args.tb.now a.args.pb.now)
     (sym s.sound.ensures ∙ not-false s.sound.result i.before.before.if1.false)
 
 returns-4 : tie.Need-returns-4
@@ -78,7 +78,7 @@ returns-4 c =
     let i = t.before.before.before in
     let s = i.before.before.before in
     let a = s.before.before.before.before.before in
-    process-full (given a.args.ps a.args.ts a.args.tb a.args.pb)
+    process-full (lent a.args.ps.now a.args.ts.now a.args.tb.now a.args.pb.now)
     a.args.new s.sound.result s.sound.ensures i.before.before.if1.false
     i.before.is-id.result i.is-id2.result i.before.is-id.ensures i.is-id2.ensures
     t.before.before.if2.false
@@ -94,7 +94,7 @@ returns-5 c =
     let i = t.before.before.before in
     let s = i.before.before.before in
     let a = s.before.before.before.before.before in
-    process-accepted (given a.args.ps a.args.ts a.args.tb a.args.pb)
+    process-accepted (lent a.args.ps.now a.args.ts.now a.args.tb.now a.args.pb.now)
     a.args.new s.sound.result s.sound.ensures i.before.before.if1.false
     i.before.is-id.result i.is-id2.result i.before.is-id.ensures i.is-id2.ensures
     t.before.before.if2.false

@@ -1,7 +1,7 @@
 -- `add_thread` meets its contract: refused, or the thread is in its place. Assumes nothing.
 use native.Mathlib.Omega.{arith}
 use Rattle.siginfo.proofs.Numbers.{bytes-each}
-use Rattle.sound.specs.Lent.{given}
+use Rattle.sound.specs.Lent.{lent}
 use Rattle.adding.proofs.Added.{thread-refused, creator-owned, creator-found, thread-room, thread-added}
 use borrow.Author.Rules.{rules}
 use Rattle.adding.proofs.add_thread.Statement.{statement}
@@ -11,7 +11,7 @@ returns : tie.Need-returns
 returns c =
     let r = c.before in
     let a = r.before.before.before.before.before.before.before.before.before in
-    thread-refused (given a.args.ps a.args.ts a.args.tb a.args.pb)
+    thread-refused (lent a.args.ps.now a.args.ts.now a.args.tb.now a.args.pb.now)
     a.args.creator a.args.id r.add-thread-refusal.result r.add-thread-refusal.ensures c.if1.true
 
 process-of-requires : tie.Need-process-of-requires
@@ -19,7 +19,7 @@ process-of-requires c κs =
     let i = c.before in
     let r = i.before in
     let a = r.before.before.before.before.before.before.before.before.before in
-    creator-owned (given a.args.ps a.args.ts a.args.tb a.args.pb)
+    creator-owned (lent a.args.ps.now a.args.ts.now a.args.tb.now a.args.pb.now)
     a.args.creator a.args.id r.add-thread-refusal.result r.add-thread-refusal.ensures i.if1.false
 
 mask-of-requires : tie.Need-mask-of-requires
@@ -27,7 +27,7 @@ mask-of-requires c κs =
     let i = c.before.before.before in
     let r = i.before in
     let a = r.before.before.before.before.before.before.before.before.before in
-    creator-found (given a.args.ps a.args.ts a.args.tb a.args.pb)
+    creator-found (lent a.args.ps.now a.args.ts.now a.args.tb.now a.args.pb.now)
     a.args.creator a.args.id r.add-thread-refusal.result r.add-thread-refusal.ensures i.if1.false
 
 new-thread-requires : tie.Need-new-thread-requires
@@ -35,7 +35,7 @@ new-thread-requires c κs =
     let i = c.before.before.before.before.before in
     let r = i.before in
     let a = r.before.before.before.before.before.before.before.before.before in
-    thread-room (given a.args.ps a.args.ts a.args.tb a.args.pb)
+    thread-room (lent a.args.ps.now a.args.ts.now a.args.tb.now a.args.pb.now)
     a.args.creator a.args.id r.add-thread-refusal.result r.add-thread-refusal.ensures i.if1.false
 
 returns-2 : tie.Need-returns-2
@@ -47,7 +47,7 @@ returns-2 c =
     let r = i.before in
     let k = r.before.before.before.before.before in
     let a = k.before.before.before.before in
-    thread-added (given a.args.ps a.args.ts a.args.tb a.args.pb)
+    thread-added (lent a.args.ps.now a.args.ts.now a.args.tb.now a.args.pb.now)
     a.args.creator a.args.id r.add-thread-refusal.result r.add-thread-refusal.ensures i.if1.false
     t.new-thread.new.0 p.process-of.result m.mask-of.result p.process-of.ensures m.mask-of.ensures
     t.new-thread.ensures (search rules)

@@ -1,7 +1,7 @@
 -- `add_thread_refusal` meets its contract: the rows in order. Assumes nothing.
 use mathlib.Core.Path.{sym, ◌∙◌}
 use borrow.Author.Tests.{not-false}
-use Rattle.sound.specs.Lent.{given}
+use Rattle.sound.specs.Lent.{lent}
 use Rattle.sound.proofs.Facts.{threads-long}
 use Rattle.adding.proofs.ThreadRows.{thread-fault, thread-bad, thread-gone, thread-there, thread-full}
 use Rattle.adding.proofs.ThreadRows.{thread-accepted}
@@ -13,7 +13,7 @@ returns : tie.Need-returns
 returns c =
     let s = c.before in
     let a = s.before.before.before.before.before in
-    thread-fault (given a.args.ps a.args.ts a.args.tb a.args.pb) a.args.creator a.args.id
+    thread-fault (lent a.args.ps.now a.args.ts.now a.args.tb.now a.args.pb.now) a.args.creator a.args.id
     s.sound.result s.sound.ensures c.if1.true
 
 returns-2 : tie.Need-returns-2
@@ -21,7 +21,7 @@ returns-2 c =
     let i = c.before in
     let s = i.before.before in
     let a = s.before.before.before.before.before in
-    thread-bad (given a.args.ps a.args.ts a.args.tb a.args.pb)
+    thread-bad (lent a.args.ps.now a.args.ts.now a.args.tb.now a.args.pb.now)
     a.args.creator a.args.id s.sound.result s.sound.ensures i.before.if1.false
     i.is-id.result i.is-id.ensures c.if2.true
 
@@ -30,7 +30,7 @@ is-thread-requires c κs =
     let i = c.before in
     let s = i.before.before in
     let a = s.before.before.before.before.before in
-    threads-long (given a.args.ps a.args.ts a.args.tb a.args.pb)
+    threads-long (lent a.args.ps.now a.args.ts.now a.args.tb.now a.args.pb.now)
     (sym s.sound.ensures ∙ not-false s.sound.result i.before.if1.false)
 
 returns-3 : tie.Need-returns-3
@@ -39,7 +39,7 @@ returns-3 c =
     let i = t.before.before in
     let s = i.before.before in
     let a = s.before.before.before.before.before in
-    thread-gone (given a.args.ps a.args.ts a.args.tb a.args.pb)
+    thread-gone (lent a.args.ps.now a.args.ts.now a.args.tb.now a.args.pb.now)
     a.args.creator a.args.id s.sound.result s.sound.ensures i.before.if1.false
     i.is-id.result i.is-id.ensures t.before.if2.false t.is-thread.result t.is-thread.ensures
     c.if3.true
@@ -50,7 +50,7 @@ is-thread-requires-2 c κs =
     let i = t.before.before in
     let s = i.before.before in
     let a = s.before.before.before.before.before in
-    threads-long (given a.args.ps a.args.ts a.args.tb a.args.pb)
+    threads-long (lent a.args.ps.now a.args.ts.now a.args.tb.now a.args.pb.now)
     (sym s.sound.ensures ∙ not-false s.sound.result i.before.if1.false)
 
 returns-4 : tie.Need-returns-4
@@ -60,7 +60,7 @@ returns-4 c =
     let i = t.before.before in
     let s = i.before.before in
     let a = s.before.before.before.before.before in
-    thread-there (given a.args.ps a.args.ts a.args.tb a.args.pb)
+    thread-there (lent a.args.ps.now a.args.ts.now a.args.tb.now a.args.pb.now)
     a.args.creator a.args.id s.sound.result s.sound.ensures i.before.if1.false
     i.is-id.result i.is-id.ensures t.before.if2.false t.is-thread.result t.is-thread.ensures
     u.before.if3.false
@@ -73,7 +73,7 @@ has-thread-place-requires c κs =
     let i = t.before.before in
     let s = i.before.before in
     let a = s.before.before.before.before.before in
-    threads-long (given a.args.ps a.args.ts a.args.tb a.args.pb)
+    threads-long (lent a.args.ps.now a.args.ts.now a.args.tb.now a.args.pb.now)
     (sym s.sound.ensures ∙ not-false s.sound.result i.before.if1.false)
 
 returns-5 : tie.Need-returns-5
@@ -84,7 +84,7 @@ returns-5 c =
     let i = t.before.before in
     let s = i.before.before in
     let a = s.before.before.before.before.before in
-    thread-full (given a.args.ps a.args.ts a.args.tb a.args.pb)
+    thread-full (lent a.args.ps.now a.args.ts.now a.args.tb.now a.args.pb.now)
     a.args.creator a.args.id s.sound.result s.sound.ensures i.before.if1.false
     i.is-id.result i.is-id.ensures t.before.if2.false t.is-thread.result t.is-thread.ensures
     u.before.if3.false
@@ -99,7 +99,7 @@ returns-6 c =
     let i = t.before.before in
     let s = i.before.before in
     let a = s.before.before.before.before.before in
-    thread-accepted (given a.args.ps a.args.ts a.args.tb a.args.pb)
+    thread-accepted (lent a.args.ps.now a.args.ts.now a.args.tb.now a.args.pb.now)
     a.args.creator a.args.id s.sound.result s.sound.ensures i.before.if1.false
     i.is-id.result i.is-id.ensures t.before.if2.false t.is-thread.result t.is-thread.ensures
     u.before.if3.false

@@ -3,7 +3,7 @@ use mathlib.Core.Path.{sym, ◌∙◌}
 use borrow.Author.Rules.{rules}
 use borrow.Author.Tests.{not-true, not-false}
 use lib.ListN.{length}
-use Rattle.sound.specs.Lent.{lent, given}
+use Rattle.sound.specs.Lent.{lent}
 use Rattle.calls.specs.Calls.{call_of}
 use Rattle.boundary.specs.Boundary.{arguments}
 use Rattle.boundary.proofs.Served.{accepted-call, accepted-room, turned-away, step-refused, step-answered}
@@ -16,7 +16,7 @@ returns c =
     turned-away a.args.number
     (arguments a.args.a a.args.b a.args.c a.args.d
     a.args.e a.args.f a.args.x a.args.y a.args.z)
-    (given a.args.ps a.args.ts a.args.tb a.args.pb) a.args.out.now
+    (lent a.args.ps.now a.args.ts.now a.args.tb.now a.args.pb.now) a.args.out.now
     (sym c.before.before.before.before.before.before.is-accepted.ensures
     ∙ not-true _ c.before.before.before.before.before.if1.true)
     c.refusal.result c.refusal.ensures
@@ -35,7 +35,7 @@ returns-2 c =
     step-refused a.args.number
     (arguments a.args.a a.args.b a.args.c a.args.d
     a.args.e a.args.f a.args.x a.args.y a.args.z)
-    (given a.args.ps a.args.ts a.args.tb a.args.pb) a.args.out.now
+    (lent a.args.ps.now a.args.ts.now a.args.tb.now a.args.pb.now) a.args.out.now
     (sym s.before.before.before.before.before.before.before.is-accepted.ensures
     ∙ not-false _ s.before.before.before.before.before.before.if1.false)
     (call_of s.before.call-of.result) s.before.call-of.ensures s.step.result
@@ -58,7 +58,7 @@ returns-3 c =
     step-answered a.args.number
     (arguments a.args.a a.args.b a.args.c a.args.d
     a.args.e a.args.f a.args.x a.args.y a.args.z)
-    (given a.args.ps a.args.ts a.args.tb a.args.pb) a.args.out.now
+    (lent a.args.ps.now a.args.ts.now a.args.tb.now a.args.pb.now) a.args.out.now
     (sym s.before.before.before.before.before.before.before.is-accepted.ensures
     ∙ not-false _ s.before.before.before.before.before.before.if1.left)
     (call_of s.before.call-of.result) s.before.call-of.ensures s.step.result

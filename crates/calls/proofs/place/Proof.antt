@@ -1,6 +1,6 @@
 -- `place` meets its contract. Assumes nothing.
 use borrow.Author.Rules.{rules}
-use Rattle.sound.specs.Lent.{lent, given}
+use Rattle.sound.specs.Lent.{lent}
 use Rattle.calls.specs.Calls.{placing_of}
 use Rattle.calls.proofs.Asked.{by-case}
 use Rattle.calls.proofs.place.Statement.{statement}
@@ -14,7 +14,7 @@ returns c =
     let a = k.before.before.before.before.before.before in
     let r = w.add-process in
     by-case placing_of a.args.c _ k.c.given.1
-    (given a.args.ps a.args.ts a.args.tb a.args.pb) r.result
+    (lent a.args.ps.now a.args.ts.now a.args.tb.now a.args.pb.now) r.result
     (lent r.new.0 r.new.1.0 r.new.1.1.0 r.new.1.1.1.0) r.ensures
 
 returns-2 : tie.Need-returns-2
@@ -25,7 +25,7 @@ returns-2 c =
     let a = k.before.before.before.before.before.before in
     let r = w.add-thread in
     by-case placing_of a.args.c _ k.c2.given.1
-    (given a.args.ps a.args.ts a.args.tb a.args.pb) r.result
+    (lent a.args.ps.now a.args.ts.now a.args.tb.now a.args.pb.now) r.result
     (lent r.new.0 r.new.1.0 r.new.1.1.0 r.new.1.1.1.0) r.ensures
 
 returns-3 : tie.Need-returns-3
@@ -36,7 +36,7 @@ returns-3 c =
     let a = k.before.before.before.before.before.before in
     let r = w.end-process in
     by-case placing_of a.args.c _ k.c3.given.1
-    (given a.args.ps a.args.ts a.args.tb a.args.pb) r.result
+    (lent a.args.ps.now a.args.ts.now a.args.tb.now a.args.pb.now) r.result
     (lent r.new.0 r.new.1.0 r.new.1.1.0 r.new.1.1.1.0) r.ensures
 
 returns-4 : tie.Need-returns-4
@@ -47,7 +47,7 @@ returns-4 c =
     let a = k.before.before.before.before.before.before in
     let r = w.end-thread in
     by-case placing_of a.args.c _ k.c4.given.1
-    (given a.args.ps a.args.ts a.args.tb a.args.pb) r.result
+    (lent a.args.ps.now a.args.ts.now a.args.tb.now a.args.pb.now) r.result
     (lent r.new.0 r.new.1.0 r.new.1.1.0 r.new.1.1.1.0) r.ensures
 
 pub place-spec : {M : Type 1} → statement M

@@ -1,6 +1,6 @@
 -- `send` meets its contract. Assumes nothing.
 use borrow.Author.Rules.{rules}
-use Rattle.sound.specs.Lent.{lent, given}
+use Rattle.sound.specs.Lent.{lent}
 use Rattle.calls.specs.Calls.{sending_of}
 use Rattle.calls.proofs.Asked.{by-case}
 use Rattle.calls.proofs.send.Statement.{statement}
@@ -14,7 +14,7 @@ returns c =
     let a = k.before.before.before.before.before.before in
     let r = w.kill in
     by-case sending_of a.args.c _ k.c.given.1
-    (given a.args.ps a.args.ts a.args.tb a.args.pb) r.result
+    (lent a.args.ps.now a.args.ts.now a.args.tb.now a.args.pb.now) r.result
     (lent r.new.0 r.new.1.0 r.new.1.1.0 r.new.1.1.1.0) r.ensures
 
 returns-2 : tie.Need-returns-2
@@ -25,7 +25,7 @@ returns-2 c =
     let a = k.before.before.before.before.before.before in
     let r = w.sigqueue in
     by-case sending_of a.args.c _ k.c2.given.1
-    (given a.args.ps a.args.ts a.args.tb a.args.pb) r.result
+    (lent a.args.ps.now a.args.ts.now a.args.tb.now a.args.pb.now) r.result
     (lent r.new.0 r.new.1.0 r.new.1.1.0 r.new.1.1.1.0) r.ensures
 
 pub send-spec : {M : Type 1} → statement M

@@ -2,7 +2,7 @@
 use native.Mathlib.Omega.{arith}
 use borrow.Author.Rules.{rules}
 use Rattle.siginfo.proofs.Numbers.{bytes-each}
-use Rattle.sound.specs.Lent.{lent, given}
+use Rattle.sound.specs.Lent.{lent}
 use Rattle.calls.specs.Calls.{call_of}
 use Rattle.calls.proofs.Asked.{asked, nothing-changed, by-case}
 use Rattle.calls.proofs.step.Statement.{statement}
@@ -16,7 +16,7 @@ returns c =
     let a = k.before.before.before.before.before.before in
     let r = w.clear in
     by-case call_of a.args.c _ k.enum_told.given.1
-    (given a.args.ps a.args.ts a.args.tb a.args.pb) r.result
+    (lent a.args.ps.now a.args.ts.now a.args.tb.now a.args.pb.now) r.result
     (lent r.new.0 r.new.1.0 r.new.1.1.0 r.new.1.1.1.0) r.ensures
 
 returns-2 : tie.Need-returns-2
@@ -27,7 +27,7 @@ returns-2 c =
     let a = k.before.before.before.before.before.before in
     let r = w.place in
     by-case call_of a.args.c _ k.c.given.1
-    (given a.args.ps a.args.ts a.args.tb a.args.pb) r.result
+    (lent a.args.ps.now a.args.ts.now a.args.tb.now a.args.pb.now) r.result
     (lent r.new.0 r.new.1.0 r.new.1.1.0 r.new.1.1.1.0) r.ensures
 
 returns-3 : tie.Need-returns-3
@@ -38,7 +38,7 @@ returns-3 c =
     let a = k.before.before.before.before.before.before in
     let r = w.send in
     by-case call_of a.args.c _ k.c2.given.1
-    (given a.args.ps a.args.ts a.args.tb a.args.pb) r.result
+    (lent a.args.ps.now a.args.ts.now a.args.tb.now a.args.pb.now) r.result
     (lent r.new.0 r.new.1.0 r.new.1.1.0 r.new.1.1.1.0) r.ensures
 
 returns-4 : tie.Need-returns-4
@@ -49,7 +49,7 @@ returns-4 c =
     let a = k.before.before.before.before.before.before in
     let r = w.set in
     by-case call_of a.args.c _ k.c3.given.1
-    (given a.args.ps a.args.ts a.args.tb a.args.pb) r.result
+    (lent a.args.ps.now a.args.ts.now a.args.tb.now a.args.pb.now) r.result
     (lent r.new.0 r.new.1.0 r.new.1.1.0 r.new.1.1.1.0) r.ensures
 
 returns-5 : tie.Need-returns-5
@@ -57,7 +57,7 @@ unfolding call_of
 returns-5 c =
     let k = c.before.before.before.before.before.before in
     let a = k.before.before.before.before.before.before in
-    let l = given a.args.ps a.args.ts a.args.tb a.args.pb in
+    let l = lent a.args.ps.now a.args.ts.now a.args.tb.now a.args.pb.now in
     let tb = bytes-each a.args.tb.now (λ i. omega (arith, k.before.before.before.slice-known3.given i)) in
     let pb = bytes-each a.args.pb.now (λ i. omega (arith, k.before.before.slice-known4.given i)) in
     by-case call_of a.args.c _ k.c4.given.1 l c.ask.result l
@@ -71,7 +71,7 @@ returns-6 c =
     let a = k.before.before.before.before.before.before in
     let r = w.take in
     by-case call_of a.args.c _ k.c5.given.1
-    (given a.args.ps a.args.ts a.args.tb a.args.pb) r.result
+    (lent a.args.ps.now a.args.ts.now a.args.tb.now a.args.pb.now) r.result
     (lent r.new.0 r.new.1.0 r.new.1.1.0 r.new.1.1.1.0) r.ensures
 
 pub step_spec : {M : Type 1} → statement M

@@ -1,7 +1,7 @@
 -- `clear` meets its contract: the whole store is cleared, or the lengths refuse. Assumes nothing.
 use native.Mathlib.Omega.{arith}
 use Rattle.siginfo.proofs.Numbers.{bytes-each}
-use Rattle.sound.specs.Lent.{lent, given}
+use Rattle.sound.specs.Lent.{lent}
 use Rattle.clearing.proofs.Cleared.{clear-refused, clear-long, clear-done}
 use borrow.Author.Rules.{rules}
 use Rattle.clearing.proofs.clear.Statement.{statement}
@@ -11,7 +11,7 @@ returns : tie.Need-returns
 returns c =
     let s = c.before in
     let a = s.before.before.before.before.before.before.before.before.before in
-    clear-refused (given a.args.ps a.args.ts a.args.tb a.args.pb) s.lengths-are.result
+    clear-refused (lent a.args.ps.now a.args.ts.now a.args.tb.now a.args.pb.now) s.lengths-are.result
     s.lengths-are.ensures c.if1.true
 
 forget-requires : tie.Need-forget-requires
@@ -19,7 +19,7 @@ forget-requires c κs =
     let i = c.before.before.before.before in
     let s = i.before in
     let a = s.before.before.before.before.before.before.before.before.before in
-    clear-long (given a.args.ps a.args.ts a.args.tb a.args.pb) s.lengths-are.result
+    clear-long (lent a.args.ps.now a.args.ts.now a.args.tb.now a.args.pb.now) s.lengths-are.result
     s.lengths-are.ensures i.if1.false
 
 returns-2 : tie.Need-returns-2
@@ -28,7 +28,7 @@ returns-2 c =
     let i = f.before.before.before.before.before in
     let s = i.before in
     let a = s.before.before.before.before.before.before.before.before.before in
-    clear-done (given a.args.ps a.args.ts a.args.tb a.args.pb) s.lengths-are.result
+    clear-done (lent a.args.ps.now a.args.ts.now a.args.tb.now a.args.pb.now) s.lengths-are.result
     s.lengths-are.ensures i.if1.false
     (lent f.forget.new.0 f.forget.new.1.0 f.forget.new.1.1.0 f.forget.new.1.1.1.0)
     (record {

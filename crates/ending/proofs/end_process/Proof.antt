@@ -1,7 +1,7 @@
 -- `end_process` meets its contract: refused, or the process is gone. Assumes nothing.
 use native.Mathlib.Omega.{arith}
 use Rattle.siginfo.proofs.Numbers.{bytes-each}
-use Rattle.sound.specs.Lent.{lent, given}
+use Rattle.sound.specs.Lent.{lent}
 use Rattle.ending.proofs.Ended.{process-kept, process-can-end, process-ended}
 use borrow.Author.Rules.{rules}
 use Rattle.ending.proofs.end_process.Statement.{statement}
@@ -11,7 +11,7 @@ returns : tie.Need-returns
 returns c =
     let r = c.before in
     let a = r.before.before.before.before.before.before.before.before.before in
-    process-kept (given a.args.ps a.args.ts a.args.tb a.args.pb)
+    process-kept (lent a.args.ps.now a.args.ts.now a.args.tb.now a.args.pb.now)
     a.args.id r.process-refusal.result r.process-refusal.ensures c.if1.true
 
 remove-process-requires : tie.Need-remove-process-requires
@@ -19,7 +19,7 @@ remove-process-requires c κs =
     let i = c.before.before.before.before in
     let r = i.before in
     let a = r.before.before.before.before.before.before.before.before.before in
-    process-can-end (given a.args.ps a.args.ts a.args.tb a.args.pb)
+    process-can-end (lent a.args.ps.now a.args.ts.now a.args.tb.now a.args.pb.now)
     a.args.id r.process-refusal.result r.process-refusal.ensures i.if1.false
 
 returns-2 : tie.Need-returns-2
@@ -28,7 +28,7 @@ returns-2 c =
     let i = f.before.before.before.before.before in
     let r = i.before in
     let a = r.before.before.before.before.before.before.before.before.before in
-    process-ended (given a.args.ps a.args.ts a.args.tb a.args.pb)
+    process-ended (lent a.args.ps.now a.args.ts.now a.args.tb.now a.args.pb.now)
     a.args.id r.process-refusal.result r.process-refusal.ensures i.if1.false
     (lent f.remove-process.new.0 f.remove-process.new.1.0 f.remove-process.new.1.1.0
     f.remove-process.new.1.1.1.0)

@@ -2,7 +2,7 @@
 -- Assumes nothing.
 use native.Mathlib.Omega.{arith}
 use Rattle.siginfo.proofs.Numbers.{bytes-each}
-use Rattle.sound.specs.Lent.{lent, given}
+use Rattle.sound.specs.Lent.{lent}
 use Rattle.ending.proofs.Ended.{thread-kept, thread-can-end, thread-ended}
 use borrow.Author.Rules.{rules}
 use Rattle.ending.proofs.end_thread.Statement.{statement}
@@ -12,7 +12,7 @@ returns : tie.Need-returns
 returns c =
     let r = c.before in
     let a = r.before.before.before.before.before.before.before.before.before in
-    thread-kept (given a.args.ps a.args.ts a.args.tb a.args.pb) a.args.id
+    thread-kept (lent a.args.ps.now a.args.ts.now a.args.tb.now a.args.pb.now) a.args.id
     r.thread-refusal.result r.thread-refusal.ensures c.if1.true
 
 remove-requires : tie.Need-remove-requires
@@ -20,7 +20,7 @@ remove-requires c κs =
     let i = c.before.before.before.before in
     let r = i.before in
     let a = r.before.before.before.before.before.before.before.before.before in
-    thread-can-end (given a.args.ps a.args.ts a.args.tb a.args.pb) a.args.id
+    thread-can-end (lent a.args.ps.now a.args.ts.now a.args.tb.now a.args.pb.now) a.args.id
     r.thread-refusal.result r.thread-refusal.ensures i.if1.false
 
 returns-2 : tie.Need-returns-2
@@ -29,7 +29,7 @@ returns-2 c =
     let i = f.before.before.before.before.before in
     let r = i.before in
     let a = r.before.before.before.before.before.before.before.before.before in
-    thread-ended (given a.args.ps a.args.ts a.args.tb a.args.pb) a.args.id
+    thread-ended (lent a.args.ps.now a.args.ts.now a.args.tb.now a.args.pb.now) a.args.id
     r.thread-refusal.result r.thread-refusal.ensures i.if1.false
     (lent f.remove.new.0 f.remove.new.1.0 f.remove.new.1.1.0 f.remove.new.1.1.1.0)
     (record {

@@ -1,5 +1,5 @@
 -- `remove` meets its contract: the thread goes, or its process with it. Assumes nothing.
-use Rattle.sound.specs.Lent.{given}
+use Rattle.sound.specs.Lent.{lent}
 use Rattle.view.proofs.Live.{owner-known}
 use Rattle.ending.proofs.Ended.{thread-ready, process-ready, thread-removed, process-removed}
 use borrow.Author.Rules.{rules}
@@ -9,13 +9,13 @@ use Rattle.ending.proofs.remove.Tie as tie
 process-of-requires : tie.Need-process-of-requires
 process-of-requires c κs =
     let a = c.before.before.before.before.before in
-    owner-known (given a.args.ps a.args.ts a.args.tb a.args.pb) a.requires.sound
+    owner-known (lent a.args.ps.now a.args.ts.now a.args.tb.now a.args.pb.now) a.requires.sound
     a.args.thread a.requires.live
 
 has-other-requires : tie.Need-has-other-requires
 has-other-requires c κs =
     let a = c.before.before.before.before.before.before.before in
-    (owner-known (given a.args.ps a.args.ts a.args.tb a.args.pb) a.requires.sound a.args.thread
+    (owner-known (lent a.args.ps.now a.args.ts.now a.args.tb.now a.args.pb.now) a.requires.sound a.args.thread
     a.requires.live).0
 
 remove-thread-requires : tie.Need-remove-thread-requires
@@ -23,7 +23,7 @@ remove-thread-requires c κs =
     let i = c.before.before.before.before in
     let o = i.before in
     let a = o.before.before.before.before.before.before.before.before in
-    thread-ready (given a.args.ps a.args.ts a.args.tb a.args.pb) a.requires.sound
+    thread-ready (lent a.args.ps.now a.args.ts.now a.args.tb.now a.args.pb.now) a.requires.sound
     a.args.thread a.requires.live
     o.before.before.process-of.result o.before.before.process-of.ensures o.has_other.result
     o.has_other.ensures i.if1.true
@@ -33,7 +33,7 @@ remove-process-requires c κs =
     let i = c.before.before.before.before in
     let o = i.before in
     let a = o.before.before.before.before.before.before.before.before in
-    process-ready (given a.args.ps a.args.ts a.args.tb a.args.pb) a.requires.sound
+    process-ready (lent a.args.ps.now a.args.ts.now a.args.tb.now a.args.pb.now) a.requires.sound
     a.args.thread a.requires.live
     o.before.before.process-of.result o.before.before.process-of.ensures o.has_other.result
     o.has_other.ensures i.if1.false
@@ -44,7 +44,7 @@ returns c =
     let i = f.before.before.before.before.before in
     let o = i.before in
     let a = o.before.before.before.before.before.before.before.before in
-    thread-removed (given a.args.ps a.args.ts a.args.tb a.args.pb) a.requires.sound
+    thread-removed (lent a.args.ps.now a.args.ts.now a.args.tb.now a.args.pb.now) a.requires.sound
     a.args.thread a.requires.live
     o.before.before.process-of.result o.before.before.process-of.ensures o.has_other.result
     o.has_other.ensures i.if1.true
@@ -56,7 +56,7 @@ returns-2 c =
     let i = f.before.before.before.before.before in
     let o = i.before in
     let a = o.before.before.before.before.before.before.before.before in
-    process-removed (given a.args.ps a.args.ts a.args.tb a.args.pb) a.requires.sound
+    process-removed (lent a.args.ps.now a.args.ts.now a.args.tb.now a.args.pb.now) a.requires.sound
     a.args.thread a.requires.live
     o.before.before.process-of.result o.before.before.process-of.ensures o.has_other.result
     o.has_other.ensures i.if1.false

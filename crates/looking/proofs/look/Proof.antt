@@ -1,6 +1,6 @@
 -- `look` meets its contract. Assumes nothing.
 use borrow.Author.Rules.{rules}
-use Rattle.sound.specs.Lent.{given}
+use Rattle.sound.specs.Lent.{lent}
 use Rattle.looking.proofs.Looks.{look-refused, look-with, look-answered}
 use Rattle.looking.proofs.look.Statement.{statement}
 use Rattle.looking.proofs.look.Tie as tie
@@ -8,20 +8,20 @@ use Rattle.looking.proofs.look.Tie as tie
 returns : tie.Need-returns
 returns c =
     let a = c.before.before.before.before.before.before in
-    look-refused (given a.args.ps a.args.ts a.args.tb a.args.pb) a.args.thread
+    look-refused (lent a.args.ps.now a.args.ts.now a.args.tb.now a.args.pb.now) a.args.thread
     c.before.thread-refusal.result c.before.thread-refusal.ensures c.if1.true
 
 next-of-requires : tie.Need-next-of-requires
 next-of-requires c κs =
     let a = c.before.before.before.before.before.before in
-    look-with (given a.args.ps a.args.ts a.args.tb a.args.pb) a.args.thread
+    look-with (lent a.args.ps.now a.args.ts.now a.args.tb.now a.args.pb.now) a.args.thread
     c.before.thread-refusal.result c.before.thread-refusal.ensures c.if1.false
 
 returns-2 : tie.Need-returns-2
 returns-2 c =
     let d = c.before.before in
     let a = d.before.before.before.before.before in
-    look-answered (given a.args.ps a.args.ts a.args.tb a.args.pb) a.args.thread
+    look-answered (lent a.args.ps.now a.args.ts.now a.args.tb.now a.args.pb.now) a.args.thread
     d.thread-refusal.result d.thread-refusal.ensures c.before.if1.false
     c.next_of.result c.next_of.ensures
 

@@ -1,7 +1,7 @@
 -- `look_part` meets its contract. Assumes nothing.
 use mathlib.Core.Path.{◌∙◌}
 use borrow.Author.Rules.{rules}
-use Rattle.sound.specs.Lent.{given}
+use Rattle.sound.specs.Lent.{lent}
 use Rattle.looking.specs.Looks.{look_bytes}
 use Rattle.looking.proofs.Slots.{Told, told}
 use Rattle.looking.proofs.look_part.Statement.{statement}
@@ -9,16 +9,13 @@ use Rattle.looking.proofs.look_part.Tie as tie
 
 -- what the number tells
 told_here : (c : tie.After-look-slot) → Told
-    (given c.before.before.before.before.before.args.ps c.before.before.before.before.before.args.ts
-    c.before.before.before.before.before.args.tb c.before.before.before.before.before.args.pb)
+    (lent c.before.before.before.before.before.args.ps.now c.before.before.before.before.before.args.ts.now c.before.before.before.before.before.args.tb.now c.before.before.before.before.before.args.pb.now)
     c.look-slot.result
     (look_bytes c.before.before.before.before.before.args.thread
-    (given c.before.before.before.before.before.args.ps c.before.before.before.before.before.args.ts
-    c.before.before.before.before.before.args.tb c.before.before.before.before.before.args.pb))
+    (lent c.before.before.before.before.before.args.ps.now c.before.before.before.before.before.args.ts.now c.before.before.before.before.before.args.tb.now c.before.before.before.before.before.args.pb.now))
 told_here c =
     told c.before.before.before.before.before.args.thread
-    (given c.before.before.before.before.before.args.ps c.before.before.before.before.before.args.ts
-    c.before.before.before.before.before.args.tb c.before.before.before.before.before.args.pb)
+    (lent c.before.before.before.before.before.args.ps.now c.before.before.before.before.before.args.ts.now c.before.before.before.before.before.args.tb.now c.before.before.before.before.before.args.pb.now)
     c.look-slot.result c.look-slot.ensures
 
 returns : tie.Need-returns

@@ -11,7 +11,7 @@ use Rattle.rules.specs.Types.{no_thread}
 use Rattle.rules.specs.Taking.{can_take_some}
 use Rattle.tables.specs.Tables.{held_threads}
 use Rattle.tables.proofs.Words.{length-held_threads}
-use Rattle.sound.specs.Lent.{lent, view_of, given}
+use Rattle.sound.specs.Lent.{lent, view_of}
 use Rattle.looking.proofs.taker_place.Statement.{statement}
 use Rattle.looking.proofs.taker_place.Tie as tie
 
@@ -29,7 +29,7 @@ loop-holds c =
     let a = c.before.before.before.before in (
       omega arith,
       find_none
-          (can_take_some (view_of (given a.args.ps a.args.ts a.args.tb a.args.pb)) a.args.process)
+          (can_take_some (view_of (lent a.args.ps.now a.args.ts.now a.args.tb.now a.args.pb.now)) a.args.process)
           no_thread (held_threads a.args.ts.now),
     )
 
@@ -41,7 +41,7 @@ returns c =
     let l = c.before.before.before in
     let a = l.before.before.before.before.before in
     sym (find-here
-    (can_take_some (view_of (given a.args.ps a.args.ts a.args.tb a.args.pb)) a.args.process) no_thread
+    (can_take_some (view_of (lent a.args.ps.now a.args.ts.now a.args.tb.now a.args.pb.now)) a.args.process) no_thread
     (held_threads a.args.ts.now) l.loop.i
     (rw length-held_threads (omega arith)) l.loop.invariant.1 (sym c.before.can-take.ensures ∙ c.if1.true))
 
@@ -51,7 +51,7 @@ loop-again c =
     let a = l.before.before.before.before.before in (
       omega arith,
       find-more
-          (can_take_some (view_of (given a.args.ps a.args.ts a.args.tb a.args.pb)) a.args.process)
+          (can_take_some (view_of (lent a.args.ps.now a.args.ts.now a.args.tb.now a.args.pb.now)) a.args.process)
           no_thread (held_threads a.args.ts.now) l.loop.i
           (rw length-held_threads (omega arith)) l.loop.invariant.1 (sym c.before.can-take.ensures ∙ c.if1.false),
     )
@@ -61,7 +61,7 @@ returns-2 c =
     let l = c.before in
     let a = l.before.before.before.before.before in
     sym (find-done
-    (can_take_some (view_of (given a.args.ps a.args.ts a.args.tb a.args.pb)) a.args.process) no_thread
+    (can_take_some (view_of (lent a.args.ps.now a.args.ts.now a.args.tb.now a.args.pb.now)) a.args.process) no_thread
     (held_threads a.args.ts.now) l.loop.i
     (rw length-held_threads (omega arith)) l.loop.invariant.1)
 

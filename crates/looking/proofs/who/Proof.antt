@@ -1,7 +1,7 @@
 -- `who` meets its contract. Assumes nothing.
 use native.Mathlib.Omega.{arith}
 use borrow.Author.Rules.{rules}
-use Rattle.sound.specs.Lent.{given}
+use Rattle.sound.specs.Lent.{lent}
 use Rattle.sound.proofs.Facts.{threads-long}
 use Rattle.looking.proofs.Takers.{id-read, who-refused, who-sound, who-none, who-inside, who-fits, who-takes}
 use Rattle.looking.proofs.who.Statement.{statement}
@@ -10,20 +10,20 @@ use Rattle.looking.proofs.who.Tie as tie
 returns : tie.Need-returns
 returns c =
     let a = c.before.before.before.before.before.before in
-    who-refused (given a.args.ps a.args.ts a.args.tb a.args.pb) a.args.process
+    who-refused (lent a.args.ps.now a.args.ts.now a.args.tb.now a.args.pb.now) a.args.process
     c.before.process-refusal.result c.before.process-refusal.ensures c.if1.true
 
 taker-place-requires : tie.Need-taker-place-requires
 taker-place-requires c κs =
     let a = c.before.before.before.before.before.before in
-    who-sound (given a.args.ps a.args.ts a.args.tb a.args.pb) a.args.process
+    who-sound (lent a.args.ps.now a.args.ts.now a.args.tb.now a.args.pb.now) a.args.process
     c.before.process-refusal.result c.before.process-refusal.ensures c.if1.false
 
 returns-2 : tie.Need-returns-2
 returns-2 c =
     let d = c.before.before.before in
     let a = d.before.before.before.before.before in
-    who-none (given a.args.ps a.args.ts a.args.tb a.args.pb) a.args.process
+    who-none (lent a.args.ps.now a.args.ts.now a.args.tb.now a.args.pb.now) a.args.process
     d.process-refusal.result d.process-refusal.ensures c.before.before.if1.false
     c.before.taker-place.result c.before.taker-place.ensures c.if2.true
 
@@ -32,11 +32,11 @@ thread-field-at-requires c κs =
     let d = c.before.before.before in
     let a = d.before.before.before.before.before in
     let z = c.before.before.if1.false in (
-      threads-long (given a.args.ps a.args.ts a.args.tb a.args.pb)
-          (who-sound (given a.args.ps a.args.ts a.args.tb a.args.pb) a.args.process
+      threads-long (lent a.args.ps.now a.args.ts.now a.args.tb.now a.args.pb.now)
+          (who-sound (lent a.args.ps.now a.args.ts.now a.args.tb.now a.args.pb.now) a.args.process
           d.process-refusal.result d.process-refusal.ensures z),
       (
-        who-inside (given a.args.ps a.args.ts a.args.tb a.args.pb) a.args.process
+        who-inside (lent a.args.ps.now a.args.ts.now a.args.tb.now a.args.pb.now) a.args.process
             d.process-refusal.result d.process-refusal.ensures z
             c.before.taker-place.result c.before.taker-place.ensures c.if2.false,
         omega arith,
@@ -51,7 +51,7 @@ cast-taker c =
     let w = c.thread-field-at.result in
     omega (
       arith,
-      who-fits (given a.args.ps a.args.ts a.args.tb a.args.pb) a.args.process
+      who-fits (lent a.args.ps.now a.args.ts.now a.args.tb.now a.args.pb.now) a.args.process
           d.process-refusal.result d.process-refusal.ensures c.before.before.before.if1.false
           p c.before.before.taker-place.ensures c.before.if2.false w
           (id-read a.args.ts.now p w c.thread-field-at.ensures),
@@ -63,7 +63,7 @@ returns-3 c =
     let a = d.before.before.before.before.before in
     let p = c.before.before.taker-place.result in
     let w = c.thread-field-at.result in
-    who-takes (given a.args.ps a.args.ts a.args.tb a.args.pb) a.args.process
+    who-takes (lent a.args.ps.now a.args.ts.now a.args.tb.now a.args.pb.now) a.args.process
     d.process-refusal.result d.process-refusal.ensures c.before.before.before.if1.false
     p c.before.before.taker-place.ensures c.before.if2.false w
     (id-read a.args.ts.now p w c.thread-field-at.ensures)

@@ -1,6 +1,6 @@
 -- `blocked` meets its contract. Assumes nothing.
 use mathlib.Core.Path.{◌∙◌}
-use Rattle.sound.specs.Lent.{given}
+use Rattle.sound.specs.Lent.{lent}
 use Rattle.sound.proofs.Facts.{threads-long, thread-listed}
 use Rattle.view.proofs.Live.{owner-known, own-queue, shared-queue}
 use Rattle.masks.proofs.Pending.{blocked-read}
@@ -11,13 +11,13 @@ use Rattle.masks.proofs.blocked.Tie as tie
 process-of-requires : tie.Need-process-of-requires
 process-of-requires c κs =
     let a = c.before.before.before.before in
-    let l = given a.args.ps a.args.ts a.args.tb a.args.pb in
+    let l = lent a.args.ps.now a.args.ts.now a.args.tb.now a.args.pb.now in
     owner-known l a.requires.sound a.args.thread a.requires.live
 
 pending-of-requires : tie.Need-pending-of-requires
 pending-of-requires c κs =
     let a = c.before.before.before.before.before in
-    let l = given a.args.ps a.args.ts a.args.tb a.args.pb in
+    let l = lent a.args.ps.now a.args.ts.now a.args.tb.now a.args.pb.now in
     record {
       sound = a.requires.sound;
       live =
@@ -27,7 +27,7 @@ pending-of-requires c κs =
 pending-of-requires-2 : tie.Need-pending-of-requires-2
 pending-of-requires-2 c κs =
     let a = c.before.before.before.before.before.before in
-    let l = given a.args.ps a.args.ts a.args.tb a.args.pb in
+    let l = lent a.args.ps.now a.args.ts.now a.args.tb.now a.args.pb.now in
     record {
       sound = a.requires.sound;
       live =
@@ -38,13 +38,13 @@ pending-of-requires-2 c κs =
 mask-of-requires : tie.Need-mask-of-requires
 mask-of-requires c κs =
     let a = c.before.before.before.before.before.before.before in
-    let l = given a.args.ps a.args.ts a.args.tb a.args.pb in
+    let l = lent a.args.ps.now a.args.ts.now a.args.tb.now a.args.pb.now in
     (threads-long l a.requires.sound, thread-listed l a.args.thread a.requires.live)
 
 returns : tie.Need-returns
 returns c =
     let a = c.before.before.before.before.before.before.before.before.before.before in
-    let l = given a.args.ps a.args.ts a.args.tb a.args.pb in
+    let l = lent a.args.ps.now a.args.ts.now a.args.tb.now a.args.pb.now in
     c.intersect.ensures
     ∙ blocked-read l a.args.thread a.requires.live c.before.before.before.before.before.process-of.result
     c.before.before.before.before.before.process-of.ensures

@@ -4,7 +4,7 @@ use native.Mathlib.Omega.{arith}
 use Rattle.siginfo.proofs.Numbers.{bytes-each}
 use Rattle.rules.specs.Types.{sigmask}
 use Rattle.sound.proofs.Facts.{threads-long, thread-listed}
-use Rattle.sound.specs.Lent.{lent, given}
+use Rattle.sound.specs.Lent.{lent}
 use Rattle.answers.proofs.Endings.{refused-ends}
 use Rattle.masks.specs.Given.{new_set}
 use Rattle.masks.proofs.Masks.{mask-sound, mask-live, mask-kept, mask-ready, mask-stored}
@@ -15,7 +15,7 @@ use Rattle.masks.proofs.sigmask.Tie as tie
 returns : tie.Need-returns
 returns c =
     let a = c.before.before.before.before.before.before.before.before.before.before in
-    let l = given a.args.ps a.args.ts a.args.tb a.args.pb in
+    let l = lent a.args.ps.now a.args.ts.now a.args.tb.now a.args.pb.now in
     let t = a.args.thread in
     let way = a.args.way in
     let set = new_set a.args.set in
@@ -26,7 +26,7 @@ returns c =
 mask-of-requires : tie.Need-mask-of-requires
 mask-of-requires c κs =
     let a = c.before.before.before.before.before.before.before.before.before.before.before in
-    let l = given a.args.ps a.args.ts a.args.tb a.args.pb in
+    let l = lent a.args.ps.now a.args.ts.now a.args.tb.now a.args.pb.now in
     let t = a.args.thread in
     let way = a.args.way in
     let set = new_set a.args.set in
@@ -37,7 +37,7 @@ set-mask-requires : tie.Need-set-mask-requires
 unfolding new_set
 set-mask-requires c κs =
     let a = c.before.before.before.before.before.before.before.before.before.before.before.before.before.before.before.before.before.before.before.before in
-    let l = given a.args.ps a.args.ts a.args.tb a.args.pb in
+    let l = lent a.args.ps.now a.args.ts.now a.args.tb.now a.args.pb.now in
     let t = a.args.thread in
     let way = a.args.way in
     let set = new_set a.args.set in
@@ -55,7 +55,7 @@ unfolding new_set
 returns-2 c =
     let a =
     c.before.before.before.before.before.before.before.before.before.before.before.before.before.before in
-    let l = given a.args.ps a.args.ts a.args.tb a.args.pb in
+    let l = lent a.args.ps.now a.args.ts.now a.args.tb.now a.args.pb.now in
     let t = a.args.thread in
     let way = a.args.way in
     let set = new_set a.args.set in
@@ -76,7 +76,7 @@ returns-3 c =
     let w = c.before.before in
     let o = c.before.before.before.before.before.before.before.before.before.before.before in
     let a = c.before.before.before.before.before.before.before.before.before.before.before.before.before.before.before.before.before.before.before.before.before.before.before in
-    let l = given a.args.ps a.args.ts a.args.tb a.args.pb in
+    let l = lent a.args.ps.now a.args.ts.now a.args.tb.now a.args.pb.now in
     let t = a.args.thread in
     let way = a.args.way in
     let set = new_set a.args.set in

@@ -1,6 +1,6 @@
 -- `sigpending` meets its contract: refused, or the pending set. Assumes nothing.
 use Rattle.rules.specs.Types.{sigpending}
-use Rattle.sound.specs.Lent.{given}
+use Rattle.sound.specs.Lent.{lent}
 use Rattle.answers.proofs.Endings.{answer-of, refused-ends}
 use Rattle.answers.proofs.Rows.{live-thread}
 use Rattle.masks.proofs.Pending.{pending-refusal, pending-answered}
@@ -11,7 +11,7 @@ use Rattle.masks.proofs.sigpending.Tie as tie
 returns : tie.Need-returns
 returns c =
     let a = c.before.before.before.before.before.before in
-    let l = given a.args.ps a.args.ts a.args.tb a.args.pb in
+    let l = lent a.args.ps.now a.args.ts.now a.args.tb.now a.args.pb.now in
     let n = c.before.thread-refusal.result in
     answer-of (refused-ends (sigpending a.args.thread) l n
     (pending-refusal l a.args.thread n c.before.thread-refusal.ensures) c.if1.true)
@@ -19,14 +19,14 @@ returns c =
 blocked-requires : tie.Need-blocked-requires
 blocked-requires c κs =
     let a = c.before.before.before.before.before.before in
-    let l = given a.args.ps a.args.ts a.args.tb a.args.pb in
+    let l = lent a.args.ps.now a.args.ts.now a.args.tb.now a.args.pb.now in
     live-thread l a.args.thread c.before.thread-refusal.result c.before.thread-refusal.ensures
     c.if1.false
 
 returns-2 : tie.Need-returns-2
 returns-2 c =
     let a = c.before.before.before.before.before.before.before in
-    let l = given a.args.ps a.args.ts a.args.tb a.args.pb in
+    let l = lent a.args.ps.now a.args.ts.now a.args.tb.now a.args.pb.now in
     pending-answered l a.args.thread c.before.before.thread-refusal.result
     c.before.before.thread-refusal.ensures c.before.if1.false c.blocked.result c.blocked.ensures
 

@@ -1,6 +1,6 @@
 -- `sigreturn` meets its contract: it is sigmask with way 2. Assumes nothing.
 use mathlib.Core.Path.{◌∙◌}
-use Rattle.sound.specs.Lent.{given}
+use Rattle.sound.specs.Lent.{lent}
 use Rattle.masks.specs.Given.{new_set}
 use Rattle.masks.proofs.Masks.{return-is}
 use borrow.Author.Rules.{rules}
@@ -12,7 +12,7 @@ unfolding new_set
 returns c =
     let w = c.before.before.before.before.before.before.before.before in
     let a = c.before.before.before.before.before.before.before.before.before.before.before.before.before.before.before.before.before in
-    let l = given a.args.ps a.args.ts a.args.tb a.args.pb in
+    let l = lent a.args.ps.now a.args.ts.now a.args.tb.now a.args.pb.now in
     w.sigmask.ensures ∙ return-is l a.args.thread a.args.saved
 
 pub sigreturn-spec : {M : Type 1} → statement M

@@ -3,7 +3,7 @@ use borrow.Author.Rules.{rules}
 use Rattle.next.proofs.next_of.Statement.{statement}
 use Rattle.next.proofs.next_of.Tie as tie
 use Rattle.rules.specs.View.{the_thread}
-use Rattle.sound.specs.Lent.{view_of, given}
+use Rattle.sound.specs.Lent.{view_of, lent}
 use Rattle.sound.proofs.Facts.{threads-long, thread-buffer-long, process-buffer-long, thread-listed}
 use Rattle.view.proofs.Live.{owner-good, own-queue}
 use Rattle.next.proofs.Nexts.{nothing-next, own-next, shared-next}
@@ -11,17 +11,17 @@ use Rattle.next.proofs.Nexts.{nothing-next, own-next, shared-next}
 returns : tie.Need-returns
 returns c =
     let a = c.before.before.before.before.before.before in
-    nothing-next (view_of (given a.args.ps a.args.ts a.args.tb a.args.pb))
-    (the_thread (view_of (given a.args.ps a.args.ts a.args.tb a.args.pb)) a.args.thread)
+    nothing-next (view_of (lent a.args.ps.now a.args.ts.now a.args.tb.now a.args.pb.now))
+    (the_thread (view_of (lent a.args.ps.now a.args.ts.now a.args.tb.now a.args.pb.now)) a.args.thread)
     c.before.next-signal.result c.before.next-signal.ensures c.if1.true
 
 process-of-requires : tie.Need-process-of-requires
 process-of-requires c κs =
     let a = c.before.before.before.before.before.before in (
-      threads-long (given a.args.ps a.args.ts a.args.tb a.args.pb) a.requires.sound,
+      threads-long (lent a.args.ps.now a.args.ts.now a.args.tb.now a.args.pb.now) a.requires.sound,
       (
-        thread-listed (given a.args.ps a.args.ts a.args.tb a.args.pb) a.args.thread a.requires.live,
-        owner-good (given a.args.ps a.args.ts a.args.tb a.args.pb) a.requires.sound a.args.thread
+        thread-listed (lent a.args.ps.now a.args.ts.now a.args.tb.now a.args.pb.now) a.args.thread a.requires.live,
+        owner-good (lent a.args.ps.now a.args.ts.now a.args.tb.now a.args.pb.now) a.requires.sound a.args.thread
             a.requires.live,
       ),
     )
@@ -32,20 +32,20 @@ pending-of-requires c κs =
     record {
       sound = a.requires.sound;
       live =
-          own-queue (given a.args.ps a.args.ts a.args.tb a.args.pb) a.requires.sound a.args.thread
+          own-queue (lent a.args.ps.now a.args.ts.now a.args.tb.now a.args.pb.now) a.requires.sound a.args.thread
           a.requires.live c.process-of.result c.process-of.ensures;
     }
 
 next-in-requires : tie.Need-next-in-requires
 next-in-requires c κs =
     let a = c.before.before.before.before.before.before.before.before.before.before in
-    thread-buffer-long (given a.args.ps a.args.ts a.args.tb a.args.pb) a.requires.sound
+    thread-buffer-long (lent a.args.ps.now a.args.ts.now a.args.tb.now a.args.pb.now) a.requires.sound
 
 returns-2 : tie.Need-returns-2
 returns-2 c =
     let d = c.before.before.before in
     let a = d.before.before.before.before.before.before.before.before in
-    own-next (given a.args.ps a.args.ts a.args.tb a.args.pb) a.args.thread
+    own-next (lent a.args.ps.now a.args.ts.now a.args.tb.now a.args.pb.now) a.args.thread
     d.before.process-of.result d.before.before.before.next-signal.result
     a.requires.live d.before.process-of.ensures d.before.before.before.next-signal.ensures
     d.before.before.if1.false c.next-in.result
@@ -55,13 +55,13 @@ returns-2 c =
 next-in-requires-2 : tie.Need-next-in-requires-2
 next-in-requires-2 c κs =
     let a = c.before.before.before.before.before.before.before.before.before.before in
-    process-buffer-long (given a.args.ps a.args.ts a.args.tb a.args.pb) a.requires.sound
+    process-buffer-long (lent a.args.ps.now a.args.ts.now a.args.tb.now a.args.pb.now) a.requires.sound
 
 returns-3 : tie.Need-returns-3
 returns-3 c =
     let d = c.before.before.before in
     let a = d.before.before.before.before.before.before.before.before in
-    shared-next (given a.args.ps a.args.ts a.args.tb a.args.pb) a.args.thread
+    shared-next (lent a.args.ps.now a.args.ts.now a.args.tb.now a.args.pb.now) a.args.thread
     d.before.process-of.result d.before.before.before.next-signal.result
     a.requires.live d.before.process-of.ensures d.before.before.before.next-signal.ensures
     d.before.before.if1.false c.next-in2.result

@@ -1,6 +1,6 @@
 -- `next_signal` meets its contract. Assumes nothing.
 use borrow.Author.Rules.{rules}
-use Rattle.sound.specs.Lent.{given}
+use Rattle.sound.specs.Lent.{lent}
 use Rattle.next.proofs.next_signal.Statement.{statement}
 use Rattle.next.proofs.next_signal.Tie as tie
 use Rattle.sound.proofs.Facts.{processes-long, threads-long, thread-listed}
@@ -10,10 +10,10 @@ use Rattle.next.proofs.Signals.{signal-stopped, signal-taken}
 process-of-requires : tie.Need-process-of-requires
 process-of-requires c κs =
     let a = c.before.before.before.before in (
-      threads-long (given a.args.ps a.args.ts a.args.tb a.args.pb) a.requires.sound,
+      threads-long (lent a.args.ps.now a.args.ts.now a.args.tb.now a.args.pb.now) a.requires.sound,
       (
-        thread-listed (given a.args.ps a.args.ts a.args.tb a.args.pb) a.args.thread a.requires.live,
-        owner-good (given a.args.ps a.args.ts a.args.tb a.args.pb) a.requires.sound a.args.thread
+        thread-listed (lent a.args.ps.now a.args.ts.now a.args.tb.now a.args.pb.now) a.args.thread a.requires.live,
+        owner-good (lent a.args.ps.now a.args.ts.now a.args.tb.now a.args.pb.now) a.requires.sound a.args.thread
             a.requires.live,
       ),
     )
@@ -21,15 +21,15 @@ process-of-requires c κs =
 is-stopped-requires : tie.Need-is-stopped-requires
 is-stopped-requires c κs =
     let a = c.before.before.before.before.before in (
-      processes-long (given a.args.ps a.args.ts a.args.tb a.args.pb) a.requires.sound,
-      process-held (given a.args.ps a.args.ts a.args.tb a.args.pb) a.requires.sound a.args.thread
+      processes-long (lent a.args.ps.now a.args.ts.now a.args.tb.now a.args.pb.now) a.requires.sound,
+      process-held (lent a.args.ps.now a.args.ts.now a.args.tb.now a.args.pb.now) a.requires.sound a.args.thread
           a.requires.live c.process-of.result c.process-of.ensures,
     )
 
 returns : tie.Need-returns
 returns c =
     let a = c.before.before.before.before.before.before.before in
-    signal-stopped (given a.args.ps a.args.ts a.args.tb a.args.pb) a.args.thread
+    signal-stopped (lent a.args.ps.now a.args.ts.now a.args.tb.now a.args.pb.now) a.args.thread
     c.before.before.process-of.result c.before.before.process-of.ensures
     c.before.is-stopped.result c.before.is-stopped.ensures c.if1.true
 
@@ -39,7 +39,7 @@ pending-of-requires c κs =
     record {
       sound = a.requires.sound;
       live =
-          own-queue (given a.args.ps a.args.ts a.args.tb a.args.pb) a.requires.sound a.args.thread
+          own-queue (lent a.args.ps.now a.args.ts.now a.args.tb.now a.args.pb.now) a.requires.sound a.args.thread
           a.requires.live c.before.before.process-of.result c.before.before.process-of.ensures;
     }
 
@@ -49,7 +49,7 @@ pending-of-requires-2 c κs =
     record {
       sound = a.requires.sound;
       live =
-          shared-queue (given a.args.ps a.args.ts a.args.tb a.args.pb) a.requires.sound
+          shared-queue (lent a.args.ps.now a.args.ts.now a.args.tb.now a.args.pb.now) a.requires.sound
           a.args.thread a.requires.live c.before.before.before.process-of.result
           c.before.before.before.process-of.ensures;
     }
@@ -57,15 +57,15 @@ pending-of-requires-2 c κs =
 mask-of-requires : tie.Need-mask-of-requires
 mask-of-requires c κs =
     let a = c.before.before.before.before.before.before.before.before.before.before in (
-      threads-long (given a.args.ps a.args.ts a.args.tb a.args.pb) a.requires.sound,
-      thread-listed (given a.args.ps a.args.ts a.args.tb a.args.pb) a.args.thread a.requires.live,
+      threads-long (lent a.args.ps.now a.args.ts.now a.args.tb.now a.args.pb.now) a.requires.sound,
+      thread-listed (lent a.args.ps.now a.args.ts.now a.args.tb.now a.args.pb.now) a.args.thread a.requires.live,
     )
 
 returns-2 : tie.Need-returns-2
 returns-2 c =
     let d = c.before.before.before.before.before.before in
     let a = d.before.before.before.before.before.before.before in
-    signal-taken (given a.args.ps a.args.ts a.args.tb a.args.pb) a.args.thread
+    signal-taken (lent a.args.ps.now a.args.ts.now a.args.tb.now a.args.pb.now) a.args.thread
     d.before.before.process-of.result d.before.before.process-of.ensures
     d.before.is-stopped.result d.before.is-stopped.ensures a.requires.live d.if1.false
     c.before.before.before.before.before.pending-of.result

@@ -2,7 +2,7 @@
 use mathlib.Core.Path.{◌∙◌}
 use borrow.Author.Rules.{rules}
 use Rattle.rules.specs.View.{append}
-use Rattle.sound.specs.Lent.{given}
+use Rattle.sound.specs.Lent.{lent}
 use Rattle.effects.proofs.Makes.{ready-as, made_as, made_none, ready-last, made-last}
 use Rattle.sending.proofs.Carried.{of-testing, of-killing, of-marking, of-keeping, control-ready, of-control}
 use Rattle.sending.proofs.generate.Statement.{statement}

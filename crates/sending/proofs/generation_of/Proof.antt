@@ -5,7 +5,7 @@ use native.Mathlib.Omega.{arith}
 use Rattle.rules.specs.View.{target_queue, live_process}
 use Rattle.rules.specs.Store.{view}
 use Rattle.rules.proofs.Queues.{queue-target, target-process}
-use Rattle.sound.specs.Lent.{decoded, view_of, given}
+use Rattle.sound.specs.Lent.{decoded, view_of, lent}
 use Rattle.sound.proofs.Facts.{processes-long}
 use Rattle.sending.specs.Generations.{generation_of}
 use Rattle.sending.proofs.Decided.{is-testing, is-killing, is-stopping, is-dropping, is-absorbing, is-keeping}
@@ -17,7 +17,7 @@ returns : tie.Need-returns
 unfolding generation_of
 returns c =
     let a = c.before.before.before.before.before in
-    let v = view_of (given a.args.ps a.args.ts a.args.tb a.args.pb) in
+    let v = view_of (lent a.args.ps.now a.args.ts.now a.args.tb.now a.args.pb.now) in
     let q = target_queue a.args.process a.args.thread in
     is-testing v a.args.queued q a.args.signal c.if1.true
 
@@ -25,7 +25,7 @@ returns-2 : tie.Need-returns-2
 unfolding generation_of
 returns-2 c =
     let a = c.before.before.before.before.before.before in
-    let v = view_of (given a.args.ps a.args.ts a.args.tb a.args.pb) in
+    let v = view_of (lent a.args.ps.now a.args.ts.now a.args.tb.now a.args.pb.now) in
     let q = target_queue a.args.process a.args.thread in
     is-killing v a.args.queued q a.args.signal c.before.if1.false c.if2.true
 
@@ -33,7 +33,7 @@ returns-3 : tie.Need-returns-3
 unfolding generation_of
 returns-3 c =
     let a = c.before.before.before.before.before.before.before in
-    let v = view_of (given a.args.ps a.args.ts a.args.tb a.args.pb) in
+    let v = view_of (lent a.args.ps.now a.args.ts.now a.args.tb.now a.args.pb.now) in
     let q = target_queue a.args.process a.args.thread in
     is-stopping v a.args.queued q a.args.signal c.before.before.if1.false c.before.if2.false
     c.if3.true
@@ -42,7 +42,7 @@ action-of-requires : tie.Need-action-of-requires
 unfolding live_process view decoded
 action-of-requires c κs =
     let a = c.before.before.before.before.before.before.before in
-    let l = given a.args.ps a.args.ts a.args.tb a.args.pb in
+    let l = lent a.args.ps.now a.args.ts.now a.args.tb.now a.args.pb.now in
     let v = view_of l in
     let p = a.args.process in
     let t = a.args.thread in (
@@ -58,7 +58,7 @@ unfolding generation_of
 returns-4 c =
     let d = c.before.before in
     let a = d.before.before.before.before.before.before.before.before in
-    let l = given a.args.ps a.args.ts a.args.tb a.args.pb in
+    let l = lent a.args.ps.now a.args.ts.now a.args.tb.now a.args.pb.now in
     let p = a.args.process in
     let s = a.args.signal in
     let i =
@@ -79,7 +79,7 @@ returns-5 c =
     let f = c.before.before in
     let d = f.before.before in
     let a = d.before.before.before.before.before.before.before.before in
-    let l = given a.args.ps a.args.ts a.args.tb a.args.pb in
+    let l = lent a.args.ps.now a.args.ts.now a.args.tb.now a.args.pb.now in
     let p = a.args.process in
     let s = a.args.signal in
     let i =
@@ -96,7 +96,7 @@ returns-6 c =
     let f = g.before.before in
     let d = f.before.before in
     let a = d.before.before.before.before.before.before.before.before in
-    let l = given a.args.ps a.args.ts a.args.tb a.args.pb in
+    let l = lent a.args.ps.now a.args.ts.now a.args.tb.now a.args.pb.now in
     let p = a.args.process in
     let s = a.args.signal in
     let i =
@@ -113,7 +113,7 @@ returns-7 c =
     let f = g.before.before in
     let d = f.before.before in
     let a = d.before.before.before.before.before.before.before.before in
-    let l = given a.args.ps a.args.ts a.args.tb a.args.pb in
+    let l = lent a.args.ps.now a.args.ts.now a.args.tb.now a.args.pb.now in
     let p = a.args.process in
     let s = a.args.signal in
     let i =

@@ -1,7 +1,7 @@
 -- `has_no_room` meets its contract. Assumes nothing.
 use borrow.Author.Rules.{rules}
 use native.Mathlib.Omega.{arith}
-use Rattle.sound.specs.Lent.{view_of, given}
+use Rattle.sound.specs.Lent.{view_of, lent}
 use Rattle.sound.proofs.Facts.{thread-buffer-long, process-buffer-long}
 use Rattle.sending.proofs.Decided.{counted, count_fits, room-read, room-unasked}
 use Rattle.sending.proofs.has_no_room.Statement.{statement}
@@ -10,12 +10,12 @@ use Rattle.sending.proofs.has_no_room.Tie as tie
 count-of-requires : tie.Need-count-of-requires
 count-of-requires c κs =
     let a = c.before.before.before.before.before.before in
-    thread-buffer-long (given a.args.ps a.args.ts a.args.tb a.args.pb) a.requires
+    thread-buffer-long (lent a.args.ps.now a.args.ts.now a.args.tb.now a.args.pb.now) a.requires
 
 count-of-requires-2 : tie.Need-count-of-requires-2
 count-of-requires-2 c κs =
     let a = c.before.before.before.before.before.before.before in
-    process-buffer-long (given a.args.ps a.args.ts a.args.tb a.args.pb) a.requires
+    process-buffer-long (lent a.args.ps.now a.args.ts.now a.args.tb.now a.args.pb.now) a.requires
 
 add-result : tie.Need-overflow-add-result
 add-result c =
@@ -31,7 +31,7 @@ returns : tie.Need-returns
 returns c =
     let d = c.before in
     let a = d.before.before.before.before.before.before.before in
-    let l = given a.args.ps a.args.ts a.args.tb a.args.pb in
+    let l = lent a.args.ps.now a.args.ts.now a.args.tb.now a.args.pb.now in
     let m = d.count_of.result in
     let n = c.count-of2.result in
     room-read (view_of l) a.args.to a.args.f d.before.enum_told.given.1 m n
@@ -40,7 +40,7 @@ returns c =
 returns-2 : tie.Need-returns-2
 returns-2 c =
     let a = c.before.before.before.before.before in
-    room-unasked (view_of (given a.args.ps a.args.ts a.args.tb a.args.pb)) a.args.to a.args.f
+    room-unasked (view_of (lent a.args.ps.now a.args.ts.now a.args.tb.now a.args.pb.now)) a.args.to a.args.f
     c.match.keys2
 
 pub has-no-room-spec : {M : Type 1} → statement M

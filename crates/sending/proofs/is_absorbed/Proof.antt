@@ -1,7 +1,7 @@
 -- `is_absorbed` meets its contract. Assumes nothing.
 use borrow.Author.Rules.{rules}
 use Rattle.rules.specs.View.{target_queue}
-use Rattle.sound.specs.Lent.{view_of, given}
+use Rattle.sound.specs.Lent.{view_of, lent}
 use Rattle.sending.proofs.Decided.{absorbed}
 use Rattle.sending.proofs.is_absorbed.Statement.{statement}
 use Rattle.sending.proofs.is_absorbed.Tie as tie
@@ -11,7 +11,7 @@ returns c =
     let d = c.before.before in
     let e = d.before.before in
     let a = e.before.before.before.before.before in
-    let v = view_of (given a.args.ps a.args.ts a.args.tb a.args.pb) in
+    let v = view_of (lent a.args.ps.now a.args.ts.now a.args.tb.now a.args.pb.now) in
     absorbed v a.args.queued (target_queue a.args.process a.args.thread) a.args.signal
     (record { low = a.requires.1.0; high = a.requires.1.1 })
     e.pending-of.result d.before.marks-of.result d.is-standard.result c.before.has.result

@@ -3,7 +3,7 @@ use mathlib.Core.Path.{sym, ◌∙◌}
 use native.Mathlib.Omega.{arith}
 use borrow.Author.Rules.{rules}
 use Rattle.rules.proofs.Queues.{target-queue}
-use Rattle.sound.specs.Lent.{view_of, given}
+use Rattle.sound.specs.Lent.{view_of, lent}
 use Rattle.sending.specs.Generations.{generation_of}
 use Rattle.sending.specs.Decisions.{Decided}
 use Rattle.sending.proofs.Refused.{kill-allowed, send-refused, send-full, send-passes}
@@ -15,7 +15,7 @@ unfolding Decided
 returns c =
     let k = c.before.kill-refusal in
     let a = c.before.before.before.before.before.before in
-    let l = given a.args.ps a.args.ts a.args.tb a.args.pb in
+    let l = lent a.args.ps.now a.args.ts.now a.args.tb.now a.args.pb.now in
     let x = a.args in (
       send-refused l x.by x.to x.thread x.signal x.value x.queued k.result k.ensures
           c.if1.true,
@@ -26,7 +26,7 @@ generation-of-requires : tie.Need-generation-of-requires
 generation-of-requires c κs =
     let k = c.before.kill-refusal in
     let a = c.before.before.before.before.before.before in
-    let l = given a.args.ps a.args.ts a.args.tb a.args.pb in
+    let l = lent a.args.ps.now a.args.ts.now a.args.tb.now a.args.pb.now in
     let x = a.args in
     let y = kill-allowed l x.by x.to x.thread x.signal (sym k.ensures ∙ c.if1.false) in
     (record { sound = y.sound; live = target-queue (view_of l) x.to x.thread y.target }, y.signal)
@@ -36,7 +36,7 @@ has-no-room-requires c κs =
     let g = c.before in
     let k = g.before.kill-refusal in
     let a = g.before.before.before.before.before.before in
-    let l = given a.args.ps a.args.ts a.args.tb a.args.pb in
+    let l = lent a.args.ps.now a.args.ts.now a.args.tb.now a.args.pb.now in
     let x = a.args in
     (kill-allowed l x.by x.to x.thread x.signal (sym k.ensures ∙ g.if1.false)).sound
 
@@ -48,7 +48,7 @@ returns-2 c =
     let g = c.before.before.before in
     let k = g.before.kill-refusal in
     let a = g.before.before.before.before.before.before in
-    let l = given a.args.ps a.args.ts a.args.tb a.args.pb in
+    let l = lent a.args.ps.now a.args.ts.now a.args.tb.now a.args.pb.now in
     let x = a.args in
     let e = sym k.ensures ∙ g.if1.false in (
       send-full l x.by x.to x.thread x.signal x.value e (generation_of f.result) h.result
@@ -61,7 +61,7 @@ info-requires c κs =
     let g = c.before.before.before in
     let k = g.before.kill-refusal in
     let a = g.before.before.before.before.before.before in
-    let l = given a.args.ps a.args.ts a.args.tb a.args.pb in
+    let l = lent a.args.ps.now a.args.ts.now a.args.tb.now a.args.pb.now in
     let x = a.args in
     let y = kill-allowed l x.by x.to x.thread x.signal (sym k.ensures ∙ g.if1.false) in
     record { sound = y.sound; live = y.sender }
@@ -74,7 +74,7 @@ returns-3 c =
     let g = c.before.before.before.before in
     let k = g.before.kill-refusal in
     let a = g.before.before.before.before.before.before in
-    let l = given a.args.ps a.args.ts a.args.tb a.args.pb in
+    let l = lent a.args.ps.now a.args.ts.now a.args.tb.now a.args.pb.now in
     let x = a.args in
     let e = sym k.ensures ∙ g.if1.false in (
       send-passes l x.by x.to x.thread x.signal x.value e (generation_of f.result) h.result

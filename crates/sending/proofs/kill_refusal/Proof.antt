@@ -8,7 +8,7 @@ use Rattle.lists.proofs.Bools.{or-fst-false, or-snd-false}
 use Rattle.rules.specs.View.{live_process}
 use Rattle.rules.specs.Store.{view}
 use Rattle.rules.proofs.Queues.{target-process}
-use Rattle.sound.specs.Lent.{decoded, view_of, given}
+use Rattle.sound.specs.Lent.{decoded, view_of, lent}
 use Rattle.sound.proofs.Facts.{processes-long}
 use Rattle.sending.proofs.Refused.{nobody-read, may_read, kill-fault, kill-over, kill-nobody, kill-barred}
 use Rattle.sending.proofs.Refused.{kill-passes}
@@ -19,7 +19,7 @@ returns : tie.Need-returns
 returns c =
     let d = c.before in
     let a = d.before.before.before.before.before in
-    kill-fault (given a.args.ps a.args.ts a.args.tb a.args.pb) a.args.by a.args.to
+    kill-fault (lent a.args.ps.now a.args.ts.now a.args.tb.now a.args.pb.now) a.args.by a.args.to
     a.args.thread a.args.signal
     (sym d.sound.ensures ∙ not-true d.sound.result c.if1.true)
 
@@ -27,7 +27,7 @@ returns-2 : tie.Need-returns-2
 returns-2 c =
     let d = c.before.before in
     let a = d.before.before.before.before.before in
-    kill-over (given a.args.ps a.args.ts a.args.tb a.args.pb) a.args.by a.args.to
+    kill-over (lent a.args.ps.now a.args.ts.now a.args.tb.now a.args.pb.now) a.args.by a.args.to
     a.args.thread a.args.signal
     (sym d.sound.ensures ∙ not-false d.sound.result c.before.if1.false) (omega (arith, c.if2.true))
 
@@ -35,7 +35,7 @@ is-process-requires : tie.Need-is-process-requires
 is-process-requires c κs =
     let d = c.before.before in
     let a = d.before.before.before.before.before in
-    processes-long (given a.args.ps a.args.ts a.args.tb a.args.pb)
+    processes-long (lent a.args.ps.now a.args.ts.now a.args.tb.now a.args.pb.now)
     (sym d.sound.ensures ∙ not-false d.sound.result c.before.if1.false)
 
 is-bad-target-requires : tie.Need-is-bad-target-requires
@@ -50,7 +50,7 @@ returns-3 c =
     let a = d.before.before.before.before.before in
     let i = c.before.before.is-process in
     let b = c.before.is-bad-target in
-    let l = given a.args.ps a.args.ts a.args.tb a.args.pb in
+    let l = lent a.args.ps.now a.args.ts.now a.args.tb.now a.args.pb.now in
     let by = a.args.by in
     let to = a.args.to in
     let t = a.args.thread in
@@ -66,7 +66,7 @@ may-signal-requires c κs =
     let a = d.before.before.before.before.before in
     let i = c.before.before.is-process in
     let b = c.before.is-bad-target in
-    let l = given a.args.ps a.args.ts a.args.tb a.args.pb in
+    let l = lent a.args.ps.now a.args.ts.now a.args.tb.now a.args.pb.now in
     let to = a.args.to in
     let t = a.args.thread in (
       processes-long l
@@ -86,7 +86,7 @@ returns-4 c =
     let i = n.before.before.is-process in
     let b = n.before.is-bad-target in
     let m = c.before.may-signal in
-    let l = given a.args.ps a.args.ts a.args.tb a.args.pb in
+    let l = lent a.args.ps.now a.args.ts.now a.args.tb.now a.args.pb.now in
     let by = a.args.by in
     let to = a.args.to in
     let t = a.args.thread in
@@ -105,7 +105,7 @@ returns-5 c =
     let i = n.before.before.is-process in
     let b = n.before.is-bad-target in
     let m = c.before.may-signal in
-    let l = given a.args.ps a.args.ts a.args.tb a.args.pb in
+    let l = lent a.args.ps.now a.args.ts.now a.args.tb.now a.args.pb.now in
     let by = a.args.by in
     let to = a.args.to in
     let t = a.args.thread in

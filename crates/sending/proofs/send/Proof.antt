@@ -4,7 +4,7 @@ use borrow.Author.Rules.{rules}
 use native.Mathlib.Omega.{arith}
 use Rattle.siginfo.proofs.Numbers.{bytes-each}
 use Rattle.types.specs.declared.Reply.TheVariants.{Sent}
-use Rattle.sound.specs.Lent.{lent, view_of, given}
+use Rattle.sound.specs.Lent.{lent, view_of}
 use Rattle.answers.proofs.Endings.{refused-ends, accepted-ends}
 use Rattle.effects.proofs.Makes.{made_as}
 use Rattle.sending.specs.Generations.{generation_of}
@@ -19,7 +19,7 @@ generate-requires c κs =
     let d = c.before.before.before.before.before.decision2.given in
     let j = c.before.before.before.before.before.before.before.judge in
     let a = c.before.before.before.before.before.before.before.before.before.before.before.before.before.before.before.before in
-    let l = given a.args.ps a.args.ts a.args.tb a.args.pb in
+    let l = lent a.args.ps.now a.args.ts.now a.args.tb.now a.args.pb.now in
     let x = a.args in
     let f = d.0.0 in
     let r = d.0.1.0 in
@@ -33,7 +33,7 @@ returns c =
     let d = c.before.decision.given in
     let j = c.before.before.before.judge in
     let a = c.before.before.before.before.before.before.before.before.before.before.before.before in
-    let l = given a.args.ps a.args.ts a.args.tb a.args.pb in
+    let l = lent a.args.ps.now a.args.ts.now a.args.tb.now a.args.pb.now in
     let x = a.args in
     let y =
     when-refused l x.queued x.by x.to x.thread x.signal x.value j.result j.ensures
@@ -49,7 +49,7 @@ returns-2 c =
     let d = w.before.before.before.before.before.before.decision2.given in
     let j = w.before.before.before.before.before.before.before.before.judge in
     let a = w.before.before.before.before.before.before.before.before.before.before.before.before.before.before.before.before.before in
-    let l = given a.args.ps a.args.ts a.args.tb a.args.pb in
+    let l = lent a.args.ps.now a.args.ts.now a.args.tb.now a.args.pb.now in
     let x = a.args in
     let f = d.0.0 in
     let r = d.0.1.0 in

@@ -2,7 +2,7 @@
 use mathlib.Core.Path.{ap}
 use borrow.Author.Rules.{rules}
 use Rattle.rules.specs.Taking.{outcome_changes}
-use Rattle.sound.specs.Lent.{given}
+use Rattle.sound.specs.Lent.{lent}
 use Rattle.effects.proofs.Makes.{ready-as, made_as, made_none}
 use Rattle.taking.specs.Takes.{outcome_of}
 use Rattle.taking.proofs.act_by_default.Statement.{statement}

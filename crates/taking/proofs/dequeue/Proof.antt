@@ -1,7 +1,7 @@
 -- `dequeue` meets its contract, a case for each kind. Assumes nothing.
 use mathlib.Core.Path.{ap}
 use borrow.Author.Rules.{rules}
-use Rattle.sound.specs.Lent.{given}
+use Rattle.sound.specs.Lent.{lent}
 use Rattle.answers.specs.Answers.{next_of}
 use Rattle.effects.proofs.Makes.{ready-as, made_as, made_none}
 use Rattle.taking.specs.Takes.{dequeue_changes}

@@ -2,7 +2,7 @@
 use native.Mathlib.Omega.{arith}
 use borrow.Author.Rules.{rules}
 use Rattle.siginfo.proofs.Numbers.{bytes-each}
-use Rattle.sound.specs.Lent.{lent, given}
+use Rattle.sound.specs.Lent.{lent}
 use Rattle.taking.proofs.Call.{something, take-made, take-nothing, take-refused, taker-live, taker-sound}
 use Rattle.taking.proofs.take.Statement.{statement}
 use Rattle.taking.proofs.take.Tie as tie
@@ -10,7 +10,7 @@ use Rattle.taking.proofs.take.Tie as tie
 returns : tie.Need-returns
 returns c =
     let a = c.before.before.before.before.before.before.before.before.before.before in
-    let l = given a.args.ps a.args.ts a.args.tb a.args.pb in
+    let l = lent a.args.ps.now a.args.ts.now a.args.tb.now a.args.pb.now in
     let t = a.args.thread in
     let n = c.before.thread-refusal in
     take-refused l t n.result n.ensures c.if1.true
@@ -19,7 +19,7 @@ next-of-requires : tie.Need-next-of-requires
 next-of-requires c κs =
     let a =
     c.before.before.before.before.before.before.before.before.before.before.before.before.before.before in
-    let l = given a.args.ps a.args.ts a.args.tb a.args.pb in
+    let l = lent a.args.ps.now a.args.ts.now a.args.tb.now a.args.pb.now in
     let t = a.args.thread in
     let n = c.before.before.before.before.before.thread-refusal in
     let z = c.before.before.before.before.if1.false in
@@ -28,7 +28,7 @@ next-of-requires c κs =
 returns-2 : tie.Need-returns-2
 returns-2 c =
     let a = c.before.before.before.before.before.before.before.before.before.before.before.before.before.before.before.before.before in
-    let l = given a.args.ps a.args.ts a.args.tb a.args.pb in
+    let l = lent a.args.ps.now a.args.ts.now a.args.tb.now a.args.pb.now in
     let t = a.args.thread in
     let n = c.before.before.before.before.before.before.before.before.thread-refusal in
     let x = c.before.before.next_of in
@@ -46,7 +46,7 @@ returns-2 c =
 take-next-requires : tie.Need-take-next-requires
 take-next-requires c κs =
     let a = c.before.before.before.before.before.before.before.before.before.before.before.before.before.before.before.before.before.before.before.before in
-    let l = given a.args.ps a.args.ts a.args.tb a.args.pb in
+    let l = lent a.args.ps.now a.args.ts.now a.args.tb.now a.args.pb.now in
     let t = a.args.thread in
     let n = c.before.before.before.before.before.before.before.before.before.before.before.thread-refusal in
     let z = c.before.before.before.before.before.before.before.before.before.before.if1.false in
@@ -61,7 +61,7 @@ take-next-requires c κs =
 returns-3 : tie.Need-returns-3
 returns-3 c =
     let a = c.before.before.before.before.before.before.before.before.before.before.before.before.before.before.before.before.before.before.before.before.before.before.before.before.before.before.before.before.before in
-    let l = given a.args.ps a.args.ts a.args.tb a.args.pb in
+    let l = lent a.args.ps.now a.args.ts.now a.args.tb.now a.args.pb.now in
     let t = a.args.thread in
     let n = c.before.before.before.before.before.before.before.before.before.before.before.before.before.before.before.before.before.before.before.before.thread-refusal in
     let x = c.before.before.before.before.before.before.before.before.before.before.before.before.before.before.next_of in

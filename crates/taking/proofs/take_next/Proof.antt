@@ -2,7 +2,7 @@
 use borrow.Author.Rules.{rules}
 use Rattle.rules.specs.Taking.{deliver}
 use Rattle.sound.proofs.Facts.{processes-long, threads-long, thread-listed}
-use Rattle.sound.specs.Lent.{given}
+use Rattle.sound.specs.Lent.{lent}
 use Rattle.effects.specs.Effects.{thread_of}
 use Rattle.effects.proofs.Makes.{ready-part, ready-last, made-last}
 use Rattle.view.proofs.Live.{owner-good, process-held}
@@ -13,21 +13,21 @@ use Rattle.taking.proofs.take_next.Tie as tie
 process-of-requires : tie.Need-process-of-requires
 process-of-requires c κs =
     let a = c.before.before.before.before.before.before in
-    let l = given a.args.ps a.args.ts a.args.tb a.args.pb in
+    let l = lent a.args.ps.now a.args.ts.now a.args.tb.now a.args.pb.now in
     let t = a.args.thread in
     (threads-long l a.requires.sound, (thread-listed l t a.requires.live, owner-good l a.requires.sound t a.requires.live))
 
 mask-of-requires : tie.Need-mask-of-requires
 mask-of-requires c κs =
     let a = c.before.before.before.before.before.before.before.before in
-    let l = given a.args.ps a.args.ts a.args.tb a.args.pb in
+    let l = lent a.args.ps.now a.args.ts.now a.args.tb.now a.args.pb.now in
     let t = a.args.thread in
     (threads-long l a.requires.sound, thread-listed l t a.requires.live)
 
 action-of-requires : tie.Need-action-of-requires
 action-of-requires c κs =
     let a = c.before.before.before.before.before.before.before.before.before.before in
-    let l = given a.args.ps a.args.ts a.args.tb a.args.pb in
+    let l = lent a.args.ps.now a.args.ts.now a.args.tb.now a.args.pb.now in
     let t = a.args.thread in
     let r = c.before.before.before.before.before.info-of in
     let p = c.before.before.before.process-of in (
@@ -42,7 +42,7 @@ action-of-requires c κs =
 dequeue-requires : tie.Need-dequeue-requires
 dequeue-requires c κs =
     let a = c.before.before.before.before.before.before.before.before.before.before.before.before.before.before.before in
-    let l = given a.args.ps a.args.ts a.args.tb a.args.pb in
+    let l = lent a.args.ps.now a.args.ts.now a.args.tb.now a.args.pb.now in
     let t = a.args.thread in
     let r = c.before.before.before.before.before.before.before.before.before.before.info-of in
     let p = c.before.before.before.before.before.before.before.before.process-of in
@@ -57,7 +57,7 @@ deliver-requires : tie.Need-deliver-requires
 deliver-requires c κs =
     let a =
     c.before.before.before.before.before.before.before.before.before.before.before.before.before.before.before.before.before.before.before.before.before.before.before.before.before.before.before.before in
-    let l = given a.args.ps a.args.ts a.args.tb a.args.pb in
+    let l = lent a.args.ps.now a.args.ts.now a.args.tb.now a.args.pb.now in
     let t = a.args.thread in
     let r = c.before.before.before.before.before.before.before.before.before.before.before.before.before.before.before.before.before.before.before.before.before.before.before.info-of in
     let p = c.before.before.before.before.before.before.before.before.before.before.before.before.before.before.before.before.before.before.before.before.before.process-of in
@@ -73,7 +73,7 @@ deliver-requires c κs =
 returns : tie.Need-returns
 returns c =
     let a = c.before.before.before.before.before.before.before.before.before.before.before.before.before.before.before.before.before.before.before.before.before.before.before.before.before.before.before.before.before.before.before.before.before.before.before.before.before.before in
-    let l = given a.args.ps a.args.ts a.args.tb a.args.pb in
+    let l = lent a.args.ps.now a.args.ts.now a.args.tb.now a.args.pb.now in
     let t = a.args.thread in
     let r = c.before.before.before.before.before.before.before.before.before.before.before.before.before.before.before.before.before.before.before.before.before.before.before.before.before.before.before.before.before.before.before.before.before.info-of in
     let p = c.before.before.before.before.before.before.before.before.before.before.before.before.before.before.before.before.before.before.before.before.before.before.before.before.before.before.before.before.before.before.before.process-of in

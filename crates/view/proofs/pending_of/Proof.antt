@@ -1,5 +1,5 @@
 use borrow.Author.Rules.{rules}
-use Rattle.sound.specs.Lent.{given}
+use Rattle.sound.specs.Lent.{lent}
 use Rattle.view.proofs.pending_of.Statement.{statement}
 use Rattle.view.proofs.pending_of.Tie as tie
 use mathlib.Core.Path.{◌∙◌}
@@ -10,13 +10,13 @@ use Rattle.rules.specs.View.{target_queue}
 queued-of-requires : tie.Need-queued-of-requires
 queued-of-requires c κs =
     let a = c.before.before.before.before.before in (
-      thread-buffer-long (given a.args.ps a.args.ts a.args.tb a.args.pb) a.requires.sound,
-      process-buffer-long (given a.args.ps a.args.ts a.args.tb a.args.pb) a.requires.sound,
+      thread-buffer-long (lent a.args.ps.now a.args.ts.now a.args.tb.now a.args.pb.now) a.requires.sound,
+      process-buffer-long (lent a.args.ps.now a.args.ts.now a.args.tb.now a.args.pb.now) a.requires.sound,
     )
 
 returns : tie.Need-returns
 returns c = let a = c.before.before.before.before.before.before.before in
-    c.union.ensures ∙ pending-read (given a.args.ps a.args.ts a.args.tb a.args.pb)
+    c.union.ensures ∙ pending-read (lent a.args.ps.now a.args.ts.now a.args.tb.now a.args.pb.now)
     (target_queue a.args.process a.args.thread) c.before.queued-of.result
     c.before.before.marks-of.result c.before.queued-of.ensures c.before.before.marks-of.ensures
 

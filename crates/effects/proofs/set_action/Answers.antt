@@ -1,0 +1,36 @@
+-- `set_action` meets its contract. Assumes nothing.
+use mathlib.Core.Path.{refl}
+use borrow.Author.Rules.{rules}
+use Rattle.sound.specs.Lent.{view_of, lent}
+use Rattle.sound.proofs.Facts.{processes-long}
+use Rattle.effects.proofs.Makes.{fits_one, makes}
+use Rattle.effects.proofs.Fitted.{action-live, action-signal}
+use Rattle.effects.proofs.Places.{process-inside}
+use Rattle.effects.proofs.Fields.{action-store}
+use Rattle.effects.proofs.set_action.Goals as goal
+
+pub find_process-place-requires : goal.find_process-place-requires
+find_process-place-requires c =
+    processes-long (lent c.args.ps.now c.args.ts.now c.args.tb.now c.args.pb.now) c.requires.sound
+
+pub put_action-requires : goal.put_action-requires
+put_action-requires c =
+    let l = lent c.args.ps.now c.args.ts.now c.args.tb.now c.args.pb.now in
+    let n = c.args.process in
+    let v = view_of l in
+    let live = action-live v n c.args.signal c.args.a (fits_one c.requires) in
+    let signal = action-signal v n c.args.signal c.args.a (fits_one c.requires) in (
+      processes-long l c.requires.sound,
+      (process-inside l n c.find_process-place.result live c.find_process-place.ensures, (signal.low, signal.high)),
+    )
+
+pub returns : goal.returns
+returns c =
+    let l = lent c.args.ps.now c.args.ts.now c.args.tb.now c.args.pb.now in
+    let n = c.args.process in
+    let s = c.args.signal in
+    let ps' = c.put_action.new.ps in
+    let live = action-live (view_of l) n s c.args.a (fits_one c.requires) in
+    makes c.requires (search rules) refl refl refl
+    (action-store l c.requires.sound n c.find_process-place.result live c.find_process-place.ensures ps' s c.args.a
+    c.put_action.ensures)
