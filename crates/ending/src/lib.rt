@@ -57,9 +57,9 @@ fn has_other(ts: &[u64], process: u32, thread: u32) -> bool
 // The thread goes, and its process with it where it is the last one.
 fn remove(ps: &mut [u64], ts: &mut [u64], tb: &mut [u8], pb: &mut [u8], thread: u32)
     requires { WithThread thread (lent ps.old ts.old tb.old pb.old) }
-    ensures { changed
-        (end_thread_changes (view_of (lent ps.old ts.old tb.old pb.old)) (the_thread (view_of (lent ps.old ts.old tb.old pb.old)) thread)) ps
-        ts tb pb }
+    ensures { Changed (end_thread_changes (view_of (lent ps.old ts.old tb.old pb.old))
+        (the_thread (view_of (lent ps.old ts.old tb.old pb.old)) thread))
+        (lent ps.old ts.old tb.old pb.old) (lent ps.new ts.new tb.new pb.new) }
 {
     let process = view::process_of(ts, thread);
     if has_other(ts, process, thread) {
