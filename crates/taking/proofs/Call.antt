@@ -2,11 +2,8 @@
 use Prim.Native.Nat.{ℕ}
 use mathlib.Core.Path.{◌≡◌, refl, sym, ap, ◌∙◌}
 use mathlib.Core.Bool.{true, false}
-use mathlib.Core.Logic.{◌⊎◌, inl, inr}
 use mathlib.Core.List.{[], ◌∷◌}
 use lib.Dec.{eqb}
-use denote.Enum.Declared.{tag_of}
-use Rattle.lists.proofs.Bools.{clash}
 use Rattle.rules.specs.Types.{Thread, take}
 use Rattle.rules.specs.View.{View, live_thread, the_thread}
 use Rattle.rules.specs.Store.{apply_all}
@@ -26,14 +23,12 @@ use Rattle.answers.specs.Step.{refusal_on, rows_on, step_on}
 use Rattle.siginfo.specs.Bytes.{Bytes}
 use Rattle.answers.proofs.Endings.{rows-given, refused-ends, accepted-ends}
 use Rattle.answers.proofs.Rows.{live-thread}
-use Rattle.types.specs.contracts.Next.{the_type}
 use Rattle.taking.specs.Takes.{is_nothing}
 
 -- the other two cases
-pub something : (x : declared.Next) → (tag_of the_type x ≡ 1) ⊎ (tag_of the_type x ≡ 2) → is_nothing (next_of x) ≡ false
+pub something : (x : declared.Next) → (x ≡ cases.Nothing → ⊥) → is_nothing (next_of x) ≡ false
 unfolding is_nothing next_of
-something cases.Nothing (inl e) = clash refl (ap (λ (k : ℕ). eqb k 0) e)
-something cases.Nothing (inr e) = clash refl (ap (λ (k : ℕ). eqb k 0) e)
+something cases.Nothing e = absurd (e refl)
 something (cases.Mark process thread s) e = refl
 something (cases.Record r) e = refl
 

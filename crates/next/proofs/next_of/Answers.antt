@@ -1,0 +1,57 @@
+-- `next_of` meets its contract. Assumes nothing.
+use Rattle.rules.specs.View.{the_thread}
+use Rattle.sound.specs.Lent.{view_of, lent}
+use Rattle.sound.proofs.Facts.{threads-long, thread-buffer-long, process-buffer-long, thread-listed}
+use Rattle.view.proofs.Live.{owner-good, own-queue}
+use Rattle.next.proofs.Nexts.{nothing-next, own-next, shared-next}
+use Rattle.next.proofs.next_of.Goals as goal
+
+pub returns-then-s-eq0 : goal.returns-then-s-eq0
+returns-then-s-eq0 c =
+    nothing-next (view_of (lent c.args.ps.now c.args.ts.now c.args.tb.now c.args.pb.now))
+    (the_thread (view_of (lent c.args.ps.now c.args.ts.now c.args.tb.now c.args.pb.now)) c.args.thread)
+    c.next_signal-s.result c.next_signal-s.ensures c.if-s-eq0.true
+
+pub process_of-process-requires : goal.process_of-process-requires
+process_of-process-requires c =
+    record {
+      ts_len = threads-long (lent c.args.ps.now c.args.ts.now c.args.tb.now c.args.pb.now) c.requires.sound;
+      ts_value = thread-listed (lent c.args.ps.now c.args.ts.now c.args.tb.now c.args.pb.now) c.args.thread c.requires.live;
+      thread_value = owner-good (lent c.args.ps.now c.args.ts.now c.args.tb.now c.args.pb.now) c.requires.sound c.args.thread
+            c.requires.live;
+    }
+
+pub pending_of-own-requires : goal.pending_of-own-requires
+pending_of-own-requires c =
+    record {
+      sound = c.requires.sound;
+      live =
+          own-queue (lent c.args.ps.now c.args.ts.now c.args.tb.now c.args.pb.now) c.requires.sound c.args.thread
+          c.requires.live c.process_of-process.result c.process_of-process.ensures;
+    }
+
+pub next_in-requires : goal.next_in-requires
+next_in-requires c =
+    thread-buffer-long (lent c.args.ps.now c.args.ts.now c.args.tb.now c.args.pb.now) c.requires.sound
+
+pub returns-then-has : goal.returns-then-has
+returns-then-has c =
+    own-next (lent c.args.ps.now c.args.ts.now c.args.tb.now c.args.pb.now) c.args.thread
+    c.process_of-process.result c.next_signal-s.result
+    c.requires.live c.process_of-process.ensures c.next_signal-s.ensures
+    c.if-s-eq0.false c.next_in.result
+    c.pending_of-own.result c.has.result c.pending_of-own.ensures c.has.ensures
+    c.if-has.true c.next_in.ensures
+
+pub next_in-requires-2 : goal.next_in-requires-2
+next_in-requires-2 c =
+    process-buffer-long (lent c.args.ps.now c.args.ts.now c.args.tb.now c.args.pb.now) c.requires.sound
+
+pub returns : goal.returns
+returns c =
+    shared-next (lent c.args.ps.now c.args.ts.now c.args.tb.now c.args.pb.now) c.args.thread
+    c.process_of-process.result c.next_signal-s.result
+    c.requires.live c.process_of-process.ensures c.next_signal-s.ensures
+    c.if-s-eq0.false c.next_in-2.result
+    c.pending_of-own.result c.has.result c.pending_of-own.ensures c.has.ensures
+    c.if-has.false c.next_in-2.ensures

@@ -1,0 +1,67 @@
+-- `next_signal` meets its contract. Assumes nothing.
+use Rattle.sound.specs.Lent.{lent}
+use Rattle.sound.proofs.Facts.{processes-long, threads-long, thread-listed}
+use Rattle.view.proofs.Live.{owner-good, process-held, own-queue, shared-queue}
+use Rattle.next.proofs.Signals.{signal-stopped, signal-taken}
+use Rattle.next.proofs.next_signal.Goals as goal
+
+pub process_of-process-requires : goal.process_of-process-requires
+process_of-process-requires c =
+    record {
+      ts_len = threads-long (lent c.args.ps.now c.args.ts.now c.args.tb.now c.args.pb.now) c.requires.sound;
+      ts_value = thread-listed (lent c.args.ps.now c.args.ts.now c.args.tb.now c.args.pb.now) c.args.thread c.requires.live;
+      thread_value = owner-good (lent c.args.ps.now c.args.ts.now c.args.tb.now c.args.pb.now) c.requires.sound c.args.thread
+            c.requires.live;
+    }
+
+pub is_stopped-requires : goal.is_stopped-requires
+is_stopped-requires c =
+    record {
+      ps_len = processes-long (lent c.args.ps.now c.args.ts.now c.args.tb.now c.args.pb.now) c.requires.sound;
+      ps_value = process-held (lent c.args.ps.now c.args.ts.now c.args.tb.now c.args.pb.now) c.requires.sound c.args.thread
+          c.requires.live c.process_of-process.result c.process_of-process.ensures;
+    }
+
+pub returns-then-is_stopped : goal.returns-then-is_stopped
+returns-then-is_stopped c =
+    signal-stopped (lent c.args.ps.now c.args.ts.now c.args.tb.now c.args.pb.now) c.args.thread
+    c.process_of-process.result c.process_of-process.ensures
+    c.is_stopped.result c.is_stopped.ensures c.if-is_stopped.true
+
+pub pending_of-own-requires : goal.pending_of-own-requires
+pending_of-own-requires c =
+    record {
+      sound = c.requires.sound;
+      live =
+          own-queue (lent c.args.ps.now c.args.ts.now c.args.tb.now c.args.pb.now) c.requires.sound c.args.thread
+          c.requires.live c.process_of-process.result c.process_of-process.ensures;
+    }
+
+pub pending_of-shared-requires : goal.pending_of-shared-requires
+pending_of-shared-requires c =
+    record {
+      sound = c.requires.sound;
+      live =
+          shared-queue (lent c.args.ps.now c.args.ts.now c.args.tb.now c.args.pb.now) c.requires.sound
+          c.args.thread c.requires.live c.process_of-process.result
+          c.process_of-process.ensures;
+    }
+
+pub mask_of-requires : goal.mask_of-requires
+mask_of-requires c =
+    record {
+      ts_len = threads-long (lent c.args.ps.now c.args.ts.now c.args.tb.now c.args.pb.now) c.requires.sound;
+      ts_value = thread-listed (lent c.args.ps.now c.args.ts.now c.args.tb.now c.args.pb.now) c.args.thread c.requires.live;
+    }
+
+pub returns : goal.returns
+returns c =
+    signal-taken (lent c.args.ps.now c.args.ts.now c.args.tb.now c.args.pb.now) c.args.thread
+    c.process_of-process.result c.process_of-process.ensures
+    c.is_stopped.result c.is_stopped.ensures c.requires.live c.if-is_stopped.false
+    c.pending_of-own.result
+    c.pending_of-shared.result c.union.result
+    c.mask_of.result c.without.result
+    c.lowest.result c.pending_of-own.ensures
+    c.pending_of-shared.ensures c.union.ensures
+    c.mask_of.ensures c.without.ensures c.lowest.ensures
