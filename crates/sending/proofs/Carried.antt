@@ -6,8 +6,6 @@ use mathlib.Core.List.{List, [], ◌∷◌, ◌++◌}
 use lib.Dec.{eqb}
 use borrow.Author.Tests.{eqb-true}
 use mir.Val.{bool_byte}
-use types.Run.{OneOf, miss}
-use denote.Enum.Declared.{tag_of}
 use Rattle.limits.specs.Limits.{SIGCONT, SIGSTOP}
 use Rattle.lists.proofs.Bools.{split, or-fst-false, or-snd-false, cond-true, cond-false}
 use Rattle.sigset.specs.declared.SigSet.{SigSet}
@@ -28,7 +26,6 @@ use Rattle.sending.specs.declared.Generation as declared
 use Rattle.sending.specs.declared.Generation.TheVariants as cases
 use Rattle.sending.specs.declared.Decision as decided
 use Rattle.sending.specs.declared.Decision.TheVariants as decisions
-use Rattle.sending.specs.contracts.Generation.{the_type}
 
 -- ---- job control, by the signal
 
@@ -87,29 +84,29 @@ module _ (f : declared.Generation) (r : Siginfo) where
 
 -- every generation but testing and killing begins with job control
 pub control-ready : (f : declared.Generation) (r : Siginfo) {l : Lent}
-    → OneOf (2 ∷ 3 ∷ 4 ∷ 5 ∷ 6 ∷ []) (tag_of the_type f)
+    → (f ≡ cases.Testing → ⊥) → (f ≡ cases.Killing → ⊥)
     → Ready (send_changes (generation_of f) r) l → Ready (job_control r.process r.signal) l
 unfolding send_changes generation_of
-control-ready cases.Testing r k h = absurd (miss (2 ∷ 3 ∷ 4 ∷ 5 ∷ 6 ∷ []) 0 tt k)
-control-ready cases.Killing r k h = absurd (miss (2 ∷ 3 ∷ 4 ∷ 5 ∷ 6 ∷ []) 1 tt k)
-control-ready cases.Stopping r k h = h
-control-ready cases.Dropping r k h = h
-control-ready cases.Absorbing r k h = h
-control-ready cases.Marking r k h = ready-part (set_mark (queue_of r) r.signal ∷ []) h refl
-control-ready cases.Keeping r k h = ready-part (append r ∷ []) h refl
+control-ready cases.Testing r t k h = absurd (t refl)
+control-ready cases.Killing r t k h = absurd (k refl)
+control-ready cases.Stopping r t k h = h
+control-ready cases.Dropping r t k h = h
+control-ready cases.Absorbing r t k h = h
+control-ready cases.Marking r t k h = ready-part (set_mark (queue_of r) r.signal ∷ []) h refl
+control-ready cases.Keeping r t k h = ready-part (append r ∷ []) h refl
 
 -- stopping, dropping and absorbing: those that neither of the two tests of code names
-pub of-control : (f : declared.Generation) (r : Siginfo) → OneOf (2 ∷ 3 ∷ 4 ∷ 5 ∷ 6 ∷ []) (tag_of the_type f)
-    → OneOf (0 ∷ 1 ∷ 2 ∷ 3 ∷ 4 ∷ []) (tag_of the_type f)
+pub of-control : (f : declared.Generation) (r : Siginfo) → (f ≡ cases.Testing → ⊥) → (f ≡ cases.Killing → ⊥)
+    → (f ≡ cases.Marking → ⊥) → (f ≡ cases.Keeping → ⊥)
     → send_changes (generation_of f) r ≡ job_control r.process r.signal
 unfolding send_changes generation_of
-of-control cases.Testing r k m = absurd (miss (2 ∷ 3 ∷ 4 ∷ 5 ∷ 6 ∷ []) 0 tt k)
-of-control cases.Killing r k m = absurd (miss (2 ∷ 3 ∷ 4 ∷ 5 ∷ 6 ∷ []) 1 tt k)
-of-control cases.Stopping r k m = refl
-of-control cases.Dropping r k m = refl
-of-control cases.Absorbing r k m = refl
-of-control cases.Marking r k m = absurd (miss (0 ∷ 1 ∷ 2 ∷ 3 ∷ 4 ∷ []) 5 tt m)
-of-control cases.Keeping r k m = absurd (miss (0 ∷ 1 ∷ 2 ∷ 3 ∷ 4 ∷ []) 6 tt m)
+of-control cases.Testing r t k m n = absurd (t refl)
+of-control cases.Killing r t k m n = absurd (k refl)
+of-control cases.Stopping r t k m n = refl
+of-control cases.Dropping r t k m n = refl
+of-control cases.Absorbing r t k m n = refl
+of-control cases.Marking r t k m n = absurd (m refl)
+of-control cases.Keeping r t k m n = absurd (n refl)
 
 -- ---- a send, by what is decided of it
 

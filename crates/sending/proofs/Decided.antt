@@ -7,8 +7,6 @@ use mathlib.Core.List.{List, [], ◌∷◌}
 use native.Mathlib.Nat.{le_trans}
 use lib.Dec.{eqb, leb}
 use borrow.Author.Tests.{eq-eqb, ne_eqb}
-use types.Run.{OneOf, miss}
-use denote.Enum.Declared.{tag_of}
 use Rattle.limits.specs.Limits.{buffer_records, record_limit, SIGKILL, SIGCONT, SIGSTOP, SIGTSTP, SIGTTIN, SIGTTOU}
 use Rattle.limits.specs.Limits.{si_queue}
 use Rattle.lists.specs.Lists.{count}
@@ -35,7 +33,6 @@ use Rattle.sending.specs.Generations.{generation_of}
 use Rattle.sending.specs.JobControl.{discarded_by}
 use Rattle.sending.specs.declared.Generation as declared
 use Rattle.sending.specs.declared.Generation.TheVariants as cases
-use Rattle.sending.specs.contracts.Generation.{the_type}
 
 module _ (v : View) (queued : Bool) (q : Queue) (s : ℕ) where
   pub absorbed : Signal s → (pending marks : SigSet) (is_standard pends marked : Bool) → pending ≡ set_of (pending_in v q)
@@ -94,8 +91,7 @@ unfolding the_process view decoded
 ignored-read l p s a r e h = h ∙ ap (λ (x : Action). ignored x s) e
 
 -- the first six generations need no record
-no_record_lem : (f : declared.Generation) → OneOf (0 ∷ 1 ∷ 2 ∷ 3 ∷ 4 ∷ 5 ∷ []) (tag_of the_type f)
-    → false ≡ needs_record (generation_of f)
+no_record_lem : (f : declared.Generation) → (f ≡ cases.Keeping → ⊥) → false ≡ needs_record (generation_of f)
 unfolding needs_record generation_of
 no_record_lem cases.Testing k = refl
 no_record_lem cases.Killing k = refl
@@ -103,7 +99,7 @@ no_record_lem cases.Stopping k = refl
 no_record_lem cases.Dropping k = refl
 no_record_lem cases.Absorbing k = refl
 no_record_lem cases.Marking k = refl
-no_record_lem cases.Keeping k = absurd (miss (0 ∷ 1 ∷ 2 ∷ 3 ∷ 4 ∷ 5 ∷ []) 6 tt k)
+no_record_lem cases.Keeping k = absurd (k refl)
 
 -- ---- the record
 
@@ -152,7 +148,7 @@ module _ (v : View) (to : ℕ) (f : declared.Generation) where
   unfolding needs_record generation_of
   room-read e m n k = rw (e, k)
 
-  pub room-unasked : OneOf (0 ∷ 1 ∷ 2 ∷ 3 ∷ 4 ∷ 5 ∷ []) (tag_of the_type f)
+  pub room-unasked : (f ≡ cases.Keeping → ⊥)
       → false ≡ (needs_record (generation_of f) && leb record_limit (v.queued to))
   room-unasked k = sym (and_left (leb record_limit (v.queued to)) (sym (no_record_lem f k)))
 

@@ -1,0 +1,23 @@
+-- `info` meets its contract. Assumes nothing.
+use Rattle.rules.specs.View.{live_process}
+use Rattle.rules.specs.Store.{view}
+use Rattle.sound.specs.Lent.{decoded, lent}
+use Rattle.sound.proofs.Facts.{processes-long}
+use Rattle.sending.proofs.Decided.{sender-fits, info-read}
+use Rattle.sending.proofs.info.Goals as goal
+
+pub real_of-requires : goal.real_of-requires
+unfolding live_process view decoded
+real_of-requires c =
+    let l = lent c.args.ps.now c.args.ts.now c.args.tb.now c.args.pb.now in
+    record {
+      ps_len = processes-long l c.requires.sound;
+      ps_value = c.requires.live;
+      process_value = sender-fits l c.requires.sound c.args.by;
+    }
+
+pub returns : goal.returns
+returns c =
+    info-read (lent c.args.ps.now c.args.ts.now c.args.tb.now c.args.pb.now) c.args.by c.args.to
+    c.args.thread c.args.signal c.args.value
+    c.real_of.result c.real_of.ensures
