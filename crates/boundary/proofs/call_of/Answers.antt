@@ -1,7 +1,6 @@
 -- `call_of` meets its contract. Assumes nothing.
 use mathlib.Core.Path.{◌≡◌, ap, ◌∙◌}
 use native.Mathlib.Omega.{arith}
-use borrow.Author.Rules.{rules}
 use Rattle.limits.specs.Limits.{call_clear, call_add_process, call_add_thread, call_end_process, call_end_thread, call_kill}
 use Rattle.limits.specs.Limits.{call_sigqueue, call_sigaction, call_sigmask, call_sigpending, call_look, call_who, call_take}
 use Rattle.limits.specs.Limits.{call_sigreturn}
@@ -9,128 +8,105 @@ use Rattle.rules.specs.Types.{add_process, sigaction, sigmask}
 use Rattle.calls.specs.Calls.{placing_of, sending_of, setting_of, asking_of, call_of}
 use Rattle.boundary.specs.Boundary.{arguments, calls_of, numbered}
 use Rattle.boundary.proofs.Numbers.{at-number, call-bounds, past}
-use Rattle.boundary.proofs.call_of.Statement.{statement}
-use Rattle.boundary.proofs.call_of.Tie as tie
+use Rattle.boundary.proofs.call_of.Goals as goal
 
-returns : tie.Need-returns
+pub returns-in-1 : goal.returns-in-1
 unfolding call_of placing_of sending_of setting_of asking_of numbered calls_of
-returns c =
-    let a = c.before.args in
+returns-in-1 c =
+    let a = c.args in
     at-number a.number call_clear (arguments a.a a.b a.c a.d a.e a.f a.x a.y a.z)
-    c.match.keys1
+    c.in-1.is
 
-returns-2 : tie.Need-returns-2
+pub returns-in-2 : goal.returns-in-2
 unfolding call_of placing_of sending_of setting_of asking_of numbered calls_of
-returns-2 c =
-    let a = c.before.before.args in
-    ap add_process c.new-process.ensures ∙ at-number a.number call_add_process
-    (arguments a.a a.b a.c a.d a.e a.f a.x a.y a.z) c.before.match.keys2
+returns-in-2 c =
+    let a = c.args in
+    ap add_process c.new_process.ensures ∙ at-number a.number call_add_process
+    (arguments a.a a.b a.c a.d a.e a.f a.x a.y a.z) c.in-2.is
 
-returns-3 : tie.Need-returns-3
+pub returns-in-3 : goal.returns-in-3
 unfolding call_of placing_of sending_of setting_of asking_of numbered calls_of
-returns-3 c =
-    let a = c.before.args in
+returns-in-3 c =
+    let a = c.args in
     at-number a.number call_add_thread (arguments a.a a.b a.c a.d a.e a.f a.x a.y a.z)
-    c.match.keys3
+    c.in-3.is
 
-returns-4 : tie.Need-returns-4
+pub returns-in-4 : goal.returns-in-4
 unfolding call_of placing_of sending_of setting_of asking_of numbered calls_of
-returns-4 c =
-    let a = c.before.args in
+returns-in-4 c =
+    let a = c.args in
     at-number a.number call_end_process (arguments a.a a.b a.c a.d a.e a.f a.x a.y a.z)
-    c.match.keys4
+    c.in-4.is
 
-returns-5 : tie.Need-returns-5
+pub returns-in-5 : goal.returns-in-5
 unfolding call_of placing_of sending_of setting_of asking_of numbered calls_of
-returns-5 c =
-    let a = c.before.args in
+returns-in-5 c =
+    let a = c.args in
     at-number a.number call_end_thread (arguments a.a a.b a.c a.d a.e a.f a.x a.y a.z)
-    c.match.keys5
+    c.in-5.is
 
-returns-6 : tie.Need-returns-6
+pub returns-in-6 : goal.returns-in-6
 unfolding call_of placing_of sending_of setting_of asking_of numbered calls_of
-returns-6 c =
-    let a = c.before.args in
+returns-in-6 c =
+    let a = c.args in
     at-number a.number call_kill (arguments a.a a.b a.c a.d a.e a.f a.x a.y a.z)
-    c.match.keys6
+    c.in-6.is
 
-returns-7 : tie.Need-returns-7
+pub returns-in-7 : goal.returns-in-7
 unfolding call_of placing_of sending_of setting_of asking_of numbered calls_of
-returns-7 c =
-    let a = c.before.args in
+returns-in-7 c =
+    let a = c.args in
     at-number a.number call_sigqueue (arguments a.a a.b a.c a.d a.e a.f a.x a.y a.z)
-    c.match.keys7
+    c.in-7.is
 
-returns-8 : tie.Need-returns-8
+pub returns-in-8 : goal.returns-in-8
 unfolding call_of placing_of sending_of setting_of asking_of numbered calls_of
-returns-8 c =
-    let a = c.before.before.args in
-    ap (sigaction a.a a.b) c.given-action.ensures
+returns-in-8 c =
+    let a = c.args in
+    ap (sigaction a.a a.b) c.given_action.ensures
     ∙ at-number a.number call_sigaction (arguments a.a a.b a.c a.d a.e a.f a.x a.y a.z)
-    c.before.match.keys8
+    c.in-8.is
 
-returns-9 : tie.Need-returns-9
+pub returns-in-9 : goal.returns-in-9
 unfolding call_of placing_of sending_of setting_of asking_of numbered calls_of
-returns-9 c =
-    let a = c.before.before.args in
-    ap (sigmask a.a a.b) c.given-set.ensures
+returns-in-9 c =
+    let a = c.args in
+    ap (sigmask a.a a.b) c.given_set.ensures
     ∙ at-number a.number call_sigmask (arguments a.a a.b a.c a.d a.e a.f a.x a.y a.z)
-    c.before.match.keys9
+    c.in-9.is
 
-returns-10 : tie.Need-returns-10
+pub returns-in-10 : goal.returns-in-10
 unfolding call_of placing_of sending_of setting_of asking_of numbered calls_of
-returns-10 c =
-    let a = c.before.args in
+returns-in-10 c =
+    let a = c.args in
     at-number a.number call_sigpending (arguments a.a a.b a.c a.d a.e a.f a.x a.y a.z)
-    c.match.keys10
+    c.in-10.is
 
-returns-11 : tie.Need-returns-11
+pub returns-in-11 : goal.returns-in-11
 unfolding call_of placing_of sending_of setting_of asking_of numbered calls_of
-returns-11 c =
-    let a = c.before.args in
+returns-in-11 c =
+    let a = c.args in
     at-number a.number call_look (arguments a.a a.b a.c a.d a.e a.f a.x a.y a.z)
-    c.match.keys11
+    c.in-11.is
 
-returns-12 : tie.Need-returns-12
+pub returns-in-12 : goal.returns-in-12
 unfolding call_of placing_of sending_of setting_of asking_of numbered calls_of
-returns-12 c =
-    let a = c.before.args in
+returns-in-12 c =
+    let a = c.args in
     at-number a.number call_who (arguments a.a a.b a.c a.d a.e a.f a.x a.y a.z)
-    c.match.keys12
+    c.in-12.is
 
-returns-13 : tie.Need-returns-13
+pub returns-in-13 : goal.returns-in-13
 unfolding call_of placing_of sending_of setting_of asking_of numbered calls_of
-returns-13 c =
-    let a = c.before.args in
+returns-in-13 c =
+    let a = c.args in
     at-number a.number call_take (arguments a.a a.b a.c a.d a.e a.f a.x a.y a.z)
-    c.match.keys13
+    c.in-13.is
 
-returns-14 : tie.Need-returns-14
+pub returns-in_default : goal.returns-in_default
 unfolding call_of placing_of sending_of setting_of asking_of numbered calls_of
-returns-14 c =
-    let a = c.before.args in
-    let b = call-bounds a.number c.before.requires in
-    let last : a.number ≡ call_sigreturn = omega (arith, b.1, past a.number call_take c.match.rest b.0) in
+returns-in_default c =
+    let a = c.args in
+    let b = call-bounds a.number c.requires in
+    let last : a.number ≡ call_sigreturn = omega (arith, b.1, past a.number call_take c.in_default.rest b.0) in
     at-number a.number call_sigreturn (arguments a.a a.b a.c a.d a.e a.f a.x a.y a.z) last
-
-pub call-of-spec : {M : Type 1} → statement M
-call-of-spec =
-    tie.close
-    (tie.spec
-    (λ c κs. search rules)
-    (λ c κs. search rules)
-    (λ c κs. search rules)
-    returns
-    returns-2
-    returns-3
-    returns-4
-    returns-5
-    returns-6
-    returns-7
-    returns-8
-    returns-9
-    returns-10
-    returns-11
-    returns-12
-    returns-13
-    returns-14)

@@ -1,0 +1,23 @@
+-- `next_words` meets its contract. Assumes nothing.
+use mathlib.Core.Path.{refl}
+use Rattle.lists.specs.Lists.{padded}
+use Rattle.boundary.specs.Boundary.{info_words, next_words}
+use Rattle.boundary.proofs.Words.{words-case}
+use Rattle.boundary.proofs.next_words.Goals as goal
+
+pub returns-in-Nothing : goal.returns-in-Nothing
+unfolding padded next_words
+returns-in-Nothing c =
+    words-case next_words c.args.next _ c.in-Nothing.is c.short.result
+    c.short.ensures
+
+pub returns-in-Mark : goal.returns-in-Mark
+unfolding padded next_words
+returns-in-Mark c =
+    words-case next_words c.args.next _ c.in-Mark.is
+    c.short-in-Mark.result c.short-in-Mark.ensures
+
+pub returns-in-Record : goal.returns-in-Record
+unfolding padded next_words info_words
+returns-in-Record c =
+    words-case next_words c.args.next _ c.in-Record.is _ refl
