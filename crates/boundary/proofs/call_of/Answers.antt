@@ -108,5 +108,5 @@ unfolding call_of placing_of sending_of setting_of asking_of numbered calls_of
 returns-in_default c =
     let a = c.args in
     let b = call-bounds a.number c.requires in
-    let last : a.number ≡ call_sigreturn = omega (arith, b.1, past a.number call_take c.in_default.rest b.0) in
+    let last : a.number ≡ call_sigreturn = omega (arith, b.1, past a.number call_take c.in_default.in_default-own.rest b.0) in
     at-number a.number call_sigreturn (arguments a.a a.b a.c a.d a.e a.f a.x a.y a.z) last
