@@ -77,7 +77,7 @@ impl SigSet {
     }
 }
 
-// The same of a set as its bits; sigset_c is what a host links.
+// The same under the name that a host calls; sigset_c is what it links.
 pub fn rrezhbuta_lowest(set: u64) -> u32
     ensures { result ≡ lowest (bits set) }
 {
