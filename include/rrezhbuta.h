@@ -1,7 +1,7 @@
 /*
  * Rrezhbuta: a POSIX signal layer over tables that the host lends.
  *
- * Link with target/staticlib/librrezhbuta.a, which `rt staticlib rrezhbuta` writes. What each call does, and when it is
+ * Link with target/staticlib/librrezhbuta.a, which `./staticlib rrezhbuta` writes. What each call does, and when it is
  * refused, is in docs/CALLS.md; host/c/loop.c is the loop that a host runs.
  *
  * Every call checks the whole of the four tables, then does its work or refuses it. It returns 0, or an errno and has

@@ -1,4 +1,4 @@
-//! Links libsigset.a, which `rt staticlib sigset` writes.
+//! Links libsigset.a, which `./staticlib sigset` writes.
 
 fn main() {
     let root = std::path::Path::new(env!("CARGO_MANIFEST_DIR")).join("../../target/staticlib");

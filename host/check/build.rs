@@ -1,4 +1,4 @@
-//! Links libsound.a, which `rt staticlib sound` writes.
+//! Links libsound.a, which `./staticlib sound` writes.
 
 fn main() {
     let root = std::path::Path::new(env!("CARGO_MANIFEST_DIR")).join("../../target/staticlib");

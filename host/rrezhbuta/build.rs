@@ -1,4 +1,4 @@
-//! Links librrezhbuta.a, which `rt staticlib rrezhbuta` writes.
+//! Links librrezhbuta.a, which `./staticlib rrezhbuta` writes.
 
 fn main() {
     let root = std::path::Path::new(env!("CARGO_MANIFEST_DIR")).join("../../target/staticlib");

@@ -2,12 +2,14 @@
 // made one after the other through the boundary's entry, and a line for each number with what was answered.
 // Signals that are taken have a flagless handler unless the case says otherwise, and a return follows each take.
 #![tactic(auto)]
+
 use limits::{
     ANSWER_HANDLER, ANSWER_WORDS, BUFFER_BYTES, CALL_ADD_PROCESS, CALL_CLEAR, CALL_KILL,
     CALL_SIGACTION, CALL_SIGMASK, CALL_SIGPENDING, CALL_SIGQUEUE, CALL_SIGRETURN, CALL_TAKE,
     CALL_WHO, PROCESS_TABLE, SA_NODEFER, SIG_BLOCK, SIG_SETMASK, SIG_UNBLOCK, SIGCHLD, SIGCONT,
     SIGKILL, SIGTSTP, THREAD_TABLE,
 };
+use std::io;
 
 // The one process, its thread, user and session.
 const PID: u32 = 100;
@@ -35,7 +37,7 @@ const GIVEN: u32 = 1;
 // ---- the tables
 
 // A row is a text or a call, and every call is of the one process and its thread. A send to thread 0 is to the process.
-#[derive(Drop)]
+#[derive(Clone, Copy)]
 enum Row {
     // the number of the text: a line begins, or goes on
     Line(u64),
@@ -290,7 +292,7 @@ fn defaults(k: u64) -> Row {
 
 // Is the answer written? The call's number, four arguments of 32 bits, and three of 64;
 // two more of 32 bits are read by add_process alone.
-#[derive(Drop)]
+#[derive(Clone, Copy)]
 struct Call(bool, u32, u32, u32, u32, u32, u64, u64, u64);
 
 fn call_of(row: Row, saved: u64) -> Call {
@@ -327,9 +329,10 @@ fn call_of(row: Row, saved: u64) -> Call {
     }
 }
 
-fn text(n: u64) {
+fn text(rt: &impl Print, n: u64) -> io::Result<()> {
     let none: [u64; 0] = [];
     printing::say(
+        rt,
         b"1. mask 0, way 0, all ones:\
         |\n2. mask 6, way 1, set 2:\
         |\n3. mask 6, way 7, no set:\
@@ -354,13 +357,14 @@ fn text(n: u64) {
         |\n",
         n,
         &none,
-    );
+    )
 }
 
 // The answers in the order of their first words, a refusal before them.
-fn answer(out: &[u64; ANSWER_WORDS], is_written: bool) {
+fn answer(rt: &impl Print, out: &[u64; ANSWER_WORDS], is_written: bool) -> io::Result<()> {
     if is_written {
         printing::say(
+            rt,
             b" refused B\
             | done| tested| acted| dropped| absorbed| marked| kept\
             | handler B flags C mask D| mask B| pending B\
@@ -369,8 +373,9 @@ fn answer(out: &[u64; ANSWER_WORDS], is_written: bool) {
             | nothing| took H of thread G with L| end B| stop B| no action B",
             out[0],
             out,
-        );
+        )?;
     }
+    Ok(())
 }
 
 // Of a handler to run, word 4 is the saved mask.
@@ -384,16 +389,17 @@ fn saved_mask(out: &[u64; ANSWER_WORDS], saved: u64) -> u64 {
 
 // Makes a row's call, and returns the mask that the last take saved.
 fn run(
+    rt: &impl Print,
     ps: &mut [u64; PROCESS_TABLE],
     ts: &mut [u64; THREAD_TABLE],
     tb: &mut [u8; BUFFER_BYTES],
     pb: &mut [u8; BUFFER_BYTES],
     row: Row,
     saved: u64,
-) -> u64 {
+) -> io::Result<u64> {
     if let Row::Line(n) = row {
-        text(n);
-        return saved;
+        text(rt, n)?;
+        return Ok(saved);
     }
     let c = call_of(row, saved);
     let mut out = [0u64; ANSWER_WORDS];
@@ -402,11 +408,11 @@ fn run(
     );
     // a refusal has written nothing; its errno goes where an answer has its first value
     out[1] = out[1] | errno;
-    answer(&out, c.0 | (errno != 0));
-    saved_mask(&out, saved)
+    answer(rt, &out, c.0 | (errno != 0))?;
+    Ok(saved_mask(&out, saved))
 }
 
-fn main() {
+fn main(rt: HostRuntime) -> io::Result<()> {
     let mut ps = [0u64; PROCESS_TABLE];
     let mut ts = [0u64; THREAD_TABLE];
     let mut tb = [0u8; BUFFER_BYTES];
@@ -414,9 +420,8 @@ fn main() {
     let mut saved: u64 = 0;
     // as many as the tables have: the last row ends the last line
     let rows: u64 = 200;
-    let mut k: u64 = 0;
-    while k < rows {
-        saved = run(&mut ps, &mut ts, &mut tb, &mut pb, masks(k), saved);
-        k += 1;
+    for k in 0..rows {
+        saved = run(&rt, &mut ps, &mut ts, &mut tb, &mut pb, masks(k), saved)?;
     }
+    Ok(())
 }

@@ -1,64 +1,63 @@
 // What the programs write: texts with numbers set in, and what is in use of the tables.
-// A contract cannot speak of output; each program's file `stdout` does.
+// A contract cannot speak of output; each program's file `stdout` does. A failed write is the caller's error.
 #![tactic(auto)]
+
 ghost use Rattle.std.specs.Prelude.{◌≤◌, ◌<◌};
 ghost use Rattle.limits.specs.Limits.{process_places, thread_places, buffer_records, signals};
 
-use libc::STDOUT_FILENO;
 use limits::{
     ACTION_FLAGS, ACTION_HANDLER, ACTION_MASK, ACTION_WORDS, BUFFER_BYTES, BUFFER_RECORDS,
     HEAD_WORDS, PROCESS_ID, PROCESS_PLACES, PROCESS_TABLE, PROCESS_WORDS, SI_QUEUE, SIGNALS,
     THREAD_ID, THREAD_PLACES, THREAD_TABLE, THREAD_WORDS,
 };
 use sigset::SigSet;
+use std::io;
 
 // ---- a word
 
-pub fn write(s: &[u8]) {
-    io::write_all(STDOUT_FILENO, s);
+pub fn write(rt: &impl Print, s: &[u8]) -> io::Result<()> {
+    rt.write_all(s)
 }
 
-fn decimal(n: u64) {
-    io::print_decimal(STDOUT_FILENO, n);
+fn decimal(rt: &impl Print, n: u64) -> io::Result<()> {
+    print!(rt; "{n}")
 }
 
-fn hex(n: u64) {
-    write(b"0x");
-    io::print_hex(STDOUT_FILENO, n, 1);
+fn hex(rt: &impl Print, n: u64) -> io::Result<()> {
+    print!(rt; "{n:#x}")
 }
 
 // A record's code: a queued one's is below zero.
-fn code(n: u64) {
+fn code(rt: &impl Print, n: u64) -> io::Result<()> {
     if n == SI_QUEUE as u64 {
-        write(b"-1");
+        write(rt, b"-1")
     } else {
-        decimal(n);
+        decimal(rt, n)
     }
 }
 
 // A signal, where a set has it.
-fn member(m: SigSet, s: u32) {
+fn member(rt: &impl Print, m: SigSet, s: u32) -> io::Result<()> {
     if SigSet::has(m, s) {
-        write(b" ");
-        decimal(s as u64);
+        print!(rt; " {s}")?;
     }
+    Ok(())
 }
 
-fn members(m: SigSet) {
-    let mut s: u32 = 1;
-    while s <= SIGNALS {
-        member(m, s);
-        s += 1;
+fn members(rt: &impl Print, m: SigSet) -> io::Result<()> {
+    for s in 1..=SIGNALS {
+        member(rt, m, s)?;
     }
+    Ok(())
 }
 
 // A word in the form that the byte before its letter asks for.
-fn word(before: u8, n: u64) {
+fn word(rt: &impl Print, before: u8, n: u64) -> io::Result<()> {
     match before {
-        b'#' => hex(n),
-        b'~' => code(n),
-        b'@' => members(SigSet(n)),
-        _ => decimal(n),
+        b'#' => hex(rt, n),
+        b'~' => code(rt, n),
+        b'@' => members(rt, SigSet(n)),
+        _ => decimal(rt, n),
     }
 }
 
@@ -68,26 +67,26 @@ fn is_written(byte: u8) -> bool {
     (byte != b'|') & ((byte != b'#') & ((byte != b'~') & (byte != b'@')))
 }
 
-fn plain(byte: u8) {
+fn plain(rt: &impl Print, byte: u8) -> io::Result<()> {
     if is_written(byte) {
-        let one = [byte];
-        write(&one);
+        write(rt, &[byte])?;
     }
+    Ok(())
 }
 
 // A byte of a text, or the word that it stands for.
-fn put(before: u8, byte: u8, words: &[u64]) {
+fn put(rt: &impl Print, before: u8, byte: u8, words: &[u64]) -> io::Result<()> {
     if byte < b'A' {
-        return plain(byte);
+        return plain(rt, byte);
     }
     if b'Z' < byte {
-        return plain(byte);
+        return plain(rt, byte);
     }
     let i = (byte - b'A') as usize;
     if i < words.len() {
-        return word(before, words[i]);
+        return word(rt, before, words[i]);
     }
-    plain(byte);
+    plain(rt, byte)
 }
 
 fn ends(byte: u8) -> u64
@@ -99,23 +98,24 @@ fn ends(byte: u8) -> u64
 // Writes text `n` of those in `texts`, which '|' parts; the first is 0. A capital letter stands for a word,
 // A for the first, and past the last word for itself. The word is written in decimal;
 // after '#' in hexadecimal, after '~' as a record's code, after '@' as the members of a set.
-pub fn say(texts: &[u8], n: u64, words: &[u64]) {
+pub fn say(rt: &impl Print, texts: &[u8], n: u64, words: &[u64]) -> io::Result<()> {
     let mut passed: u64 = 0;
     let mut before = b'|';
     for i in 0..texts.len() {
         let byte = texts[i];
         if passed == n {
-            put(before, byte, words);
+            put(rt, before, byte, words)?;
         }
         passed += ends(byte);
         before = byte;
     }
+    Ok(())
 }
 
 // ---- the tables
 
 // A signal's action, where it is not the default action.
-fn action(ps: &[u64; PROCESS_TABLE], place: usize, signal: u32)
+fn action(rt: &impl Print, ps: &[u64; PROCESS_TABLE], place: usize, signal: u32) -> io::Result<()>
     requires { (place < process_places) × ((1 ≤ signal) × (signal ≤ signals)) }
 {
     let process = place * PROCESS_WORDS;
@@ -132,79 +132,78 @@ fn action(ps: &[u64; PROCESS_TABLE], place: usize, signal: u32)
             mask,
         ];
         say(
+            rt,
             b"action process=A signal=B handler=C flags=D mask=#E\n",
             0,
             &words,
-        );
+        )?;
     }
+    Ok(())
 }
 
-fn actions(ps: &[u64; PROCESS_TABLE], place: usize)
+fn actions(rt: &impl Print, ps: &[u64; PROCESS_TABLE], place: usize) -> io::Result<()>
     requires { place < process_places }
 {
-    let mut s: u32 = 1;
-    while s <= SIGNALS {
-        action(ps, place, s);
-        s += 1;
+    for s in 1..=SIGNALS {
+        action(rt, ps, place, s)?;
     }
+    Ok(())
 }
 
 // A live process; nothing of a free place.
-fn process(ps: &[u64; PROCESS_TABLE], place: usize)
+fn process(rt: &impl Print, ps: &[u64; PROCESS_TABLE], place: usize) -> io::Result<()>
     requires { place < process_places }
 {
     let at = place * PROCESS_WORDS;
     if ps[at + PROCESS_ID] == 0 {
-        return;
+        return Ok(());
     }
-    let all = &ps[..];
     say(
+        rt,
         b"process id=A real=B effective=C saved=D session=E stopped=F marks@G\n",
         0,
-        &all[at..at + HEAD_WORDS],
-    );
-    actions(ps, place);
+        &ps[at..at + HEAD_WORDS],
+    )?;
+    actions(rt, ps, place)
 }
 
-fn processes(ps: &[u64; PROCESS_TABLE]) {
-    let mut place: usize = 0;
-    while place < PROCESS_PLACES {
-        process(ps, place);
-        place += 1;
+fn processes(rt: &impl Print, ps: &[u64; PROCESS_TABLE]) -> io::Result<()> {
+    for place in 0..PROCESS_PLACES {
+        process(rt, ps, place)?;
     }
+    Ok(())
 }
 
 // A live thread; nothing of a free place.
-fn thread(ts: &[u64; THREAD_TABLE], place: usize)
+fn thread(rt: &impl Print, ts: &[u64; THREAD_TABLE], place: usize) -> io::Result<()>
     requires { place < thread_places }
 {
     let at = place * THREAD_WORDS;
     if ts[at + THREAD_ID] == 0 {
-        return;
+        return Ok(());
     }
-    let all = &ts[..];
     say(
+        rt,
         b"thread id=A process=B mask=#C marks@D\n",
         0,
-        &all[at..at + THREAD_WORDS],
-    );
+        &ts[at..at + THREAD_WORDS],
+    )
 }
 
-fn threads(ts: &[u64; THREAD_TABLE]) {
-    let mut place: usize = 0;
-    while place < THREAD_PLACES {
-        thread(ts, place);
-        place += 1;
+fn threads(rt: &impl Print, ts: &[u64; THREAD_TABLE]) -> io::Result<()> {
+    for place in 0..THREAD_PLACES {
+        thread(rt, ts, place)?;
     }
+    Ok(())
 }
 
 // A record in use; nothing of a free slot.
-fn record(b: &[u8; BUFFER_BYTES], slot: usize)
+fn record(rt: &impl Print, b: &[u8; BUFFER_BYTES], slot: usize) -> io::Result<()>
     requires { slot < buffer_records }
 {
     let r = siginfo::read(b, slot);
     if r.process == 0 {
-        return;
+        return Ok(());
     }
     let words = [
         r.process as u64,
@@ -216,29 +215,30 @@ fn record(b: &[u8; BUFFER_BYTES], slot: usize)
         r.value,
     ];
     say(
+        rt,
         b"record process=A thread=B signal=C code=~D sender=E uid=F value=G\n",
         0,
         &words,
-    );
+    )
 }
 
-fn records(b: &[u8; BUFFER_BYTES]) {
-    let mut slot: usize = 0;
-    while slot < BUFFER_RECORDS {
-        record(b, slot);
-        slot += 1;
+fn records(rt: &impl Print, b: &[u8; BUFFER_BYTES]) -> io::Result<()> {
+    for slot in 0..BUFFER_RECORDS {
+        record(rt, b, slot)?;
     }
+    Ok(())
 }
 
 // Writes a line for all that is in use of the tables.
 pub fn tables(
+    rt: &impl Print,
     ps: &[u64; PROCESS_TABLE],
     ts: &[u64; THREAD_TABLE],
     tb: &[u8; BUFFER_BYTES],
     pb: &[u8; BUFFER_BYTES],
-) {
-    processes(ps);
-    threads(ts);
-    records(tb);
-    records(pb);
+) -> io::Result<()> {
+    processes(rt, ps)?;
+    threads(rt, ts)?;
+    records(rt, tb)?;
+    records(rt, pb)
 }

@@ -35,12 +35,11 @@ fn hand_back(ts: &mut [Thread], ws: &[u64], number: u32, thread: u32)
     }
 }
 
-// ---- what a host links
+// ---- what a host calls; rrezhbuta_c is what it links
 
 // One call by its number, on the words of the row. Returns 0, with the answer's words in `out`, or an errno;
 // then nothing is written.
-#[unsafe(no_mangle)]
-pub extern "C" fn rrezhbuta_call(
+pub fn rrezhbuta_call(
     ps: &mut [u64],
     tb: &mut [u8],
     pb: &mut [u8],
@@ -94,10 +93,9 @@ pub fn look_part<'a>(ps: &[u64], tb: &'a [u8], pb: &'a [u8], ts: &[Thread], thre
     looking::look_part(ps, &ws, tb, pb, thread)
 }
 
-// The same for a host that links it, which cannot be handed a part: 0 for the empty one,
+// The same for a host that calls it from C, which cannot be handed a part: 0 for the empty one,
 // then the slots of the thread buffer from 1 on, then those of the process buffer.
-#[unsafe(no_mangle)]
-pub extern "C" fn rrezhbuta_look_slot(
+pub fn rrezhbuta_look_slot(
     ps: &[u64],
     tb: &[u8],
     pb: &[u8],

@@ -1,5 +1,6 @@
 // Signal sets. Signal s, from 1 to 64, is bit s - 1.
 #![tactic(auto)]
+
 ghost use Rattle.std.specs.Prelude.{◌≡◌};
 ghost use Rattle.sigset.specs.Set.{has, union, without, intersect, maskable, of_signal, lowest, bits};
 
@@ -76,9 +77,8 @@ impl SigSet {
     }
 }
 
-// The same for a host that links it.
-#[unsafe(no_mangle)]
-pub extern "C" fn rrezhbuta_lowest(set: u64) -> u32
+// The same under the name that a host calls; sigset_c is what it links.
+pub fn rrezhbuta_lowest(set: u64) -> u32
     ensures { result ≡ lowest (bits set) }
 {
     SigSet::lowest(SigSet(set))

@@ -44,9 +44,8 @@ pub fn sound(ps: &[u64], ts: &[u64], tb: &[u8], pb: &[u8]) -> bool
     contents_ok(ps, ts, tb, pb)
 }
 
-// The same for a host that links it.
-#[unsafe(no_mangle)]
-pub extern "C" fn rrezhbuta_sound(ps: &[u64], ts: &[u64], tb: &[u8], pb: &[u8]) -> bool
+// The same under the name that a host calls; sound_c is what it links.
+pub fn rrezhbuta_sound(ps: &[u64], ts: &[u64], tb: &[u8], pb: &[u8]) -> bool
     ensures { result ≡ sound_tables (lent ps.now ts.now tb.now pb.now) }
 {
     sound(ps, ts, tb, pb)

@@ -2,12 +2,14 @@
 // After each it writes the call, its answer, and what the tables then say, read from their words and bytes.
 // host/ledger reads it.
 #![tactic(auto)]
+
 use limits::{
     ANSWER_WORDS, BUFFER_BYTES, CALL_ADD_PROCESS, CALL_ADD_THREAD, CALL_CLEAR, CALL_KILL,
     CALL_LOOK, CALL_SIGACTION, CALL_SIGMASK, CALL_SIGPENDING, CALL_SIGQUEUE, CALL_SIGRETURN,
     CALL_TAKE, CALL_WHO, PROCESS_TABLE, SA_SIGINFO, SIG_IGN, SIG_UNBLOCK, SIGCONT, SIGKILL,
     SIGSTOP, SIGTSTP, THREAD_TABLE,
 };
+use std::io;
 
 // The operator's process and its thread.
 const OPERATOR: u32 = 1;
@@ -45,7 +47,7 @@ const GIVEN: u32 = 1;
 // ---- the history
 
 // A call with its arguments in the documented order, but that the three user ids of a process are one.
-#[derive(Drop)]
+#[derive(Clone, Copy)]
 enum Row {
     Clear,
     // id, user, session, thread, mask
@@ -110,7 +112,7 @@ fn row_at(k: u64) -> Row {
 // ---- one call
 
 // A call's number and its arguments, those of 32 bits before those of 64.
-#[derive(Drop)]
+#[derive(Clone, Copy)]
 struct Call(u32, u32, u32, u32, u32, u32, u32, u64, u64, u64);
 
 fn call_of(row: Row) -> Call {
@@ -135,12 +137,13 @@ fn call_of(row: Row) -> Call {
 }
 
 // The call in its documented form; the texts stand in the order of the call numbers.
-fn show_call(c: Call) {
+fn show_call(rt: &impl Print, c: Call) -> io::Result<()> {
     let words = [
         c.1 as u64, c.2 as u64, c.3 as u64, c.4 as u64, c.5 as u64, c.6 as u64, c.7, c.8, c.9,
     ];
-    printing::write(b"call ");
+    printing::write(rt, b"call ")?;
     printing::say(
+        rt,
         b"|clear\
         |add_process id=A real=B effective=C saved=D session=E thread=F mask=G\
         |add_thread creator=A id=B\
@@ -157,13 +160,14 @@ fn show_call(c: Call) {
         |return thread=A mask=G",
         c.0 as u64,
         &words,
-    );
+    )
 }
 
 // The answer in docs/CALLS.md's words; the texts stand in the order of the first words, a refusal's before them.
-fn show_answer(out: &[u64; ANSWER_WORDS]) {
-    printing::write(b"\nanswer ");
+fn show_answer(rt: &impl Print, out: &[u64; ANSWER_WORDS]) -> io::Result<()> {
+    printing::write(rt, b"\nanswer ")?;
     printing::say(
+        rt,
         b"refused B\
         |done\
         |tested\
@@ -187,39 +191,39 @@ fn show_answer(out: &[u64; ANSWER_WORDS]) {
         |no action B",
         out[0],
         out,
-    );
-    printing::write(b"\n");
+    )?;
+    printing::write(rt, b"\n")
 }
 
 // Makes a call and writes it, its answer and the tables after it.
 fn run(
+    rt: &impl Print,
     ps: &mut [u64; PROCESS_TABLE],
     ts: &mut [u64; THREAD_TABLE],
     tb: &mut [u8; BUFFER_BYTES],
     pb: &mut [u8; BUFFER_BYTES],
     c: Call,
-) {
-    show_call(c);
+) -> io::Result<()> {
+    show_call(rt, c)?;
     let mut out = [0u64; ANSWER_WORDS];
     let errno = boundary::serve(
         ps, ts, tb, pb, &mut out, c.0, c.1, c.2, c.3, c.4, c.5, c.6, c.7, c.8, c.9,
     );
     // a refusal has written nothing; its errno goes where an answer has its first value
     out[1] = out[1] | errno;
-    show_answer(&out);
-    printing::tables(ps, ts, tb, pb);
+    show_answer(rt, &out)?;
+    printing::tables(rt, ps, ts, tb, pb)
 }
 
-fn main() {
+fn main(rt: HostRuntime) -> io::Result<()> {
     let mut ps = [0u64; PROCESS_TABLE];
     let mut ts = [0u64; THREAD_TABLE];
     let mut tb = [0u8; BUFFER_BYTES];
     let mut pb = [0u8; BUFFER_BYTES];
     // as many as the table has
     let rows: u64 = 27;
-    let mut k: u64 = 0;
-    while k < rows {
-        run(&mut ps, &mut ts, &mut tb, &mut pb, call_of(row_at(k)));
-        k += 1;
+    for k in 0..rows {
+        run(&rt, &mut ps, &mut ts, &mut tb, &mut pb, call_of(row_at(k)))?;
     }
+    Ok(())
 }

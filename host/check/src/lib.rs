@@ -2,9 +2,7 @@
 //! it.
 
 /// The capacities, offsets and numbers, from the one file that names them.
-pub mod limits {
-    include!("../../../crates/limits/src/lib.rt");
-}
+pub use rrezhbuta_limits as limits;
 
 pub mod plain;
 pub mod samples;

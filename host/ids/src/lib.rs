@@ -2,9 +2,7 @@
 //! searches place by place; the ids of a family meet in these slots, so that tests reach every turn of that search.
 
 /// The capacities, from the one file that names them.
-pub mod limits {
-    include!("../../../crates/limits/src/lib.rt");
-}
+pub use rrezhbuta_limits as limits;
 
 /// How many slots there are for hints.
 pub const HINTS: u32 = 4 * limits::THREAD_PLACES as u32;

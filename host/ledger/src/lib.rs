@@ -2,9 +2,7 @@
 //! call.
 
 /// The capacities and numbers, from the one file that names them.
-pub mod limits {
-    include!("../../../crates/limits/src/lib.rt");
-}
+pub use rrezhbuta_limits as limits;
 
 pub mod acts;
 pub mod call;

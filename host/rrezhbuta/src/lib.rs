@@ -14,10 +14,7 @@
 //! ```
 
 /// The capacities, offsets and numbers, from the one file that names them.
-#[allow(missing_docs)]
-pub mod limits {
-    include!("../../../crates/limits/src/lib.rt");
-}
+pub use rrezhbuta_limits as limits;
 
 mod answer;
 mod call;
