@@ -5,9 +5,9 @@ use mathlib.Core.Path.{◌≡◌, refl, sym, ap, ◌∙◌}
 use mathlib.Core.Bool.{Bool, true, false, not, ◌&&◌, cond}
 use mathlib.Core.List.{List, []}
 use native.Mathlib.Omega.{arith}
-use lib.Dec.{T, eqb}
+use lib.Dec.{eqb}
 use lib.ListN.{length}
-use borrow.Author.Tests.{ne_eqb, eqb-false}
+use borrow.Author.Tests.{ne_eqb}
 use Rattle.limits.specs.Limits.{EFAULT, EINVAL, thread_places, thread_table, process_table, buffer_bytes, call_clear}
 use Rattle.lists.proofs.Rows.{nil-of}
 use Rattle.lists.proofs.Bools.{split, and_left, and_right, cond-true, cond-false}
@@ -24,20 +24,14 @@ use Rattle.threads.specs.Records.{words_of}
 use Rattle.threads.proofs.Words.{words-length, records-back}
 use Rattle.rrezhbuta.specs.Entry.{Host, host, handed_back, call_on, look_at, slot_at}
 
-not_so : (b : Bool) → T (not b) → b ≡ false
-not_so true t = absurd t
-not_so false t = refl
-
-module _ (ps tb pb : List ℕ) (ts : List Thread) (o : T (not (eqb (length ts) thread_places))) where
+module _ (ps tb pb : List ℕ) (ts : List Thread) (o : length ts ≡ thread_places → ⊥) where
   abbrev before : Lent
   before = lent ps (words_of ts) tb pb
 
   short : lengths_are (lent ps (words_of ts) tb pb) ≡ false
   unfolding lengths_are
   short =
-      let f : length ts ≡ thread_places → ⊥ =
-      eqb-false (length ts) thread_places (not_so (eqb (length ts) thread_places) o) in
-      let g : length (words_of ts) ≡ thread_table → ⊥ = λ e. f (omega (arith, e, words-length ts)) in
+      let g : length (words_of ts) ≡ thread_table → ⊥ = λ e. o (omega (arith, e, words-length ts)) in
       and_right (eqb (length ps) process_table)
       (and_left (eqb (length tb) buffer_bytes && eqb (length pb) buffer_bytes)
       (ne_eqb (length (words_of ts)) thread_table g))
@@ -79,15 +73,15 @@ module _ (ps tb pb : List ℕ) (ts : List Thread) (o : T (not (eqb (length ts) t
         ap (λ (us : List Thread). (host ps tb pb out us, EFAULT)) (sym (records-back ts))
         ∙ ap (λ (k : Lent × Answer). handed_back (length ts) (served_by out k)) (sym refused-here)
 
-pub wrong-length : (h : Host) (number : ℕ) (g : Arguments) → T (not (eqb (length h.threads) thread_places))
+pub wrong-length : (h : Host) (number : ℕ) (g : Arguments) → (length h.threads ≡ thread_places → ⊥)
     → (h, EFAULT) ≡ call_on number g h
 wrong-length h number g o =
     wrong-length-here h.processes h.thread_buffer h.process_buffer h.threads o h.answer number g
 
-pub no-look : (ps tb pb : List ℕ) (ts : List Thread) (thread : ℕ) (r : List ℕ) → T (not (eqb (length ts) thread_places))
+pub no-look : (ps tb pb : List ℕ) (ts : List Thread) (thread : ℕ) (r : List ℕ) → (length ts ≡ thread_places → ⊥)
     → length r ≡ 0 → r ≡ look_at ps tb pb ts thread
 no-look ps tb pb ts thread r o e = no-look-here ps tb pb ts o thread r e
 
-pub no_slot : (ps tb pb : List ℕ) (ts : List Thread) (thread : ℕ) → T (not (eqb (length ts) thread_places))
+pub no_slot : (ps tb pb : List ℕ) (ts : List Thread) (thread : ℕ) → (length ts ≡ thread_places → ⊥)
     → 0 ≡ slot_at ps tb pb ts thread
 no_slot ps tb pb ts thread o = no-slot-here ps tb pb ts o thread

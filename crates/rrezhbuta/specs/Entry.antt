@@ -1,13 +1,11 @@
 -- One call as a host makes it: its tables, of which the thread table is a row of records, and the words that it lends
 -- for the answer.
 use Rattle.std.specs.Prelude.{ℕ, ◌||◌, cond, List, eqb, length}
-use Rattle.std.specs.Borrow.{Bor}
-use denote.Triple.Both.{Both}
 use Rattle.limits.specs.Limits.{thread_places, call_sigmask, call_sigreturn}
 use Rattle.lists.specs.Lists.{find}
 use Rattle.sigset.specs.declared.SigSet.{SigSet}
 use Rattle.tables.specs.Tables.{thread_at, held_threads, has_thread_id}
-use Rattle.sound.specs.Lent.{Lent, lent, Slices}
+use Rattle.sound.specs.Lent.{Lent, lent}
 use Rattle.looking.specs.Looks.{look_bytes, look_slot}
 use Rattle.boundary.specs.Boundary.{Arguments, Served, served}
 use Rattle.threads.specs.declared.Thread.{Thread}
@@ -42,16 +40,6 @@ handed_back n s = (
 -- one call: what the host holds after it, and what is returned
 unfoldable pub call_on : (number : ℕ) → Arguments → Host → Host × ℕ
 call_on n g h = handed_back (length h.threads) (served n g h.answer (lent_by h))
-
--- what a contract names: before the call and after it
-abbrev pub Rows : Type 0
-Rows = Both (Bor (List Thread)) (Bor (List Thread))
-
-abbrev pub host_before : (ps tb pb out : Slices) → Rows → Host
-host_before ps tb pb out ts = host ps.entry.now tb.entry.now pb.entry.now out.entry.now ts.entry.now
-
-abbrev pub host_after : (ps tb pb out : Slices) → Rows → Host
-host_after ps tb pb out ts = host ps.exit.now tb.exit.now pb.exit.now out.exit.now ts.exit.now
 
 -- the mask of the first thread with that id, in words; empty where none has it
 unfoldable pub mask_in : List ℕ → ℕ → SigSet

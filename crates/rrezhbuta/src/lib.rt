@@ -3,7 +3,7 @@
 ghost use Rattle.std.specs.Prelude.{◌≡◌, length};
 ghost use Rattle.limits.specs.Limits.{thread_places, thread_table};
 ghost use Rattle.boundary.specs.Boundary.{arguments};
-ghost use Rattle.rrezhbuta.specs.Entry.{call_on, host_before, host_after, mask_in, row_after, look_at, slot_at};
+ghost use Rattle.rrezhbuta.specs.Entry.{host, call_on, mask_in, row_after, look_at, slot_at};
 
 use limits::{CALL_SIGMASK, CALL_SIGRETURN, EFAULT, THREAD_MASK, THREAD_PLACES, THREAD_TABLE};
 use sigset::SigSet;
@@ -56,8 +56,8 @@ pub fn rrezhbuta_call(
     y: u64,
     z: u64,
 ) -> u64
-    ensures { (host_after ps tb pb out ts, result)
-        ≡ call_on number (arguments a b c d e f x y z) (host_before ps tb pb out ts) }
+    ensures { (host ps.new tb.new pb.new out.new ts.new, result)
+        ≡ call_on number (arguments a b c d e f x y z) (host ps.old tb.old pb.old out.old ts.old) }
 {
     if ts.len() != THREAD_PLACES {
         return EFAULT as u64;
