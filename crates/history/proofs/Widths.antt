@@ -17,7 +17,8 @@ use Rattle.types.specs.declared.Siginfo.{Siginfo}
 use Rattle.types.specs.Values.{no_siginfo}
 use Rattle.siginfo.specs.Bytes.{u32_bytes, u64_bytes, Fits}
 use Rattle.siginfo.proofs.Slots.{fits-no_siginfo}
-use Rattle.rules.specs.Types.{Process, Thread, Queue, Call, sigqueue}
+use Rattle.rules.specs.Types.{Process, Thread, Queue, Call, clear, add_process, add_thread, end_process, end_thread}
+use Rattle.rules.specs.Types.{kill, sigqueue, sigaction, sigmask, sigpending, look, who, take, sigreturn}
 use Rattle.rules.specs.View.{Change, forget, new_process, new_thread, remove_process, remove_thread, set_stopped, set_action}
 use Rattle.rules.specs.View.{set_mask, set_mark, clear_mark, append, drop_oldest, discard, queue_of, in_queue}
 use Rattle.rules.specs.Store.{Place, Store, cleared, used, view, on_slots, on_buffer, apply, apply_all}
@@ -179,7 +180,20 @@ brings-quiet =
 -- what a call of machine numbers keeps has its widths
 kept-fits : (st : Store) → sound st ≡ true → (c : Call) → machine c ≡ true → (r : Siginfo)
     → Keeps (view st) c r → Fits r
+kept-fits st e clear u r k = elim k [ ]
+kept-fits st e (add_process new) u r k = elim k [ ]
+kept-fits st e (add_thread creator id) u r k = elim k [ ]
+kept-fits st e (end_process id) u r k = elim k [ ]
+kept-fits st e (end_thread id) u r k = elim k [ ]
+kept-fits st e (kill by to t s) u r k = elim k [ ]
 kept-fits st e (sigqueue by to t s value) u r (queued f) = info-fits st e by to t s value u
+kept-fits st e (sigaction p s new) u r k = elim k [ ]
+kept-fits st e (sigmask t way set) u r k = elim k [ ]
+kept-fits st e (sigpending t) u r k = elim k [ ]
+kept-fits st e (look t) u r k = elim k [ ]
+kept-fits st e (who p) u r k = elim k [ ]
+kept-fits st e (take t) u r k = elim k [ ]
+kept-fits st e (sigreturn t saved) u r k = elim k [ ]
 
 -- every call leaves records of their widths; a refused one leaves the store that it found
 pub widths-step : (c : Call) (st : Store) → machine c ≡ true → sound st ≡ true → Widths st → Widths (step c st).0
