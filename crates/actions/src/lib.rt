@@ -1,5 +1,6 @@
 // Actions: sigaction.
 #![tactic(auto)]
+
 ghost use Rattle.std.specs.Prelude.{◌≡◌};
 ghost use Rattle.rules.specs.Types as call;
 ghost use Rattle.rules.specs.Actions.{stored};

@@ -10,7 +10,8 @@ use Rattle.rules.specs.Types.{add_thread}
 use Rattle.rules.specs.View.{View, is_thread, live_thread}
 use Rattle.rules.specs.Store.{is_free_thread, view}
 use Rattle.rules.specs.Sound.{good_id}
-use Rattle.rules.specs.Refusals.{Row, rows, is_clear, bad_id, no_thread_live, no_thread_place, einval, esrch, eexist, eagain}
+use Rattle.rules.specs.Refusals.{Row, rows, is_clear, bad_id, no_thread_live, no_thread_place, einval, esrch, eexist}
+use Rattle.rules.specs.Refusals.{eagain}
 use Rattle.tables.specs.Tables.{held_threads}
 use Rattle.sound.specs.Lent.{Lent, decoded, view_of, sound_tables}
 use Rattle.answers.specs.Step.{refusal_on}

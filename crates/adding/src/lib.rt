@@ -1,5 +1,6 @@
 // Adding processes and threads.
 #![tactic(auto)]
+
 ghost use Rattle.std.specs.Prelude.{◌≡◌};
 ghost use Rattle.rules.specs.Types as call;
 ghost use Rattle.sound.specs.Lent.{lent};

@@ -46,7 +46,8 @@ module _ (n room : ℕ) (t : accepted n room ≡ true) where
   pub accepted-room : answer_words ≤ room
   unfolding accepted
   accepted-room =
-      ltb-false room answer_words (not-true (ltb room answer_words) (and-snd (is_call n) (not (ltb room answer_words)) t))
+      ltb-false room answer_words (not-true (ltb room answer_words)
+      (and-snd (is_call n) (not (ltb room answer_words)) t))
 
 -- ---- the end of a call
 

@@ -2,9 +2,12 @@
 use Rattle.std.specs.Prelude.{ℕ, ◌-◌, Bool, not, ◌&&◌, cond, List, [], ◌∷◌, ◌++◌, eqb, ltb, get_or, drop, length}
 use Rattle.std.proofs.Math.Option.{Option, some, none}
 use Rattle.limits.specs.Limits.{EFAULT, EINVAL, call_clear, call_sigreturn, answer_done, answer_tested, answer_acted}
-use Rattle.limits.specs.Limits.{answer_dropped, answer_absorbed, answer_marked, answer_kept, answer_old_action, answer_old_mask}
-use Rattle.limits.specs.Limits.{answer_pending_set, answer_next_nothing, answer_next_mark, answer_next_record, answer_can_take}
-use Rattle.limits.specs.Limits.{answer_none_can, answer_nothing, answer_handler, answer_end, answer_stop, answer_no_action}
+use Rattle.limits.specs.Limits.{answer_dropped, answer_absorbed, answer_marked, answer_kept, answer_old_action}
+use Rattle.limits.specs.Limits.{answer_old_mask}
+use Rattle.limits.specs.Limits.{answer_pending_set, answer_next_nothing, answer_next_mark, answer_next_record}
+use Rattle.limits.specs.Limits.{answer_can_take}
+use Rattle.limits.specs.Limits.{answer_none_can, answer_nothing, answer_handler, answer_end, answer_stop}
+use Rattle.limits.specs.Limits.{answer_no_action}
 use Rattle.limits.specs.Limits.{answer_words}
 use Rattle.lists.specs.Lists.{padded}
 use Rattle.sigset.specs.Set.{bits}

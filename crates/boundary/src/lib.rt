@@ -1,5 +1,6 @@
 // The C boundary over the word tables: a call by its number, with its arguments as numbers, and its answer as words.
 #![tactic(auto)]
+
 ghost use Rattle.std.specs.Prelude.{◌≡◌, true, cond, [], ◌∷◌, ◌++◌, ◌≤◌, length, drop};
 ghost use Rattle.limits.specs.Limits.{EFAULT, EINVAL, answer_words};
 ghost use Rattle.lists.specs.Lists.{padded};

@@ -1,5 +1,6 @@
 // Every call by its value: what a host hands in, and what the layer answers.
 #![tactic(auto)]
+
 ghost use Rattle.std.specs.Prelude.{◌≡◌};
 ghost use Rattle.sound.specs.Lent.{lent};
 ghost use Rattle.answers.specs.Step.{step_on, stepped};

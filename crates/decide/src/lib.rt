@@ -1,5 +1,6 @@
 // Tests on single values: what a signal, an action, a set or an id is.
 #![tactic(auto)]
+
 ghost use Rattle.std.specs.Prelude.{◌≡◌, eqb};
 ghost use Rattle.std.specs.Int.Bits.{bit_and};
 ghost use Rattle.limits.specs.Limits.{known_flags};

@@ -30,7 +30,8 @@ module _ (xs ys : List Change) (st : Store) where
   module _ (st' : Store) (e : st' ≡ apply_all xs st) where
     pub second-part-fits : fits_all (xs ++ ys) st ≡ true → fits_all ys st' ≡ true
     second-part-fits f =
-        ap (fits_all ys) e ∙ and-snd (fits_all xs st) (fits_all ys (apply_all xs st)) (sym (fits_all-append xs ys st) ∙ f)
+        ap (fits_all ys) e ∙ and-snd (fits_all xs st) (fits_all ys (apply_all xs st))
+        (sym (fits_all-append xs ys st) ∙ f)
 
     pub then-part : (st'' : Store) → st'' ≡ apply_all ys st' → st'' ≡ apply_all (xs ++ ys) st
     then-part st'' h = h ∙ ap (apply_all ys) e ∙ sym (apply_all-append xs ys st)

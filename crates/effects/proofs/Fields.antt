@@ -11,7 +11,8 @@ use Rattle.sigset.specs.declared.SigSet.{SigSet}
 use Rattle.types.specs.declared.Action.{Action}
 use Rattle.rules.specs.View.{is_process, is_thread, live_process, live_thread, set_stopped, set_action, set_mask}
 use Rattle.rules.specs.Store.{apply}
-use Rattle.tables.specs.Tables.{processes_of, threads_of, held_processes, held_threads, process_at, thread_at, with_field}
+use Rattle.tables.specs.Tables.{processes_of, threads_of, held_processes, held_threads, process_at, thread_at}
+use Rattle.tables.specs.Tables.{with_field}
 use Rattle.tables.specs.Tables.{with_thread_field, headed, head_to, thread_from, thread_to, acted}
 use Rattle.sound.specs.Lent.{Lent, lent, decoded, view_of, sound_tables}
 use Rattle.effects.proofs.Places.{with_all, process-changed, thread-changed}

@@ -12,7 +12,8 @@ use Rattle.sigset.specs.Set.{Signal}
 use Rattle.types.specs.declared.Action.{Action}
 use Rattle.types.specs.declared.Siginfo.{Siginfo}
 use Rattle.rules.specs.Types.{Queue}
-use Rattle.rules.specs.View.{View, remove_process, remove_thread, set_stopped, set_action, set_mask, set_mark, clear_mark}
+use Rattle.rules.specs.View.{View, remove_process, remove_thread, set_stopped, set_action, set_mask, set_mark}
+use Rattle.rules.specs.View.{clear_mark}
 use Rattle.rules.specs.View.{append, discard, queue_of, live_process, live_thread, the_thread}
 use Rattle.rules.specs.Sound.{unmasked, nameable}
 use Rattle.rules.specs.Adding.{other_thread}

@@ -18,7 +18,8 @@ use Rattle.sigset.specs.Set.{bits}
 use Rattle.rules.specs.Types.{Process, Thread}
 use Rattle.rules.specs.View.{is_process, is_thread, belongs_to}
 use Rattle.rules.specs.Store.{Place, free_thread, vacate}
-use Rattle.tables.specs.Tables.{processes_of, threads_of, held_processes, held_threads, process_at, thread_at, head_to, headed}
+use Rattle.tables.specs.Tables.{processes_of, threads_of, held_processes, held_threads, process_at, thread_at, head_to}
+use Rattle.tables.specs.Tables.{headed}
 use Rattle.tables.specs.Tables.{thread_to, thread_from, with_field, with_thread_field}
 use Rattle.tables.proofs.Words.{length-threads_of}
 use Rattle.effects.specs.declared.Marking.{Marking}

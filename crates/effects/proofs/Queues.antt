@@ -19,7 +19,8 @@ use Rattle.rules.specs.Store.{Place, Store, held, free_process, free_thread, on_
 use Rattle.rules.specs.Sound.{if_free, thread_id, zero_thread, sound}
 use Rattle.rules.specs.Fitting.{live_queue, fits}
 use Rattle.rules.proofs.Facts.{one-process, one-thread}
-use Rattle.rules.proofs.Marks.{process_with, thread_with, the-thread, process-is, thread-is, process-named, thread-named}
+use Rattle.rules.proofs.Marks.{process_with, thread_with, the-thread, process-is, thread-is, process-named}
+use Rattle.rules.proofs.Marks.{thread-named}
 use Rattle.rules.proofs.Marks.{queue-same, same_queue_lem, same-comm, not-of-process, not-of-thread}
 use Rattle.rules.proofs.ClausesByTable.{parts}
 use Rattle.rules.proofs.Queues.{target-process, target-thread, target-owner, queue-target}
@@ -116,7 +117,8 @@ module _ (l : Lent) (e : sound_tables l ≡ true) (n t : ℕ) (live : live_queue
       ≡ on_marks (marking how (target_queue n i)) st)
       (sym z)
       (with_all (lent ps' l.threads l.thread_buffer l.process_buffer)
-      (k ∙ sym (process-marks-set st s (marked_by how) n x)) (sym (thread-marks-kept st s (marked_by how) n x)) refl refl)
+      (k ∙ sym (process-marks-set st s (marked_by how) n x)) (sym (thread-marks-kept st s (marked_by how) n x)) refl
+      refl)
 
   thread-store : eqb t 0 ≡ false → (ts' : List ℕ)
       → threads_of ts' ≡ set (threads_of l.threads) (find (is_thread t) (held_threads l.threads))

@@ -2,11 +2,14 @@
 // what they say after it is what the rules' `apply` makes of what they said before, and sound tables stay sound.
 // A table that a change does not touch is lent to it for reading: soundness is of all four.
 #![tactic(auto)]
+
 ghost use Rattle.std.specs.Prelude.{◌≡◌, true, [], ◌∷◌, map, length, set};
 ghost use Rattle.limits.specs.Limits.{thread_table, process_table};
 ghost use Rattle.lists.specs.Lists.{any, find};
-ghost use Rattle.rules.specs.View.{is_process, is_thread, belongs_to, target_queue, forget, remove_process, remove_thread};
-ghost use Rattle.rules.specs.View.{set_stopped, set_action, set_mask, set_mark, clear_mark, append, drop_oldest, discard};
+ghost use Rattle.rules.specs.View.{is_process, is_thread, belongs_to, target_queue, forget, remove_process};
+ghost use Rattle.rules.specs.View.{remove_thread};
+ghost use Rattle.rules.specs.View.{set_stopped, set_action, set_mask, set_mark, clear_mark, append, drop_oldest};
+ghost use Rattle.rules.specs.View.{discard};
 ghost use Rattle.rules.specs.Store.{free_thread, is_free_process, is_free_thread, vacate, fill, apply};
 ghost use Rattle.rules.specs.Actions.{store_changes};
 ghost use Rattle.rules.specs.Adding.{added_process};

@@ -1,5 +1,6 @@
 // Ending processes and threads.
 #![tactic(auto)]
+
 ghost use Rattle.std.specs.Prelude.{◌≡◌, ◌<◌, length, get_or};
 ghost use Rattle.limits.specs.Limits.{thread_table, thread_places};
 ghost use Rattle.lists.specs.Lists.{any};

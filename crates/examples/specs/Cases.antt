@@ -244,7 +244,8 @@ reset_handler =
           one empty ∷ sigaction 100 10 (some (handling sa_resethand 2048)) ∷ kill 100 100 0 10 ∷ take 200 ∷ mask_now
           ∷ sigaction 100 10 none ∷ [];
       expected =
-          done ∷ old_action default_action ∷ marked ∷ handler 5000 10 (of_mark 10) sa_resethand empty ∷ old_mask (bits 2560)
+          done ∷ old_action default_action ∷ marked ∷ handler 5000 10 (of_mark 10) sa_resethand empty
+          ∷ old_mask (bits 2560)
           ∷ old_action (record { handler = 0; flags = sa_resethand; mask = bits 2048 }) ∷ [];
     }
 

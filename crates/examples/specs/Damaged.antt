@@ -1,9 +1,11 @@
 -- Soundness, clause by clause: for each clause stores that it alone refuses, and stores at the edge that none refuses.
 -- Two parts have none of their own, since they follow from what stands beside them:
 -- that a live id is at least 1, and that the thread is live of which a record names the process.
-use Rattle.std.specs.Prelude.{ℕ, suc, ◌-◌, ◌≡◌, refl, Bool, true, not, cond, List, [], ◌∷◌, ◌++◌, map, eqb, take as firsts, replicate}
+use Rattle.std.specs.Prelude.{ℕ, suc, ◌-◌, ◌≡◌, refl, Bool, true, not, cond, List, [], ◌∷◌, ◌++◌, map, eqb}
+use Rattle.std.specs.Prelude.{take as firsts, replicate}
 use Rattle.limits.specs.Limits.{process_places, thread_places, buffer_records, signals, record_limit, largest_id}
-use Rattle.limits.specs.Limits.{largest_user, known_flags, si_queue, sig_ign, sa_siginfo, SIGKILL, SIGSTOP, SIGCHLD, EFAULT}
+use Rattle.limits.specs.Limits.{largest_user, known_flags, si_queue, sig_ign, sa_siginfo, SIGKILL, SIGSTOP, SIGCHLD}
+use Rattle.limits.specs.Limits.{EFAULT}
 use Rattle.lists.specs.Lists.{range}
 use Rattle.sigset.specs.declared.SigSet.{SigSet}
 use Rattle.sigset.specs.Set.{bits, empty}
@@ -13,10 +15,12 @@ use Rattle.types.specs.Values.{default_action}
 use Rattle.rules.specs.Types.{Process, Thread, Queue, kill, sigqueue, clear}
 use Rattle.rules.specs.View.{Change, new_process, new_thread, set_stopped, set_action, set_mask, set_mark, append}
 use Rattle.rules.specs.View.{process_queue, is_process}
-use Rattle.rules.specs.Store.{Store, cleared, with_action, amend, map_marks, is_free_process, is_free_thread, on_processes}
+use Rattle.rules.specs.Store.{Store, cleared, with_action, amend, map_marks, is_free_process, is_free_thread}
+use Rattle.rules.specs.Store.{on_processes}
 use Rattle.rules.specs.Store.{on_threads, on_buffer, apply_all}
 use Rattle.rules.specs.Sound.{lengths_right, free_zero, ids_in_range, ids_distinct, fields_in_range, threads_owned}
-use Rattle.rules.specs.Sound.{processes_have_threads, nothing_unmaskable, unmaskable_default, all_flags_known, records_laid_out}
+use Rattle.rules.specs.Sound.{processes_have_threads, nothing_unmaskable, unmaskable_default, all_flags_known}
+use Rattle.rules.specs.Sound.{records_laid_out}
 use Rattle.rules.specs.Sound.{limit_kept, pending_once, nothing_ignored}
 use Rattle.rules.specs.Calls.{run, step}
 use Rattle.rules.specs.Computing.{computing}
@@ -27,7 +31,8 @@ use Rattle.examples.specs.Words.{adds, refused, done}
 unfoldable pub verdicts : Store → List Bool
 verdicts st =
     lengths_right st ∷ free_zero st ∷ ids_in_range st ∷ ids_distinct st ∷ fields_in_range st ∷ threads_owned st
-    ∷ processes_have_threads st ∷ nothing_unmaskable st ∷ unmaskable_default st ∷ all_flags_known st ∷ records_laid_out st
+    ∷ processes_have_threads st ∷ nothing_unmaskable st ∷ unmaskable_default st ∷ all_flags_known st
+    ∷ records_laid_out st
     ∷ limit_kept st ∷ pending_once st ∷ nothing_ignored st ∷ []
 
 abbrev clause_count : ℕ

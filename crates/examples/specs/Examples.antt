@@ -267,7 +267,10 @@ nobody = record { lines = 4; thread = 202; part = empty_part }
 
 pub parts : All Finds (a_mark ∷ nothing_next ∷ a_record ∷ nobody ∷ [])
 unfolding computing quick_computing
-parts = (finds a_mark refl refl, (finds nothing_next refl refl, (finds a_record refl refl, (finds nobody refl refl, tt))))
+parts = (
+  finds a_mark refl refl,
+  (finds nothing_next refl refl, (finds a_record refl refl, (finds nobody refl refl, tt))),
+)
 
 -- beside the story: process 100 alone, with 32 records of 34 pending
 abbrev crowd : List (Call × Answer)

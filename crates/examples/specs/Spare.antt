@@ -17,18 +17,25 @@ use Rattle.lists.proofs.Padded.{all-behind, all-padded, any-padded, first-padded
 use Rattle.types.specs.declared.Siginfo.{Siginfo}
 use Rattle.types.specs.Values.{no_siginfo}
 use Rattle.rules.specs.Types.{Process, Thread, Queue, no_process, no_thread}
-use Rattle.rules.specs.View.{View, is_process, is_thread, belongs_to, live_process, live_thread, the_process, the_thread}
+use Rattle.rules.specs.View.{View, is_process, is_thread, belongs_to, live_process, live_thread, the_process}
+use Rattle.rules.specs.View.{the_thread}
 use Rattle.rules.specs.View.{queue_of, action_of, thread_action}
-use Rattle.rules.specs.Store.{Place, Store, held, free_process, free_thread, in_use, used, process_mark, thread_mark, mark_in}
+use Rattle.rules.specs.Store.{Place, Store, held, free_process, free_thread, in_use, used, process_mark, thread_mark}
+use Rattle.rules.specs.Store.{mark_in}
 use Rattle.rules.specs.Store.{queued_in, of_process, view}
 use Rattle.rules.specs.Signals.{is_signal, ignored}
-use Rattle.rules.specs.Sound.{implies, if_live, if_free, is_live, apart, process_id, thread_id, actions_long, lengths_right}
+use Rattle.rules.specs.Sound.{implies, if_live, if_free, is_live, apart, process_id, thread_id, actions_long}
+use Rattle.rules.specs.Sound.{lengths_right}
 use Rattle.rules.specs.Sound.{zero_process, zero_thread, free_zero}
-use Rattle.rules.specs.Sound.{good_process_id, good_thread_id, ids_in_range, ids_distinct, fields_fit, fields_in_range, belongs}
+use Rattle.rules.specs.Sound.{good_process_id, good_thread_id, ids_in_range, ids_distinct, fields_fit, fields_in_range}
+use Rattle.rules.specs.Sound.{belongs}
 use Rattle.rules.specs.Sound.{has_thread, threads_owned, processes_have_threads, process_unmasked, thread_unmasked}
-use Rattle.rules.specs.Sound.{nothing_unmaskable, kill_stop_default, unmaskable_default, process_flags_known, all_flags_known}
-use Rattle.rules.specs.Sound.{is_zero, rest_zero, nameable, names_live, aimed_at_thread, aimed_at_process, records_laid_out}
-use Rattle.rules.specs.Sound.{within_limit, limit_kept, is_standard, not_twice, not_marked_too, pending_once, record_not_ignored}
+use Rattle.rules.specs.Sound.{nothing_unmaskable, kill_stop_default, unmaskable_default, process_flags_known}
+use Rattle.rules.specs.Sound.{all_flags_known}
+use Rattle.rules.specs.Sound.{is_zero, rest_zero, nameable, names_live, aimed_at_thread, aimed_at_process}
+use Rattle.rules.specs.Sound.{records_laid_out}
+use Rattle.rules.specs.Sound.{within_limit, limit_kept, is_standard, not_twice, not_marked_too, pending_once}
+use Rattle.rules.specs.Sound.{record_not_ignored}
 use Rattle.rules.specs.Sound.{marks_not_ignored, process_not_ignored, thread_not_ignored, nothing_ignored}
 use Rattle.rules.proofs.ClausesByPlace.{own-free-process, own-free-thread}
 use Rattle.rules.proofs.Cleared.{no-id}

@@ -34,7 +34,8 @@ Hinted places hints = (slot : ℕ) → slot < hint_slots → get_or hints slot 0
 unfoldable pub seek : (hints ids : List ℕ) → ℕ → ℕ
 seek hints ids id =
     cond (is_id id (get_or ids (get_or hints (first_slot id) 0) 0)) (get_or hints (first_slot id) 0)
-    (cond (is_id id (get_or ids (get_or hints (second_slot id) 0) 0)) (get_or hints (second_slot id) 0) (find (is_id id) ids))
+    (cond (is_id id (get_or ids (get_or hints (second_slot id) 0) 0)) (get_or hints (second_slot id) 0)
+    (find (is_id id) ids))
 
 -- a place noted for an id, in the first slot where that is unused
 unfoldable pub noted : List ℕ → (id place : ℕ) → List ℕ

@@ -2,6 +2,7 @@
 // search from the first place on. A hint is believed only where the place has that id, so the answer is exact whatever
 // the words are.
 #![tactic(auto)]
+
 ghost use Rattle.std.specs.Prelude.{◌≡◌, ◌*◌, ◌≤◌, ◌<◌, length};
 ghost use Rattle.lists.specs.Lists.{find};
 ghost use Rattle.hints.specs.Hints.{hint_slots, first_slot, second_slot, ids_of, is_id, Hinted, seek, noted};

@@ -17,10 +17,12 @@ use Rattle.types.specs.Values.{no_siginfo}
 use Rattle.rules.specs.Types.{Process, Thread, Queue, no_process, no_thread}
 use Rattle.rules.specs.Signals.{is_signal}
 use Rattle.rules.specs.View.{same_queue, process_queue, Change, forget, new_process, new_thread, remove_process}
-use Rattle.rules.specs.View.{remove_thread, set_stopped, set_action, set_mask, set_mark, clear_mark, append, drop_oldest}
+use Rattle.rules.specs.View.{remove_thread, set_stopped, set_action, set_mask, set_mark, clear_mark, append}
+use Rattle.rules.specs.View.{drop_oldest}
 use Rattle.rules.specs.View.{discard, is_process, is_thread, belongs_to, in_queue, live_thread}
 use Rattle.rules.specs.Store.{Store, held, view, in_use, used, records_for, mark_in, left_by, process_mark, thread_mark}
-use Rattle.rules.specs.Store.{amend, on_processes, free_process, free_thread, is_free_process, is_free_thread, with_stopped}
+use Rattle.rules.specs.Store.{amend, on_processes, free_process, free_thread, is_free_process, is_free_thread}
+use Rattle.rules.specs.Store.{with_stopped}
 use Rattle.rules.specs.Store.{with_action, with_mask, cleared, apply}
 use Rattle.rules.specs.Sound.{if_free, process_id, thread_id, zero_process, zero_thread, nameable, free_zero, sound}
 use Rattle.rules.specs.Fitting.{admits, live_queue, fits}
@@ -113,7 +115,8 @@ module _ (st : Store) (k : Ledger) (a : Agrees st k) where
       }
 
   -- the lowest free place is filled
-  pub agrees-new_process : free_zero st ≡ true → (p : Process) → Agrees (apply (new_process p) st) (note (new_process p) k)
+  pub agrees-new_process : free_zero st ≡ true → (p : Process)
+      → Agrees (apply (new_process p) st) (note (new_process p) k)
   unfolding apply note place records_for
   agrees-new_process z p =
       record {

@@ -17,7 +17,8 @@ use Rattle.rules.specs.Store.{Store, view, is_free_process, is_free_thread}
 use Rattle.rules.specs.Sound.{good_id}
 use Rattle.lists.specs.Lists.{any}
 use Rattle.rules.specs.Sending.{generation, needs_record}
-use Rattle.rules.specs.Refusals.{refusal, rows, table, refusal_of, bad_id, no_thread_live, no_process_place, no_thread_place}
+use Rattle.rules.specs.Refusals.{refusal, rows, table, refusal_of, bad_id, no_thread_live, no_process_place}
+use Rattle.rules.specs.Refusals.{no_thread_place}
 use Rattle.rules.specs.Refusals.{no_room, einval, esrch, eperm, eexist, eagain}
 use Rattle.rules.specs.Calls.{reply, finish, step}
 use Rattle.rules.proofs.Facts.{within-limit}

@@ -17,7 +17,8 @@ use Rattle.lists.proofs.Sums.{sum-ext, sum_same, sum-append, sum-parts, count-ra
 use Rattle.sigset.specs.Set.{Signal}
 use Rattle.types.specs.declared.Siginfo.{Siginfo}
 use Rattle.rules.specs.Types.{Process, Thread, Queue}
-use Rattle.rules.specs.View.{is_process, is_thread, same_queue, process_queue, thread_queue, queue_of, in_queue, live_process}
+use Rattle.rules.specs.View.{is_process, is_thread, same_queue, process_queue, thread_queue, queue_of, in_queue}
+use Rattle.rules.specs.View.{live_process}
 use Rattle.rules.specs.View.{live_thread}
 use Rattle.rules.specs.Store.{Place, Store, held, free_process, free_thread, used, records_for, queued_in, view}
 use Rattle.rules.specs.Sound.{process_id, thread_id, names_live, aimed_at_thread, aimed_at_process, sound}

@@ -6,7 +6,8 @@ use mathlib.Core.List.{List, [], ◌∷◌, append-nil}
 use lib.Dec.{eqb}
 use lib.ListN.{length}
 use borrow.Author.Tests.{eqb-true}
-use Rattle.limits.specs.Limits.{EINVAL, EFAULT, EAGAIN, record_limit, answer_words, answer_kept, call_clear, call_add_process}
+use Rattle.limits.specs.Limits.{EINVAL, EFAULT, EAGAIN, record_limit, answer_words, answer_kept, call_clear}
+use Rattle.limits.specs.Limits.{call_add_process}
 use Rattle.limits.specs.Limits.{call_add_thread, call_sigqueue, call_take}
 use Rattle.lists.specs.Lists.{all, any, count, first, padded, All}
 use Rattle.lists.proofs.Bools.{split, and-fst, and-snd, cond-true, cond-false}
@@ -37,7 +38,8 @@ use Rattle.sound.specs.Lent.{Lent, decoded, lengths_are, sound_tables}
 use Rattle.sound.proofs.Facts.{right-lengths}
 use Rattle.answers.specs.Step.{encoded, refusal_on, step_on}
 use Rattle.looking.specs.Looks.{look_bytes}
-use Rattle.boundary.specs.Boundary.{Arguments, calls_of, is_call, numbered, sent_word, reply_words, taken_words, words_of}
+use Rattle.boundary.specs.Boundary.{Arguments, calls_of, is_call, numbered, sent_word, reply_words, taken_words}
+use Rattle.boundary.specs.Boundary.{words_of}
 use Rattle.boundary.specs.Boundary.{errno_of, written, usable, accepted, serve_on}
 use Rattle.rrezhbuta.specs.Entry.{Host, lent_by, call_on, look_at}
 use Rattle.history.specs.Ledger.{Ledger, empty_ledger, of_process, pending_where, ledger_view, ledger_refusal}
@@ -204,7 +206,8 @@ module _ (h : Host) (b : Book) (r : Reached (lent_by h) b) where
   unfolding usable
   always-usable n = split (eqb n call_clear) (λ e. rw (e, long)) (λ e. rw (e, r.sound))
 
-  heard-is : (n : ℕ) (g : Arguments) (out : List ℕ) → (serve_on n g (length out) tables).1 ≡ heard ledger n g (length out)
+  heard-is : (n : ℕ) (g : Arguments) (out : List ℕ) → (serve_on n g (length out) tables).1
+      ≡ heard ledger n g (length out)
   unfolding heard
   heard-is n g out =
       split (accepted n (length out))
@@ -254,7 +257,8 @@ module _ (h : Host) (b : Book) (r : Reached (lent_by h) b) where
     one-turn = append-nil (acts seen c)
 
   module _ (t : ℕ) (e : ledger_refusal ledger (take t) ≡ 0) where
-    one-taken : count takes_either (acts_of (turns seen (take t)) ledger) ≡ cond (has_offer seen (the_thread seen t)) 1 0
+    one-taken : count takes_either (acts_of (turns seen (take t)) ledger)
+        ≡ cond (has_offer seen (the_thread seen t)) 1 0
     one-taken = ap (count takes_either) (one-turn (take t) e) ∙ takes_one_lem seen t
 
     taken-itself : All (TakenBy t) (acts_of (turns seen (take t)) ledger)

@@ -14,7 +14,8 @@ use Rattle.lists.proofs.Sublists.{keep-within}
 use Rattle.sigset.specs.Set.{of_signal}
 use Rattle.types.specs.declared.Siginfo.{Siginfo}
 use Rattle.rules.specs.Types.{Process, Queue}
-use Rattle.rules.specs.View.{remove_process, set_stopped, discard, is_process, belongs_to, in_queue, live_process, the_process}
+use Rattle.rules.specs.View.{remove_process, set_stopped, discard, is_process, belongs_to, in_queue, live_process}
+use Rattle.rules.specs.View.{the_process}
 use Rattle.rules.specs.View.{pending_in}
 use Rattle.rules.specs.Store.{Place, Store, held, free_process, free_thread, vacate, records_for, mark_in, view}
 use Rattle.rules.specs.Store.{with_stopped, apply, apply_all}

@@ -105,10 +105,12 @@ module _ (c : Call) (st : Store) (k : Ledger) (u : machine c ≡ true) (e : refu
   after-sound : sound (apply_all (changes (view st) c) st) ≡ true
   after-sound = ap sound (sym (accepted-step c st e)) ∙ accepted-sound-after c st u e
 
-  fitting-holds : is_add_process c ≡ false → Holds (apply_all (changes (view st) c) st) (note_all (changes (view st) c) k)
+  fitting-holds : is_add_process c ≡ false
+      → Holds (apply_all (changes (view st) c) st) (note_all (changes (view st) c) k)
   fitting-holds a = holds-changes (changes (view st) c) st k (call_fits c st a e) h
 
-kind-holds : {c : Call} (x : Kind c) → kind_of c ≡ x → (st : Store) (k : Ledger) → machine c ≡ true → refusal_of st c ≡ 0
+kind-holds : {c : Call} (x : Kind c) → kind_of c ≡ x → (st : Store) (k : Ledger) → machine c ≡ true → refusal_of st c
+    ≡ 0
     → Holds st k → Holds (apply_all (changes (view st) c) st) (note_all (changes (view st) c) k)
 unfolding is_add_process
 kind-holds clearing i st k u e h = fitting-holds clear st k u e h refl

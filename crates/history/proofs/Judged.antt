@@ -21,13 +21,15 @@ use Rattle.types.specs.declared.Sent.TheVariants.{Tested, Acted, Dropped, Absorb
 use Rattle.types.specs.declared.Reply.TheVariants as reply
 use Rattle.types.specs.declared.Answer.{Answer}
 use Rattle.types.specs.declared.Answer.TheVariants.{Accepted}
-use Rattle.rules.specs.Types.{Thread, Queue, Next, no_next, next_mark, next_record, Call, clear, add_process, add_thread}
+use Rattle.rules.specs.Types.{Thread, Queue, Next, no_next, next_mark, next_record, Call, clear, add_process}
+use Rattle.rules.specs.Types.{add_thread}
 use Rattle.rules.specs.Types.{end_process, end_thread, kill, sigqueue, sigaction, sigmask, sigpending, look, who, take}
 use Rattle.rules.specs.Types.{sigreturn}
 use Rattle.rules.specs.Signals.{Outcome, ignores, stops, continues, ends, outcome, stop_signal, ignored}
 use Rattle.rules.specs.View.{View, belongs_to, process_queue, thread_queue, pending_for, live_thread, the_thread}
 use Rattle.rules.specs.View.{thread_action, pending_in}
-use Rattle.rules.specs.Taking.{is_stopped, can_take_signal, next_signal, next_queue, next_in, next, mark_info, outcome_answer}
+use Rattle.rules.specs.Taking.{is_stopped, can_take_signal, next_signal, next_queue, next_in, next, mark_info}
+use Rattle.rules.specs.Taking.{outcome_answer}
 use Rattle.rules.specs.Taking.{delivered, take_answer}
 use Rattle.rules.specs.Asking.{accepts, runs, is_offered, MayTake}
 use Rattle.rules.specs.Calls.{reply}

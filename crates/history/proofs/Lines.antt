@@ -9,7 +9,8 @@ use Rattle.lists.specs.Lists.{any}
 use Rattle.lists.proofs.Lists.{any-count, count-keep, is_some-first}
 use Rattle.types.specs.declared.Siginfo.{Siginfo}
 use Rattle.rules.specs.Types.{Queue}
-use Rattle.rules.specs.View.{Change, forget, new_process, new_thread, remove_process, remove_thread, set_stopped, set_action}
+use Rattle.rules.specs.View.{Change, forget, new_process, new_thread, remove_process, remove_thread, set_stopped}
+use Rattle.rules.specs.View.{set_action}
 use Rattle.rules.specs.View.{set_mask, set_mark, clear_mark, append, drop_oldest, discard, in_queue}
 use Rattle.rules.specs.Store.{Store, view, records_for}
 use Rattle.rules.specs.Fitting.{fits}

@@ -86,7 +86,8 @@ module _ (l : Lent) (w : encoded (decoded l) ≡ l) where
     abbrev upcoming : Next
     upcoming = next (view st) (the_thread (view st) t)
 
-    part_bytes_lem : (b : Bool) → part_bytes l (cond b (part_of st upcoming) empty_part) ≡ cond b (next_bytes upcoming) []
+    part_bytes_lem : (b : Bool) → part_bytes l (cond b (part_of st upcoming) empty_part)
+        ≡ cond b (next_bytes upcoming) []
     unfolding view part_bytes
     part_bytes_lem true = next-bytes upcoming (λ q s r e. (next-record (view st) (the_thread (view st) t) q s r e).1)
     part_bytes_lem false = refl

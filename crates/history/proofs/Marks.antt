@@ -16,7 +16,8 @@ use Rattle.sigset.specs.Set.{Signal, has, union, of_signal, empty}
 use Rattle.sigset.proofs.Laws.{has-empty, has-union, has_of}
 use Rattle.rules.specs.Types.{Process, Thread, Queue, no_thread}
 use Rattle.rules.specs.Signals.{is_signal}
-use Rattle.rules.specs.View.{View, is_process, is_thread, belongs_to, same_queue, process_queue, thread_queue, live_process}
+use Rattle.rules.specs.View.{View, is_process, is_thread, belongs_to, same_queue, process_queue, thread_queue}
+use Rattle.rules.specs.View.{live_process}
 use Rattle.rules.specs.View.{live_thread, the_thread, set_mark, clear_mark, new_process, new_thread, remove_process}
 use Rattle.rules.specs.View.{remove_thread}
 use Rattle.rules.specs.Store.{Place, Store, held, view, mark_in, vacate, fill, map_marks, free_process, free_thread}
@@ -244,7 +245,8 @@ module _ (st : Store) (q : Queue) (s : ℕ) where
       (λ g. rw g (sym (split (is_at k n q s) (λ e. clash (ap is_signal (at-signal k q n s e) ∙ i) g) (λ e. e))))
 
   -- of a number that is no signal there is no mark
-  pub clear-marks : (k : Queue) (n : ℕ) → mark_in (apply (clear_mark k n) st) q s ≡ (mark_in st q s && not (is_at k n q s))
+  pub clear-marks : (k : Queue) (n : ℕ) → mark_in (apply (clear_mark k n) st) q s
+      ≡ (mark_in st q s && not (is_at k n q s))
   unfolding apply mark_in
   clear-marks k n =
       cut-marks (λ q'. same_queue q' k) (of_signal n) st q s

@@ -8,7 +8,8 @@ use lib.Dec.{eqb}
 use Rattle.sigset.specs.declared.SigSet.{SigSet}
 use Rattle.sigset.specs.Set.{has}
 use Rattle.rules.specs.Types.{Queue}
-use Rattle.rules.specs.View.{Change, forget, new_process, new_thread, remove_process, remove_thread, set_stopped, set_action}
+use Rattle.rules.specs.View.{Change, forget, new_process, new_thread, remove_process, remove_thread, set_stopped}
+use Rattle.rules.specs.View.{set_action}
 use Rattle.rules.specs.View.{set_mask, set_mark, clear_mark, append, drop_oldest, discard, in_queue}
 use Rattle.history.specs.Ledger.{Ledger, of_process, on_lines, with_total, with_mark, is_at, place}
 use Rattle.history.specs.Acts.{keep_send, take_send, emptying}

@@ -163,7 +163,8 @@ module _ (v : View) (l : Ledger) (by to t value : ℕ) where
       ∙ job-alone l to s k
 
   tested : (queued : Bool) → Sent queued 0
-  unfolding generation send_changes info_of send_acts sent said job_events stop_signal arrival place_all play_all note_all
+  unfolding generation send_changes info_of send_acts sent said job_events stop_signal arrival place_all play_all
+      note_all
   tested queued = refl
 
   killed : (queued : Bool) → Sent queued SIGKILL
@@ -176,7 +177,8 @@ module _ (v : View) (l : Ledger) (by to t value : ℕ) where
   stopped queued = only-job SIGSTOP refl
 
   arrived : (queued : Bool) (s : ℕ) → eqb s 0 ≡ false → eqb s SIGKILL ≡ false → eqb s SIGSTOP ≡ false
-      → ignored (action_of (the_process v to) s) s ≡ false → absorbs v queued (target_queue to t) s ≡ false → Sent queued s
+      → ignored (action_of (the_process v to) s) s ≡ false → absorbs v queued (target_queue to t) s ≡ false
+      → Sent queued s
   unfolding generation send_changes info_of send_acts sent said arrival is_dropped is_absorbed absorbs
   arrived true s e0 e1 e2 e3 e4 = rw (e0, e1, e2, e3, e4) (job-kept l to s e1 (info_of v by to t s value))
   arrived false s e0 e1 e2 e3 e4 = rw (e0, e1, e2, e3, e4) (job-marked l to s e1 (target_queue to t))

@@ -98,7 +98,8 @@ module _ (r : Siginfo) (n : in_use r ≡ true) (st : Store) where
 
   pub append-records : (q : Queue) (s : ℕ)
       → keep (in_queue q s) (records_for q (apply (append r) st))
-      ≡ cond (in_queue q s r) (keep (in_queue q s) (records_for q st) ++ (r ∷ [])) (keep (in_queue q s) (records_for q st))
+      ≡ cond (in_queue q s r) (keep (in_queue q s) (records_for q st) ++ (r ∷ []))
+      (keep (in_queue q s) (records_for q st))
   unfolding records_for apply keep
   append-records q s =
       split (in_queue q s r)
@@ -130,7 +131,8 @@ module _ (q : Queue) (s : ℕ) (st : Store) where
   rest-in_use : (slots : List Siginfo) → all in_use (rest (used slots)) ≡ true
   rest-in_use = in_use-within rest (drop_first-within (in_queue q s))
 
-  apart : (q' : Queue) (s' : ℕ) (r : Siginfo) → is_at q s q' s' ≡ false → in_queue q s r ≡ true → in_queue q' s' r ≡ false
+  apart : (q' : Queue) (s' : ℕ) (r : Siginfo) → is_at q s q' s' ≡ false → in_queue q s r ≡ true → in_queue q' s' r
+      ≡ false
   unfolding in_queue
   apart q' s' r e i =
       ap₂ (λ (a : Queue) (b : ℕ). same_queue q' a && eqb b s') (of-queue q s r i) (of-signal q s r i)
@@ -138,7 +140,8 @@ module _ (q : Queue) (s : ℕ) (st : Store) where
 
   pub drop-records : (q' : Queue) (s' : ℕ)
       → keep (in_queue q' s') (records_for q' (apply (drop_oldest q s) st))
-      ≡ cond (is_at q s q' s') (tail (keep (in_queue q' s') (records_for q' st))) (keep (in_queue q' s') (records_for q' st))
+      ≡ cond (is_at q s q' s') (tail (keep (in_queue q' s') (records_for q' st)))
+      (keep (in_queue q' s') (records_for q' st))
   unfolding records_for apply
   drop-records q' s' =
       split (is_at q s q' s')

@@ -8,7 +8,8 @@ use lib.ListN.{length, length-append, length-drop, drop}
 use Rattle.lists.specs.Lists.{count}
 use Rattle.types.specs.declared.Siginfo.{Siginfo}
 use Rattle.rules.specs.Types.{Queue}
-use Rattle.rules.specs.View.{Change, forget, new_process, new_thread, remove_process, remove_thread, set_stopped, set_action}
+use Rattle.rules.specs.View.{Change, forget, new_process, new_thread, remove_process, remove_thread, set_stopped}
+use Rattle.rules.specs.View.{set_action}
 use Rattle.rules.specs.View.{set_mask, set_mark, clear_mark, append, drop_oldest, discard, in_queue}
 use Rattle.history.specs.Ledger.{Counts, Line, Ledger, empty_ledger, ledger_view, with_mark, is_at, place, place_all}
 use Rattle.history.specs.Acts.{Act, kept, marked, took_send, took_mark, emptied, empties, keep_send, take_send}

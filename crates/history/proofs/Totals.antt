@@ -15,7 +15,8 @@ use Rattle.lists.proofs.Sublists.{keep-within, drop_first-within, all-within}
 use Rattle.types.specs.declared.Siginfo.{Siginfo}
 use Rattle.types.specs.Values.{no_siginfo}
 use Rattle.rules.specs.Types.{Process, Thread, Queue}
-use Rattle.rules.specs.View.{Change, forget, new_process, new_thread, remove_process, remove_thread, set_stopped, set_action}
+use Rattle.rules.specs.View.{Change, forget, new_process, new_thread, remove_process, remove_thread, set_stopped}
+use Rattle.rules.specs.View.{set_action}
 use Rattle.rules.specs.View.{set_mask, set_mark, clear_mark, append, drop_oldest, discard, queue_of, in_queue}
 use Rattle.rules.specs.Store.{Store, in_use, used, records_for, on_slots, on_buffer, on_buffers, cleared, view, apply}
 use Rattle.rules.specs.Sound.{sound}
@@ -35,7 +36,8 @@ in_buffers st = length (used st.thread_buffer) + length (used st.process_buffer)
 
 none-cleared : in_buffers cleared ≡ 0
 unfolding cleared used
-none-cleared = let z = ap length (leading-replicate in_use no_siginfo zero-free buffer_records) in ap₂ (λ m n. m + n) z z
+none-cleared = let z = ap length (leading-replicate in_use no_siginfo zero-free buffer_records) in ap₂ (λ m n. m + n) z
+    z
 
 -- those that pass leave a buffer
 kept-slots : (p : Siginfo → Bool) (slots : List Siginfo)

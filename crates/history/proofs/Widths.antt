@@ -19,7 +19,8 @@ use Rattle.siginfo.specs.Bytes.{u32_bytes, u64_bytes, Fits}
 use Rattle.siginfo.proofs.Slots.{fits-no_siginfo}
 use Rattle.rules.specs.Types.{Process, Thread, Queue, Call, clear, add_process, add_thread, end_process, end_thread}
 use Rattle.rules.specs.Types.{kill, sigqueue, sigaction, sigmask, sigpending, look, who, take, sigreturn}
-use Rattle.rules.specs.View.{Change, forget, new_process, new_thread, remove_process, remove_thread, set_stopped, set_action}
+use Rattle.rules.specs.View.{Change, forget, new_process, new_thread, remove_process, remove_thread, set_stopped}
+use Rattle.rules.specs.View.{set_action}
 use Rattle.rules.specs.View.{set_mask, set_mark, clear_mark, append, drop_oldest, discard, queue_of, in_queue}
 use Rattle.rules.specs.Store.{Place, Store, cleared, used, view, on_slots, on_buffer, apply, apply_all}
 use Rattle.rules.specs.Sound.{good_user, sound}
@@ -46,7 +47,8 @@ pub record Widths (st : Store) : Type 0 where
 pub widths-cleared : Widths cleared
 unfolding cleared
 widths-cleared =
-    let z : All Fits (replicate buffer_records no_siginfo) = All-replicate Fits no_siginfo fits-no_siginfo buffer_records in
+    let z : All Fits (replicate buffer_records no_siginfo) =
+    All-replicate Fits no_siginfo fits-no_siginfo buffer_records in
     record { thread_buffer = z; process_buffer = z }
 
 -- ---- one change

@@ -10,12 +10,14 @@ use Rattle.types.specs.declared.Action.{Action}
 use Rattle.types.specs.declared.Siginfo.{Siginfo}
 use Rattle.types.specs.declared.Sent.{Sent}
 use Rattle.types.specs.declared.Sent.TheVariants.{Tested, Acted, Dropped, Absorbed, Marked, Kept}
-use Rattle.rules.specs.Types.{Thread, Queue, Next, no_next, next_mark, next_record, Call, clear, add_process, add_thread}
+use Rattle.rules.specs.Types.{Thread, Queue, Next, no_next, next_mark, next_record, Call, clear, add_process}
+use Rattle.rules.specs.Types.{add_thread}
 use Rattle.rules.specs.Types.{end_process, end_thread, kill, sigqueue, sigaction, sigmask, sigpending, look, who, take}
 use Rattle.rules.specs.Types.{sigreturn}
 use Rattle.rules.specs.Signals as signals
 use Rattle.rules.specs.Signals.{standard, stop_signal, Outcome, ignores, stops, continues, ends, outcome, ignored}
-use Rattle.rules.specs.View.{View, Stage, belongs_to, queue_of, in_queue, action_of, the_process, the_thread, thread_action}
+use Rattle.rules.specs.View.{View, Stage, belongs_to, queue_of, in_queue, action_of, the_process, the_thread}
+use Rattle.rules.specs.View.{thread_action}
 use Rattle.rules.specs.View.{pending_in}
 use Rattle.rules.specs.Actions.{has_flag}
 use Rattle.rules.specs.Taking.{next}

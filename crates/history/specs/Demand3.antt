@@ -3,7 +3,8 @@
 -- the view and the rules in crate rules; here the ledger (Ledger), its acts (Acts), what they come to (Tally), when a
 -- take is right (Takes), and the list and what the ledger is told of it (History).
 use Rattle.std.specs.Prelude.{ℕ, ◌+◌, ◌≤◌, ◌≡◌, true, false, not, ◌&&◌, ◌||◌, cond, List, map, eqb, length, drop}
-use Rattle.limits.specs.Limits.{record_limit, EAGAIN, EFAULT, answer_words, answer_kept, call_add_process, call_add_thread}
+use Rattle.limits.specs.Limits.{record_limit, EAGAIN, EFAULT, answer_words, answer_kept, call_add_process}
+use Rattle.limits.specs.Limits.{call_add_thread}
 use Rattle.limits.specs.Limits.{call_sigqueue, call_take}
 use Rattle.lists.specs.Lists.{all, any, count, first, keep, All}
 use Rattle.sigset.specs.Set.{has, set_of}

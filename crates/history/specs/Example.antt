@@ -10,7 +10,8 @@ use Rattle.rules.specs.View.{process_queue}
 use Rattle.rules.specs.Computing.{computing}
 use Rattle.history.specs.Ledger.{Line, queues, pending_where, ledger_view, place, place_all, empty_ledger}
 use Rattle.history.specs.Acts.{empties, play, play_all, sent, is_dropped, is_absorbed, said, arrival, job_events}
-use Rattle.history.specs.Acts.{send_acts, store_acts, end_acts, ends_process, reset_to_ignore, sets_off, take_acts, acts}
+use Rattle.history.specs.Acts.{send_acts, store_acts, end_acts, ends_process, reset_to_ignore, sets_off, take_acts}
+use Rattle.history.specs.Acts.{acts}
 use Rattle.history.specs.Acts.{turns, take_turn, take_turns, kept, took_send, emptied, all_cleared, now_ignored}
 use Rattle.history.specs.Acts.{acts_of}
 use Rattle.history.specs.History.{Entry, Book, empty_book, onto, entered, enter}
@@ -63,6 +64,8 @@ example : (pending_after sends ≡ 2 ∷ 3 ∷ [])
     ≡ emptied (now_ignored 100 40) ∷ took_send 200 (process_queue 100) 40 (valued 1) ∷ kept (valued 3) ∷ kept (valued 2)
     ∷ kept (valued 1) ∷ emptied all_cleared ∷ []))))
 unfolding computing queues pending_where ledger_view place place_all empty_ledger empties play play_all sent is_dropped
-    is_absorbed said arrival job_events send_acts store_acts end_acts ends_process reset_to_ignore sets_off take_acts acts turns
-    take_turn take_turns acts_of onto entered enter enter_all accepted refused sends ignored line_after pending_after valued
+    is_absorbed said arrival job_events send_acts store_acts end_acts ends_process reset_to_ignore sets_off take_acts
+    acts turns
+    take_turn take_turns acts_of onto entered enter enter_all accepted refused sends ignored line_after pending_after
+    valued
 example = (refl, (refl, (refl, (refl, refl))))

@@ -9,7 +9,8 @@ use Rattle.types.specs.declared.Answer.{Answer}
 use Rattle.types.specs.declared.Answer.TheVariants.{Refused, Accepted}
 use Rattle.rules.specs.Types.{Process, Thread, Queue, Call, no_process, no_thread}
 use Rattle.rules.specs.View.{View, Change, forget, new_process, new_thread, remove_process, remove_thread, set_stopped}
-use Rattle.rules.specs.View.{set_action, set_mask, set_mark, clear_mark, append, drop_oldest, discard, is_process, is_thread}
+use Rattle.rules.specs.View.{set_action, set_mask, set_mark, clear_mark, append, drop_oldest, discard, is_process}
+use Rattle.rules.specs.View.{is_thread}
 use Rattle.rules.specs.View.{belongs_to, same_queue, process_queue, thread_queue}
 use Rattle.rules.specs.Store.{with_stopped, with_action, with_mask, is_free_process, is_free_thread}
 use Rattle.rules.specs.Refusals.{refusal, rows}
@@ -88,7 +89,8 @@ ledger_refusal l c = refusal (rows (ledger_view l) c)
 
 -- what it says that a call answers
 unfoldable pub ledger_answer : Ledger → Call → Answer
-ledger_answer l c = cond (eqb (ledger_refusal l c) 0) (Accepted (reply (ledger_view l) c)) (Refused (ledger_refusal l c))
+ledger_answer l c = cond (eqb (ledger_refusal l c) 0) (Accepted (reply (ledger_view l) c))
+    (Refused (ledger_refusal l c))
 
 -- ---- parts of it changed
 

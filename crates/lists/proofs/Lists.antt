@@ -377,7 +377,8 @@ module _ {A : Type 0} where
     pub keep-drop_first : (l : List A) → keep p (drop_first p l) ≡ tail (keep p l)
     unfolding keep drop_first
     keep-drop_first [] = refl
-    keep-drop_first (x ∷ xs) = split (p x) (λ e. rw e) (λ e. rw e (keep-no p x (drop_first p xs) e ∙ keep-drop_first xs))
+    keep-drop_first (x ∷ xs) = split (p x) (λ e. rw e)
+        (λ e. rw e (keep-no p x (drop_first p xs) e ∙ keep-drop_first xs))
 
   module _ (p q : A → Bool) where
     pub keep_same : (l : List A) → ((x : A) → p x ≡ q x) → keep p l ≡ keep q l
@@ -522,7 +523,8 @@ module _ {A B : Type 0} (h : A → B) where
       → map h (replace_first (λ x. p (h x)) a l) ≡ replace_first p (h a) (map h l)
   unfolding replace_first
   map-replace_first p a [] = refl
-  map-replace_first p a (x ∷ xs) = split (p (h x)) (λ e. rw e) (λ e. rw e (ap (λ l. h x ∷ l) (map-replace_first p a xs)))
+  map-replace_first p a (x ∷ xs) = split (p (h x)) (λ e. rw e)
+      (λ e. rw e (ap (λ l. h x ∷ l) (map-replace_first p a xs)))
 
   pub map-drop_first : (p : B → Bool) (l : List A) → map h (drop_first (λ x. p (h x)) l) ≡ drop_first p (map h l)
   unfolding drop_first

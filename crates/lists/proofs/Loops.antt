@@ -350,11 +350,13 @@ module _ {A : Type 0} (p : A → Bool) (d : A) where
 
   pub count-hit : (xs : List A) (i k n : ℕ) → i < length xs → k + count p (drop i xs) ≡ n → p (get_or xs i d) ≡ true
       → (k + 1) + count p (drop (i + 1) xs) ≡ n
-  count-hit xs i k n h a e = omega (arith, ap (count p) (next xs i d h) ∙ count_yes p (get_or xs i d) (drop (i + 1) xs) e)
+  count-hit xs i k n h a e = omega
+      (arith, ap (count p) (next xs i d h) ∙ count_yes p (get_or xs i d) (drop (i + 1) xs) e)
 
   pub count-miss : (xs : List A) (i k n : ℕ) → i < length xs → k + count p (drop i xs) ≡ n → p (get_or xs i d) ≡ false
       → k + count p (drop (i + 1) xs) ≡ n
-  count-miss xs i k n h a e = omega (arith, ap (count p) (next xs i d h) ∙ count_no p (get_or xs i d) (drop (i + 1) xs) e)
+  count-miss xs i k n h a e = omega
+      (arith, ap (count p) (next xs i d h) ∙ count_no p (get_or xs i d) (drop (i + 1) xs) e)
 
   pub count-done : (xs : List A) (i k n : ℕ) → length xs ≤ i → k + count p (drop i xs) ≡ n → k ≡ n
   unfolding count

@@ -255,10 +255,12 @@ flat-replicate enc a w v e (suc n) =
     ∙ replicate-append-replicate w (n * w) v
     ∙ ap (λ k. replicate k v) (add_comm w (n * w) ∙ sym (suc-mul n w))
 
--- the words from b on as code with named offsets reads them: `get_or l (b + 0) 0 ∷ get_or l (b + 1) 0 ∷ ..` on a numeral
+-- the words from b on as code with named offsets reads them: `get_or l (b + 0) 0 ∷ get_or l (b + 1) 0 ∷ ..` on a
+-- numeral
 pub take-spell_from : (n b : ℕ) (l : List ℕ) → b + n ≤ length l → take n (drop b l) ≡ spell_from n b 0 l
 take-spell_from zero b l h = refl
-take-spell_from (suc n) b l h = take-spell (suc n) b l h ∙ ap (λ k. get_or l k 0 ∷ spell_from n b 1 l) (sym (add-zero b))
+take-spell_from (suc n) b l h = take-spell (suc n) b l h
+    ∙ ap (λ k. get_or l k 0 ∷ spell_from n b 1 l) (sym (add-zero b))
 
 -- ---- stores
 

@@ -85,7 +85,8 @@ module _ {A : Type 0} where
         (λ k. let z : x ≡ b = cc (first-yes t x xs k) in rw (k, ← z) (omega arith))
         (λ k. rw k (omega (arith, sum-replace_first t a b xs (sym (first-no t x xs k) ∙ e))))
 
-    pub sum-drop_first : (t : A → Bool) (b : A) (l : List A) → first t l ≡ some b → sum f (drop_first t l) + f b ≡ sum f l
+    pub sum-drop_first : (t : A → Bool) (b : A) (l : List A) → first t l ≡ some b → sum f (drop_first t l) + f b
+        ≡ sum f l
     unfolding sum first drop_first
     sum-drop_first t b [] e = clash refl (sym (ap is_some e))
     sum-drop_first t b (x ∷ xs) e =

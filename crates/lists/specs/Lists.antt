@@ -1,5 +1,6 @@
 -- Tests and changes over a list. Nothing here knows what the list holds.
-use Rattle.std.specs.Prelude.{Bool, true, false, not, ◌&&◌, ◌||◌, cond, List, [], ◌∷◌, ◌++◌, ℕ, zero, suc, ◌+◌, ◌-◌, length, replicate}
+use Rattle.std.specs.Prelude.{Bool, true, false, not, ◌&&◌, ◌||◌, cond, List, [], ◌∷◌, ◌++◌, ℕ, zero, suc, ◌+◌, ◌-◌}
+use Rattle.std.specs.Prelude.{length, replicate}
 use Rattle.std.proofs.Math.Option.{Option, some, none}
 
 -- x before the others, or not

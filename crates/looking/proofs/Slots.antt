@@ -69,7 +69,8 @@ module _ (l : Lent) where
 
 record-inside : (b : List ℕ) (p : Siginfo → Bool) (r : Siginfo) → first p (records_of b) ≡ some r
     → find p (records_of b) < buffer_records
-record-inside b p r e = in_buffer b (find p (records_of b)) (find-any p (records_of b) (some_first p (records_of b) r e))
+record-inside b p r e = in_buffer b (find p (records_of b))
+    (find-any p (records_of b) (some_first p (records_of b) r e))
 
 module _ (l : Lent) (a : lengths_are l ≡ true) where
   abbrev ToldOf : Part → Type 0

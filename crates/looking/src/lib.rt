@@ -1,5 +1,6 @@
 // A look at the next signal of a thread, and who can take one.
 #![tactic(auto)]
+
 ghost use Rattle.std.specs.Prelude.{◌≡◌, true, length, get_or, ◌<◌};
 ghost use Rattle.limits.specs.Limits.{thread_places, buffer_records, buffer_bytes, record_bytes};
 ghost use Rattle.lists.specs.Lists.{find};

@@ -16,7 +16,8 @@ use Rattle.rules.specs.Types.{Thread, sigmask, sigreturn}
 use Rattle.rules.specs.View.{set_mask, live_thread, the_thread}
 use Rattle.rules.specs.Store.{Store}
 use Rattle.rules.specs.Actions.{new_mask, mask_changes}
-use Rattle.rules.specs.Refusals.{bad_way, no_thread_live, refusal, rows, is_clear, fault, table, refusal_of, einval, esrch}
+use Rattle.rules.specs.Refusals.{bad_way, no_thread_live, refusal, rows, is_clear, fault, table, refusal_of, einval}
+use Rattle.rules.specs.Refusals.{esrch}
 use Rattle.rules.specs.Calls.{changes, reply, stages, run_stages, finish, step}
 use Rattle.rules.proofs.SendFits.{mask_fits}
 use Rattle.sound.specs.Lent.{Lent, decoded, view_of, lengths_are, sound_tables, lent}

@@ -24,7 +24,8 @@ use Rattle.view.proofs.Live.{thread-named, pending-both}
 
 module _ (l : Lent) (t : ℕ) (live : live_thread (view_of l) t ≡ true) where
   pub blocked-read : (p : ℕ) → p ≡ (thread_named l.threads t).process → (own shared both mask : SigSet)
-      → own ≡ set_of (pending_in (view_of l) (target_queue p t)) → shared ≡ set_of (pending_in (view_of l) (target_queue p 0))
+      → own ≡ set_of (pending_in (view_of l) (target_queue p t)) → shared
+      ≡ set_of (pending_in (view_of l) (target_queue p 0))
       → both ≡ union own shared → mask ≡ (thread_named l.threads t).mask
       → intersect mask both ≡ blocked_pending (view_of l) (the_thread (view_of l) t)
   unfolding intersect blocked_pending

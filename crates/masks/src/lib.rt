@@ -1,5 +1,6 @@
 // Masks and what they block: sigmask, sigreturn, sigpending.
 #![tactic(auto)]
+
 ghost use Rattle.std.specs.Prelude.{◌≡◌};
 ghost use Rattle.rules.specs.Types as call;
 ghost use Rattle.rules.specs.View.{the_thread};

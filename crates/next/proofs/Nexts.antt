@@ -22,7 +22,8 @@ use Rattle.types.specs.declared.Siginfo.{Siginfo}
 use Rattle.types.specs.Values.{no_siginfo}
 use Rattle.siginfo.specs.Bytes.{siginfo_of}
 use Rattle.rules.specs.Types.{Thread, Queue, Next, no_next, next_record}
-use Rattle.rules.specs.View.{View, process_queue, thread_queue, target_queue, queue_of, same_queue, in_queue, live_thread}
+use Rattle.rules.specs.View.{View, process_queue, thread_queue, target_queue, queue_of, same_queue, in_queue}
+use Rattle.rules.specs.View.{live_thread}
 use Rattle.rules.specs.View.{the_thread, pending_in}
 use Rattle.rules.specs.Store.{used, records_for, view}
 use Rattle.rules.specs.Taking.{can_take_signal, next_signal, next_queue, next_in, next}
@@ -56,7 +57,8 @@ module _ (b : List ℕ) (q : Queue) (s k n : ℕ) (e : k ≡ find (in_queue q s)
   record-next h r f v =
       let i : find (in_queue q s) (records_of b) < length (records_of b) = omega (arith, e, m) in
       let at : get_or (records_of b) (find (in_queue q s) (records_of b)) no_siginfo ≡ r =
-      ap (λ (j : ℕ). get_or (records_of b) j no_siginfo) (sym e) ∙ record-read b k no_siginfo (omega (arith, m)) ∙ sym f in
+      ap (λ (j : ℕ). get_or (records_of b) j no_siginfo) (sym e) ∙ record-read b k no_siginfo (omega (arith, m))
+      ∙ sym f in
       record-names q s r (ap (in_queue q s) (sym at) ∙ find_at (in_queue q s) no_siginfo (records_of b) i)
       ∙ sym (ap (next_in v q s)
       (first-find (in_queue q s) no_siginfo (records_of b) (any-find (in_queue q s) no_siginfo (records_of b) i)
@@ -123,19 +125,22 @@ module _ (l : Lent) (t p s : ℕ) (live : live_thread (view_of l) t ≡ true) (o
     queue-own : b ≡ true → next_queue (view_of l) (the_thread (view_of l) t) s ≡ target_queue p t
     unfolding next_queue
     queue-own y =
-        cond-true (thread_queue (the_thread (view_of l) t)) (process_queue (the_thread (view_of l) t).process) (pends ∙ y)
+        cond-true (thread_queue (the_thread (view_of l) t)) (process_queue (the_thread (view_of l) t).process)
+        (pends ∙ y)
         ∙ own_is l t p o live
 
     queue-shared : b ≡ false → next_queue (view_of l) (the_thread (view_of l) t) s ≡ target_queue p 0
     unfolding next_queue
     queue-shared y =
-        cond-false (thread_queue (the_thread (view_of l) t)) (process_queue (the_thread (view_of l) t).process) (pends ∙ y)
+        cond-false (thread_queue (the_thread (view_of l) t)) (process_queue (the_thread (view_of l) t).process)
+        (pends ∙ y)
         ∙ shared-is l t p o
 
     pub own-next : b ≡ true → is_next_in (target_queue p t) s (records_of l.thread_buffer) r
         → next_of r ≡ next (view_of l) (the_thread (view_of l) t)
     own-next y f =
-        f (view_of l) ∙ ap (next_in (view_of l) (target_queue p t) s) (oldest-own l p t s (thread-named (decoded l) t live))
+        f (view_of l) ∙ ap (next_in (view_of l) (target_queue p t) s)
+        (oldest-own l p t s (thread-named (decoded l) t live))
         ∙ next-from (view_of l) (the_thread (view_of l) t) s e n (target_queue p t) (queue-own y)
 
     pub shared-next : b ≡ false → is_next_in (target_queue p 0) s (records_of l.process_buffer) r

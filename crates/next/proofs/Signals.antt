@@ -8,7 +8,8 @@ use Rattle.sigset.specs.declared.SigSet.{SigSet}
 use Rattle.sigset.specs.Set.{has, set_of, union, without, lowest}
 use Rattle.sigset.proofs.Laws.{has-without, lowest_of-none, lowest_of-cong}
 use Rattle.rules.specs.Types.{Thread, Queue}
-use Rattle.rules.specs.View.{View, process_queue, thread_queue, target_queue, live_thread, the_process, the_thread, pending_in}
+use Rattle.rules.specs.View.{View, process_queue, thread_queue, target_queue, live_thread, the_process, the_thread}
+use Rattle.rules.specs.View.{pending_in}
 use Rattle.rules.specs.View.{pending_for}
 use Rattle.rules.specs.Store.{view}
 use Rattle.rules.specs.Taking.{is_stopped, can_take_signal, next_signal}

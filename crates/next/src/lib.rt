@@ -1,5 +1,6 @@
 // What a thread takes next.
 #![tactic(auto)]
+
 ghost use Rattle.std.specs.Prelude.{◌≡◌, length};
 ghost use Rattle.limits.specs.Limits.{buffer_bytes};
 ghost use Rattle.rules.specs.View.{target_queue, the_thread};
@@ -16,7 +17,8 @@ use types::Next;
 // The lowest signal that a thread can take, or 0.
 pub fn next_signal(ps: &[u64], ts: &[u64], tb: &[u8], pb: &[u8], thread: u32) -> u32
     requires { WithThread thread (lent ps.now ts.now tb.now pb.now) }
-    ensures { result ≡ next_signal (view_of (lent ps.now ts.now tb.now pb.now)) (the_thread (view_of (lent ps.now ts.now tb.now pb.now)) thread) }
+    ensures { result ≡ next_signal (view_of (lent ps.now ts.now tb.now pb.now))
+        (the_thread (view_of (lent ps.now ts.now tb.now pb.now)) thread) }
 {
     let process = view::process_of(ts, thread);
     if view::is_stopped(ps, process) {
@@ -43,7 +45,8 @@ fn next_in(b: &[u8], process: u32, thread: u32, signal: u32) -> Next
 pub fn next_of(ps: &[u64], ts: &[u64], tb: &[u8], pb: &[u8], thread: u32) -> Next
     requires { WithThread thread (lent ps.now ts.now tb.now pb.now) }
     ensures { next_of result
-        ≡ next_for (view_of (lent ps.now ts.now tb.now pb.now)) (the_thread (view_of (lent ps.now ts.now tb.now pb.now)) thread) }
+        ≡ next_for (view_of (lent ps.now ts.now tb.now pb.now))
+        (the_thread (view_of (lent ps.now ts.now tb.now pb.now)) thread) }
 {
     let s = next_signal(ps, ts, tb, pb, thread);
     if s == 0 {

@@ -47,7 +47,8 @@ free-thread-end x ep em ek = rw (ep, em, ek)
 
 -- ---- a process place by whether it is free
 
-module _ (find : ℕ → ℕ) (ws notes : List ℕ) (place w note : ℕ) (e : w ≡ get_or (head_to (process_at ws place)) word_of_id 0)
+module _ (find : ℕ → ℕ) (ws notes : List ℕ) (place w note : ℕ)
+    (e : w ≡ get_or (head_to (process_at ws place)) word_of_id 0)
   where
     its-id : w ≡ (process_at ws place).holds.id
     unfolding head_to
@@ -55,7 +56,8 @@ module _ (find : ℕ → ℕ) (ws notes : List ℕ) (place w note : ℕ) (e : w 
 
     pub free-process : length ws ≡ process_table → place < process_places → w ≡ 0 → {z : Bool}
         → z ≡ all is_nought (row process_words ws place)
-        → (z ≡ process_ok_at find (processes_of ws) place) × (notes ≡ noted_at process_id notes place note (process_at ws
+        → (z ≡ process_ok_at find (processes_of ws) place)
+        × (notes ≡ noted_at process_id notes place note (process_at ws
         place))
     unfolding process_ok_at process_ok noted_at
     free-process long h k ez =

@@ -19,7 +19,8 @@ use Rattle.rules.specs.View.{is_process, belongs_to}
 use Rattle.rules.specs.Store.{Place, held, free_process, free_thread}
 use Rattle.rules.specs.Sound.{is_live, process_id, thread_id, zero_thread}
 use Rattle.tables.proofs.Places.{held_at}
-use Rattle.soundness.specs.Check.{one_place, ignored_by, owner_place, thread_ok, thread_ok_at, has_thread_at, have_threads}
+use Rattle.soundness.specs.Check.{one_place, ignored_by, owner_place, thread_ok, thread_ok_at, has_thread_at}
+use Rattle.soundness.specs.Check.{have_threads}
 use Rattle.places.specs.Notes.{IgnoredNoted, OwnersNoted, ThreadedNoted, threaded_by, noted_at}
 
 -- ---- a note for each live place, where the note goes to the place itself
@@ -42,7 +43,8 @@ module _ {A : Type 0} (id : A → ℕ) (d : Place A) (xs : List (Place A)) (valu
       rw (z, e, now) (get_or-set_same notes n (value (get_or xs n d)) 0 l))
       (λ s.
       let z = eqb-false i n s in
-      rw (e, ← k i (omega (arith, z)) live) (kept i n (value (get_or xs n d)) notes (eqb (id (get_or xs n d).holds) 0) z))
+      rw (e, ← k i (omega (arith, z)) live)
+      (kept i n (value (get_or xs n d)) notes (eqb (id (get_or xs n d).holds) 0) z))
     where
       kept : (i n v : ℕ) (l : List ℕ) (b : Bool) → (i ≡ n → ⊥) → get_or (cond b l (set l n v)) i 0 ≡ get_or l i 0
       kept i n v l true z = refl
@@ -109,7 +111,8 @@ module _ (xs : List (Place Process)) (ys : List (Place Thread)) where
         let none : p ≡ 0 = eqb-true p 0 (and-fst (eqb p 0) _ (rw z at ok)) in
         rw (z, none) (ne_eqb 0 x.id (λ e. clash live (ap not (eq-eqb x.id 0 (sym e))))))
         (λ z.
-        let owned : any (is_process p) (map held xs) ≡ true = and-fst (any (is_process p) (map held xs)) _ (rw z at ok) in
+        let owned : any (is_process p) (map held xs) ≡ true =
+        and-fst (any (is_process p) (map held xs)) _ (rw z at ok) in
         rw z
         (same_test (eqb p x.id) (eqb i (find (is_process p) (map held xs)))
         (λ e.
@@ -150,7 +153,8 @@ module _ (xs : List (Place Process)) (ys : List (Place Thread)) where
       ∙ ap (any (belongs_to (get_or xs i free_process).holds.id))
       (take_all thread_places (map held ys) (rw (length-map ys held) (omega arith)))))
       (λ free. rw free) in
-      same_test (all (threaded_by xs notes) (range 0 process_places)) (all (has_thread_at xs ys) (range 0 process_places))
+      same_test (all (threaded_by xs notes) (range 0 process_places))
+      (all (has_thread_at xs ys) (range 0 process_places))
       (λ e.
       all-below (has_thread_at xs ys) process_places
       (λ i h. sym (same i h) ∙ below_all (threaded_by xs notes) process_places e i h))

@@ -81,7 +81,8 @@ module _ (find : ℕ → ℕ) (ws vs : List ℕ) (place w : ℕ) (owners threade
         let n : owner ≡ process_places =
         omega (arith, at_place, find-le mine (held_processes ws), length-held_processes ws) in (
           sym (cond-false _ _ is_live_lem
-              ∙ and_left _ (absent-any mine no_process (held_processes ws) process_places owner (length-held_processes ws)
+              ∙ and_left _ (absent-any mine no_process (held_processes ws) process_places owner
+              (length-held_processes ws)
               at_place n)),
           (λ z. clash z refl, λ z. clash z refl),
         )
@@ -114,7 +115,8 @@ module _ (find : ℕ → ℕ) (ws vs : List ℕ) (place w : ℕ) (owners threade
           ap bits (noted owner inside owner-live) ∙ ap ignored_by (sym its-owner) in (
             el
                 ∙ ap (λ i. live_thread_ok find i place (thread_at vs place)) ignores
-                ∙ ap (λ b. b && live_thread_ok find (ignored_by (owner_of (held_processes ws) (thread_at vs place))) place
+                ∙ ap (λ b. b && live_thread_ok find (ignored_by (owner_of (held_processes ws) (thread_at vs place)))
+                place
                 (thread_at vs place)) (sym owned)
                 ∙ sym (cond-false _ _ is_live_lem),
             (

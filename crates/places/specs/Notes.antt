@@ -1,5 +1,6 @@
 -- What is noted of the places in passing, so that threads and records are held against it.
-use Rattle.std.specs.Prelude.{ℕ, ◌≤◌, ◌<◌, ◌≡◌, Bool, true, not, ◌&&◌, cond, List, map, eqb, leb, length, get_or, set, take}
+use Rattle.std.specs.Prelude.{ℕ, ◌≤◌, ◌<◌, ◌≡◌, Bool, true, not, ◌&&◌, cond, List, map, eqb, leb, length, get_or, set}
+use Rattle.std.specs.Prelude.{take}
 use Rattle.std.specs.Int.Bits.{bit_and}
 use Rattle.limits.specs.Limits.{process_places, process_table, thread_places, thread_table, known_flags, sig_ign}
 use Rattle.lists.specs.Lists.{all, any, count}

@@ -1,6 +1,7 @@
 // Is each place of the process and of the thread table sound? The first half of the test of the whole store.
 // In passing it is noted which signals each process ignores, and in which place the process of each thread is.
 #![tactic(auto)]
+
 ghost use Rattle.std.specs.Prelude.{◌≡◌, true, cond, ◌+◌, ◌≤◌, ◌<◌, eqb, length};
 ghost use Rattle.std.specs.Int.Bits.{bit_or};
 ghost use Rattle.limits.specs.Limits.{process_places, process_table, thread_places, thread_table, signals, sig_ign};
@@ -9,7 +10,8 @@ ghost use Rattle.hints.specs.Hints.{hint_slots, Hinted};
 ghost use Rattle.sigset.specs.Set.{empty, of_signal, set_of, union};
 ghost use Rattle.rules.specs.Sound.{kill_stop_default, zero_thread, process_id, thread_id};
 ghost use Rattle.tables.specs.Tables.{processes_of, threads_of, held_processes, process_at, thread_at};
-ghost use Rattle.soundness.specs.Check.{head_ok, live_process_ok, process_ok_at, processes_ok, live_thread_ok, thread_ok_at};
+ghost use Rattle.soundness.specs.Check.{head_ok, live_process_ok, process_ok_at, processes_ok, live_thread_ok};
+ghost use Rattle.soundness.specs.Check.{thread_ok_at};
 ghost use Rattle.soundness.specs.Check.{threads_ok, places_ok, process_by, thread_by, ignored_by};
 ghost use Rattle.places.specs.Notes.{block, ignored_by_choice};
 ghost use Rattle.soundness.specs.Check.{disjoint, one_place};
@@ -246,7 +248,8 @@ fn thread_ok(
     requires th_len { (length th.now ≡ hint_slots) × Hinted thread_places th.now }
     requires ignored_len { (length ignored.now ≡ process_places) × ((length owners.old ≡ thread_places)
         × (length threaded.old ≡ process_places)) }
-    requires one_place { one_place (held_processes ps.now) × IgnoredNoted (processes_of ps.now) process_places ignored.now }
+    requires one_place { one_place (held_processes ps.now)
+        × IgnoredNoted (processes_of ps.now) process_places ignored.now }
     ensures value { result ≡ thread_ok_at (thread_by th.now ts.now) (processes_of ps.now)
         (threads_of ts.now) place }
     ensures owners_after { result ≡ true → owners.new ≡ noted_at thread_id owners.old place
@@ -283,7 +286,8 @@ fn threads_ok(
     requires th_len { (length th.now ≡ hint_slots) × Hinted thread_places th.now }
     requires ignored_len { (length ignored.now ≡ process_places) × ((length owners.old ≡ thread_places)
         × (length threaded.old ≡ process_places)) }
-    requires one_place { one_place (held_processes ps.now) × IgnoredNoted (processes_of ps.now) process_places ignored.now }
+    requires one_place { one_place (held_processes ps.now)
+        × IgnoredNoted (processes_of ps.now) process_places ignored.now }
     requires threaded_noted { ThreadedNoted (processes_of ps.now) (threads_of ts.now) 0 threaded.old }
     ensures value { result ≡ threads_ok (thread_by th.now ts.now) (processes_of ps.now)
         (threads_of ts.now) }

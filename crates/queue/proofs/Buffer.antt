@@ -52,7 +52,8 @@ laid-slots b e =
     laid-padded (slots_of b) (laid-rest b e) ∙ ap (λ n. padded no_siginfo n (used (slots_of b))) (length-slots_of b)
 
 -- the test as code makes it
-pub laid-test : (b : List ℕ) → length b ≡ buffer_bytes → all is_zero (drop (length (records_of b)) (slots_of b)) ≡ is_laid b
+pub laid-test : (b : List ℕ) → length b ≡ buffer_bytes → all is_zero (drop (length (records_of b)) (slots_of b))
+    ≡ is_laid b
 unfolding is_laid rest_zero records_of
 laid-test b e = rw (eq-eqb (length b) buffer_bytes e)
 

@@ -24,7 +24,8 @@ use Rattle.queue.proofs.Buffer.{slot-written, record-kept}
 
 pub appended-slots : {b : List ℕ} (b₀ : List ℕ) (n : ℕ) (r : Siginfo) → is_laid b₀ ≡ true → n ≡ length (records_of b₀)
     → n < buffer_records → Fits r
-    → b ≡ sets b₀ (n * record_bytes) (bytes_of r) → slots_of b ≡ padded no_siginfo buffer_records (appended r (records_of b₀))
+    → b ≡ sets b₀ (n * record_bytes) (bytes_of r) → slots_of b
+    ≡ padded no_siginfo buffer_records (appended r (records_of b₀))
 unfolding appended
 appended-slots b₀ n r l e h f p =
     slot-written b₀ n r (length-laid b₀ l) h f p
@@ -33,7 +34,8 @@ appended-slots b₀ n r l e h f p =
 
 -- ---- both loops end alike: what stays stands below j, and the rest is cleared
 
-pub rest-cleared : (b₀ b : List ℕ) (rs : List Siginfo) (j n : ℕ) → is_laid b₀ ≡ true → n ≡ length (records_of b₀) → j ≤ n
+pub rest-cleared : (b₀ b : List ℕ) (rs : List Siginfo) (j n : ℕ) → is_laid b₀ ≡ true → n ≡ length (records_of b₀)
+    → j ≤ n
     → take j (slots_of b) ≡ rs → drop n (slots_of b) ≡ drop n (slots_of b₀)
     → cleared no_siginfo (slots_of b) j n ≡ padded no_siginfo buffer_records rs
 rest-cleared b₀ b rs j n l e h p q =

@@ -32,29 +32,30 @@ module _ (q : Queue) (rs : List Siginfo) where
   signals-done i h = ap (signals_in q) (take_all i rs h)
 
 -- a turn: r is the record at i
-module _ (rs : List Siginfo) (i : ℕ) (h : i < length rs) (r : Siginfo) (e : r ≡ get_or rs i no_siginfo) (q : Queue) where
-  pub any_next : (s : ℕ) → any (in_queue q s) (take (i + 1) rs) ≡ (any (in_queue q s) (take i rs) || in_queue q s r)
-  unfolding any
-  any_next s =
-      ap (any (in_queue q s)) (upto rs i no_siginfo h)
-      ∙ any_append (in_queue q s) (take i rs) (get_or rs i no_siginfo ∷ [])
-      ∙ rw (← e) (ap (λ (b : Bool). any (in_queue q s) (take i rs) || b) (or-false (in_queue q s r)))
+module _ (rs : List Siginfo) (i : ℕ) (h : i < length rs) (r : Siginfo) (e : r ≡ get_or rs i no_siginfo) (q : Queue)
+  where
+    pub any_next : (s : ℕ) → any (in_queue q s) (take (i + 1) rs) ≡ (any (in_queue q s) (take i rs) || in_queue q s r)
+    unfolding any
+    any_next s =
+        ap (any (in_queue q s)) (upto rs i no_siginfo h)
+        ∙ any_append (in_queue q s) (take i rs) (get_or rs i no_siginfo ∷ [])
+        ∙ rw (← e) (ap (λ (b : Bool). any (in_queue q s) (take i rs) || b) (or-false (in_queue q s r)))
 
-  pub signals-here : same_queue q (queue_of r) ≡ true
-      → union (signals_in q (take i rs)) (of_signal r.signal) ≡ signals_in q (take (i + 1) rs)
-  unfolding signals_in union in_queue
-  signals-here k =
-      let p : ℕ → Bool = λ s. any (in_queue q s) (take i rs) in
-      set-cong (λ s. has (set_of p) s || has (of_signal r.signal) s) (λ s. any (in_queue q s) (take (i + 1) rs))
-      (λ s g.
-      ap₂ (λ (a b : Bool). a || b) (has-set p s g) (has_of r.signal s g ∙ eqb_comm s r.signal)
-      ∙ sym (any_next s ∙ ap (λ (b : Bool). p s || (b && eqb r.signal s)) k))
+    pub signals-here : same_queue q (queue_of r) ≡ true
+        → union (signals_in q (take i rs)) (of_signal r.signal) ≡ signals_in q (take (i + 1) rs)
+    unfolding signals_in union in_queue
+    signals-here k =
+        let p : ℕ → Bool = λ s. any (in_queue q s) (take i rs) in
+        set-cong (λ s. has (set_of p) s || has (of_signal r.signal) s) (λ s. any (in_queue q s) (take (i + 1) rs))
+        (λ s g.
+        ap₂ (λ (a b : Bool). a || b) (has-set p s g) (has_of r.signal s g ∙ eqb_comm s r.signal)
+        ∙ sym (any_next s ∙ ap (λ (b : Bool). p s || (b && eqb r.signal s)) k))
 
-  pub signals-other : same_queue q (queue_of r) ≡ false → signals_in q (take (i + 1) rs) ≡ signals_in q (take i rs)
-  unfolding signals_in in_queue
-  signals-other n =
-      set-cong (λ s. any (in_queue q s) (take (i + 1) rs)) (λ s. any (in_queue q s) (take i rs))
-      (λ s g.
-      any_next s
-      ∙ ap (λ (b : Bool). any (in_queue q s) (take i rs) || b) (and_left (eqb r.signal s) n)
-      ∙ or-false (any (in_queue q s) (take i rs)))
+    pub signals-other : same_queue q (queue_of r) ≡ false → signals_in q (take (i + 1) rs) ≡ signals_in q (take i rs)
+    unfolding signals_in in_queue
+    signals-other n =
+        set-cong (λ s. any (in_queue q s) (take (i + 1) rs)) (λ s. any (in_queue q s) (take i rs))
+        (λ s g.
+        any_next s
+        ∙ ap (λ (b : Bool). any (in_queue q s) (take i rs) || b) (and_left (eqb r.signal s) n)
+        ∙ or-false (any (in_queue q s) (take i rs)))

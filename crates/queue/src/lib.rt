@@ -1,5 +1,6 @@
 // A buffer of records: those in use come first, oldest first, and the rest is zero.
 #![tactic(auto)]
+
 ghost use Rattle.std.specs.Prelude.{◌≡◌, true, ◌≤◌, ◌<◌, length, drop, replicate};
 ghost use Rattle.limits.specs.Limits.{buffer_records, buffer_bytes};
 ghost use Rattle.lists.specs.Lists.{all, find, count, keep};

@@ -29,7 +29,8 @@ use Rattle.rules.proofs.Marks.{first-held}
 use Rattle.rules.proofs.Signals.{is-signal, signal-is, standard-is, nameable-signal}
 use Rattle.tables.specs.Tables.{processes_of, threads_of, held_processes, held_threads, process_at, thread_at, head_to}
 use Rattle.tables.proofs.Words.{length-processes_of, length-threads_of, length-held_processes, length-held_threads}
-use Rattle.soundness.specs.Check.{is_delivered, is_fresh, within_at, bumped, noted, places_view, process_place, thread_place}
+use Rattle.soundness.specs.Check.{is_delivered, is_fresh, within_at, bumped, noted, places_view, process_place}
+use Rattle.soundness.specs.Check.{thread_place}
 use Rattle.soundness.specs.Check.{thread_record_ok, process_record_ok, ignored_by, owner_place, process_by, thread_by}
 use Rattle.soundness.proofs.Ids.{process-found, thread-found, held_found}
 use Rattle.places.specs.Notes.{ProcessesNoted, ThreadsNoted}
@@ -72,9 +73,11 @@ module _ (cs ds : List ℕ) (i : ℕ) where
   unfolding within_at
   room-left h =
       same_test (leb (get_or ds i 0) (record_limit - get_or cs i 0)) (leb (get_or cs i 0 + get_or ds i 0) record_limit)
-      (λ e. let k : get_or ds i 0 ≤ record_limit - get_or cs i 0 = leb-true (get_or ds i 0) (record_limit - get_or cs i 0) e in
+      (λ e. let k : get_or ds i 0 ≤ record_limit - get_or cs i 0 =
+      leb-true (get_or ds i 0) (record_limit - get_or cs i 0) e in
       le-leb (get_or cs i 0 + get_or ds i 0) record_limit (omega arith))
-      (λ e. let k : get_or cs i 0 + get_or ds i 0 ≤ record_limit = leb-true (get_or cs i 0 + get_or ds i 0) record_limit e in
+      (λ e. let k : get_or cs i 0 + get_or ds i 0 ≤ record_limit =
+      leb-true (get_or cs i 0 + get_or ds i 0) record_limit e in
       le-leb (get_or ds i 0) (record_limit - get_or cs i 0) (omega arith))
 
 -- ---- the shape of the two tests: code, signal, live process, where it is aimed, not ignored
@@ -112,19 +115,22 @@ delivered p r =
 -- ---- a record by the place of its process
 
 module _ (ws : List ℕ) (r : Siginfo) (place : ℕ) (at : place ≡ find (is_process r.process) (held_processes ws)) where
-  its-process : Option.get_or (first (is_process r.process) (held_processes ws)) no_process ≡ (process_at ws place).holds
+  its-process : Option.get_or (first (is_process r.process) (held_processes ws)) no_process
+      ≡ (process_at ws place).holds
   its-process =
       first-held free_process (is_process r.process) (processes_of ws) ∙ ap (λ k. (process_at ws k).holds) (sym at)
 
   no-such-process : process_places ≤ place → any (is_process r.process) (held_processes ws) ≡ false
   no-such-process h =
-      absent-any (is_process r.process) no_process (held_processes ws) process_places place (length-held_processes ws) at
+      absent-any (is_process r.process) no_process (held_processes ws) process_places place (length-held_processes ws)
+      at
       (omega (arith, at, find-le (is_process r.process) (held_processes ws), length-held_processes ws))
 
   module _ (h : place < process_places) where
     such-process : any (is_process r.process) (held_processes ws) ≡ true
     such-process =
-        found-any (is_process r.process) no_process (held_processes ws) process_places place (length-held_processes ws) at
+        found-any (is_process r.process) no_process (held_processes ws) process_places place (length-held_processes ws)
+        at
         (λ e. absurd (omega arith))
 
     -- it is live
@@ -154,7 +160,8 @@ module _ (ws ph ignored : List ℕ) (n : ProcessesNoted ws ph ignored) (r : Sigi
         (no-process (eqb r.code si_queue)
         (nameable r.signal) (eqb r.thread 0) (record_not_ignored (places_view (processes_of ws) []) r)))
         (λ h. rw (not-true (eqb r.thread 0) (sym z ∙ h))
-        (no-aim (names_live (places_view (processes_of ws) []) r) (record_not_ignored (places_view (processes_of ws) []) r)))
+        (no-aim (names_live (places_view (processes_of ws) []) r)
+        (record_not_ignored (places_view (processes_of ws) []) r)))
 
     module _ (k : (leb process_places place || t) ≡ false) where
       pub process-inside : place < process_places
@@ -202,7 +209,8 @@ module _ (ws vs th ignored owners : List ℕ) (n : ThreadsNoted ws vs th ignored
 
     such-thread : any (is_thread r.thread) (held_threads vs) ≡ true
     such-thread =
-        found-any (is_thread r.thread) no_thread (held_threads vs) thread_places queue (length-held_threads vs) at-thread
+        found-any (is_thread r.thread) no_thread (held_threads vs) thread_places queue (length-held_threads vs)
+        at-thread
         (λ z. absurd (omega arith))
 
     live-thread : not (eqb its_thread.id 0) ≡ true
@@ -261,7 +269,8 @@ module _ (ws vs th ignored owners : List ℕ) (n : ThreadsNoted ws vs th ignored
 
         thread-delivered : is_delivered (bits (get_or ignored place 0)) r
             ≡ thread_record_ok (processes_of ws) (threads_of vs) r
-        unfolding thread_record_ok aimed_at_thread names_live record_not_ignored live_process live_thread the_process view
+        unfolding thread_record_ok aimed_at_thread names_live record_not_ignored live_process live_thread the_process
+            view
         thread-delivered =
             let live = such-process ws r place at_place owner-inside in
             ap (λ k. is_delivered (bits k) r) (n.ignores place owner-inside (live-place ws r place at_place
@@ -273,12 +282,14 @@ module _ (ws vs th ignored owners : List ℕ) (n : ThreadsNoted ws vs th ignored
 -- what the place of a thread that was found tells of the record
 pub record ThreadFound (ws vs ignored owners : List ℕ) (r : Siginfo) (queue : ℕ) : Type 0 where
   pub inside : get_or owners queue 0 < process_places
-  pub another : (w : ℕ) → w ≡ get_or (head_to (process_at ws (get_or owners queue 0))) word_of_id 0 → (w ≡ r.process → ⊥)
+  pub another : (w : ℕ) → w ≡ get_or (head_to (process_at ws (get_or owners queue 0))) word_of_id 0
+      → (w ≡ r.process → ⊥)
       → thread_record_ok (processes_of ws) (threads_of vs) r ≡ false
   pub place : (w : ℕ) → w ≡ get_or (head_to (process_at ws (get_or owners queue 0))) word_of_id 0 → w ≡ r.process
       → get_or owners queue 0 ≡ process_place (processes_of ws) r
   pub delivery : (w : ℕ) → w ≡ get_or (head_to (process_at ws (get_or owners queue 0))) word_of_id 0 → w ≡ r.process
-      → thread_record_ok (processes_of ws) (threads_of vs) r ≡ is_delivered (bits (get_or ignored (get_or owners queue 0) 0)) r
+      → thread_record_ok (processes_of ws) (threads_of vs) r
+      ≡ is_delivered (bits (get_or ignored (get_or owners queue 0) 0)) r
 
 pub found : (ws vs th ignored owners : List ℕ) (n : ThreadsNoted ws vs th ignored owners) (r : Siginfo) (queue : ℕ)
     → queue ≡ thread_by th vs r.thread → queue < thread_places

@@ -22,7 +22,8 @@ use Rattle.queue.proofs.Buffer.{length-records_of, record-read}
 use Rattle.tables.specs.Tables.{processes_of, threads_of, held_processes, held_threads}
 use Rattle.tables.proofs.Words.{length-processes_of, length-threads_of, length-held_processes}
 use Rattle.soundness.specs.Check.{tallies, seen_by, seen_sets, own_queue, is_fresh, bumped, noted, small_counts}
-use Rattle.soundness.specs.Check.{one_place, process_place, thread_place, thread_record_ok, process_record_ok, thread_records_ok}
+use Rattle.soundness.specs.Check.{one_place, process_place, thread_place, thread_record_ok, process_record_ok}
+use Rattle.soundness.specs.Check.{thread_records_ok}
 use Rattle.soundness.specs.Check.{process_records_ok}
 use Rattle.soundness.proofs.Passes.{tally-bound}
 use Rattle.soundness.proofs.Turns as turn
@@ -76,7 +77,8 @@ module _ (ps : List ℕ) (seen_of : List Siginfo → List ℕ) (passes : List Si
 module _ (ps ts b : List ℕ) where
   abbrev pub ThreadPass : List ℕ → List ℕ → ℕ → Type 0
   ThreadPass =
-      Pass (held_processes ps) (seen_sets thread_queue (threads_of ts)) (thread_records_ok (processes_of ps) (threads_of ts))
+      Pass (held_processes ps) (seen_sets thread_queue (threads_of ts))
+      (thread_records_ok (processes_of ps) (threads_of ts))
       (records_of b)
 
   pub thread-start : (counts seen : List ℕ) → counts ≡ tallies (held_processes ps) []
@@ -146,7 +148,8 @@ module _ (ps ts b : List ℕ) where
 module _ (ps b : List ℕ) where
   abbrev pub ProcessPass : List ℕ → List ℕ → ℕ → Type 0
   ProcessPass =
-      Pass (held_processes ps) (seen_sets own_queue (processes_of ps)) (process_records_ok (processes_of ps)) (records_of b)
+      Pass (held_processes ps) (seen_sets own_queue (processes_of ps)) (process_records_ok (processes_of ps))
+      (records_of b)
 
   pub process-start : (counts seen : List ℕ) → counts ≡ tallies (held_processes ps) []
       → seen ≡ seen_sets own_queue (processes_of ps) []
@@ -200,7 +203,8 @@ module _ (ps b : List ℕ) where
           let xs = processes_of ps in
           let ok = and-fst (process_record_ok xs r) (is_fresh seen (process_place xs r) r.signal) (sym he ∙ y) in
           let new = and-snd (process_record_ok xs r) (is_fresh seen (process_place xs r) r.signal) (sym he ∙ y) in
-          one_more ps (seen_sets own_queue xs) (process_records_ok xs) b counts seen i k counts' seen' (process_place xs r)
+          one_more ps (seen_sets own_queue xs) (process_records_ok xs) b counts seen i k counts' seen'
+          (process_place xs r)
           (process_place xs r) r.signal y ec es
           (turn.process-tally xs (records_of b) i r l (this-record b i r l e) ok (one r.process))
           (turn.process-step xs (records_of b) i r l (this-record b i r l e) ok (one r.process))

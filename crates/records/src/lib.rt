@@ -1,6 +1,7 @@
 // Is each record of the two buffers sound? The second half of the test of the whole store: one pass over each buffer,
 // held against what was noted of the places.
 #![tactic(auto)]
+
 ghost use Rattle.std.specs.Prelude.{◌≡◌, true, ◌&&◌, cond, [], ◌≤◌, ◌<◌, length, get_or};
 ghost use Rattle.limits.specs.Limits.{process_places, process_table, thread_places, thread_table, buffer_records};
 ghost use Rattle.limits.specs.Limits.{buffer_bytes};

@@ -18,7 +18,8 @@ use Rattle.answers.specs.Step.{committed, step_on}
 use Rattle.rules.specs.Calls.{step, look_part}
 use Rattle.rules.specs.Sound.{sound}
 use Rattle.looking.specs.Looks.{part_bytes, look_bytes, slot_number, look_slot}
-use Rattle.boundary.specs.Boundary.{Arguments, numbered, errno_of, written, usable, accepted, serve_on, served_by, served}
+use Rattle.boundary.specs.Boundary.{Arguments, numbered, errno_of, written, usable, accepted, serve_on, served_by}
+use Rattle.boundary.specs.Boundary.{served}
 use Rattle.threads.specs.declared.Thread.{Thread}
 use Rattle.threads.specs.Records.{words_of}
 use Rattle.threads.proofs.Words.{words-length, records-back}
@@ -40,13 +41,15 @@ module _ (ps tb pb : List ℕ) (ts : List Thread) (o : length ts ≡ thread_plac
   unfolding usable sound_tables
   unusable n =
       split (eqb n call_clear)
-      (λ e. cond-true (lengths_are (lent ps (words_of ts) tb pb)) (sound_tables (lent ps (words_of ts) tb pb)) e ∙ short)
+      (λ e. cond-true (lengths_are (lent ps (words_of ts) tb pb)) (sound_tables (lent ps (words_of ts) tb pb)) e
+      ∙ short)
       (λ e. cond-false (lengths_are (lent ps (words_of ts) tb pb)) (sound_tables (lent ps (words_of ts) tb pb)) e
       ∙ and_left (sound (decoded (lent ps (words_of ts) tb pb))) short)
 
   no-look-here : (thread : ℕ) (r : List ℕ) → length r ≡ 0 → r ≡ look_at ps tb pb ts thread
   unfolding look_at look_bytes
-  no-look-here thread r e = nil-of r e ∙ sym (cond-false (part_bytes before (look_part thread (decoded before))) [] short)
+  no-look-here thread r e = nil-of r e
+      ∙ sym (cond-false (part_bytes before (look_part thread (decoded before))) [] short)
 
   no-slot-here : (thread : ℕ) → 0 ≡ slot_at ps tb pb ts thread
   unfolding slot_at look_slot

@@ -51,7 +51,8 @@ places-words (t ∷ ts) = ap (λ l. record_to t ++ l) (places-words ts)
 
 module _ (ts : List Thread) (e : length ts ≡ thread_places) where
   words-places : threads_of (words_of ts) ≡ map place_of ts
-  words-places = ap threads_of (sym (places-words ts)) ∙ thread-words-forth (map place_of ts) (length-map ts place_of ∙ e)
+  words-places = ap threads_of (sym (places-words ts))
+      ∙ thread-words-forth (map place_of ts) (length-map ts place_of ∙ e)
 
   place_found : (n : ℕ) → find (has_thread_id n) (held_threads (words_of ts)) ≡ find (has_id n) ts
   unfolding has_thread_id has_id
@@ -127,7 +128,8 @@ module _ (ps tb pb : List ℕ) (ts : List Thread) (e : length ts ≡ thread_plac
 
   same_after : (set : Option SigSet) → after set ≡ words_of ts
       → with_mask_at t (mask_in (after set) t) ts ≡ records_of (length ts) (after set)
-  same_after set h = ap (λ ws. with_mask_at t (mask_in ws t) ts) h ∙ row_same ts e t ∙ ap (records_of (length ts)) (sym h)
+  same_after set h = ap (λ ws. with_mask_at t (mask_in ws t) ts) h ∙ row_same ts e t
+      ∙ ap (records_of (length ts)) (sym h)
 
   -- without a set
   none_after : refusal_on (sigmask t way none) before ≡ 0 → after none ≡ words_of ts
@@ -147,7 +149,8 @@ module _ (ps tb pb : List ℕ) (ts : List Thread) (e : length ts ≡ thread_plac
         find-live-thread (held_threads (words_of ts)) t (ap not (thread-named (decoded before) t live))
         ∙ place_found ts e t
 
-    amended : thread_words_of (amend (is_thread t) (held_mask m) (threads_of (words_of ts))) ≡ words_of (with_mask_at t m ts)
+    amended : thread_words_of (amend (is_thread t) (held_mask m) (threads_of (words_of ts)))
+        ≡ words_of (with_mask_at t m ts)
     unfolding with_mask_at
     amended =
         let i = find (has_id t) ts in
@@ -201,4 +204,5 @@ module _ (ws : List ℕ) (n place : ℕ) (here : place ≡ find (has_thread_id n
   mask-held w h = ap bits h ∙ ap (λ i. (thread_at ws i).holds.mask) here
 
   pub mask-inside : (place ≡ thread_places → ⊥) → place < thread_places
-  mask-inside = found_inside (has_thread_id n) no_held (held_threads ws) thread_places place (length-held_threads ws) here
+  mask-inside = found_inside (has_thread_id n) no_held (held_threads ws) thread_places place (length-held_threads ws)
+      here

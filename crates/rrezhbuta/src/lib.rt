@@ -1,5 +1,6 @@
 // The layer as a host links it: the thread table is a lent row of records, and every call goes through one entry.
 #![tactic(auto)]
+
 ghost use Rattle.std.specs.Prelude.{◌≡◌, length};
 ghost use Rattle.limits.specs.Limits.{thread_places, thread_table};
 ghost use Rattle.boundary.specs.Boundary.{arguments};
@@ -95,13 +96,7 @@ pub fn look_part<'a>(ps: &[u64], tb: &'a [u8], pb: &'a [u8], ts: &[Thread], thre
 
 // The same for a host that calls it from C, which cannot be handed a part: 0 for the empty one,
 // then the slots of the thread buffer from 1 on, then those of the process buffer.
-pub fn rrezhbuta_look_slot(
-    ps: &[u64],
-    tb: &[u8],
-    pb: &[u8],
-    ts: &[Thread],
-    thread: u32,
-) -> u64
+pub fn rrezhbuta_look_slot(ps: &[u64], tb: &[u8], pb: &[u8], ts: &[Thread], thread: u32) -> u64
     ensures { result ≡ slot_at ps.now tb.now pb.now ts.now thread }
 {
     if ts.len() != THREAD_PLACES {

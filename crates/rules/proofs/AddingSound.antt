@@ -94,7 +94,8 @@ module _ (st : Store) (k : Good st) (t : Thread) (dead : live_thread (view st) t
         unmarked =
             λ q s.
             unmarked-by st with_thread q s (λ h. h)
-            (unmarked-filled is_free_thread t (thread_mark q s) (and_right (same_queue q (thread_queue t)) (has-empty s))
+            (unmarked-filled is_free_thread t (thread_mark q s)
+            (and_right (same_queue q (thread_queue t)) (has-empty s))
             st.threads);
         queued = λ n. omega arith;
       }

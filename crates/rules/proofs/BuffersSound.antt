@@ -14,7 +14,8 @@ use Rattle.types.specs.Values.{no_siginfo}
 use Rattle.rules.specs.Types.{Process, Thread}
 use Rattle.rules.specs.View.{View}
 use Rattle.rules.specs.Store.{Place, Store, used, mark_in, of_process, queued_in, on_slots, on_buffers, view}
-use Rattle.rules.specs.Sound.{if_live, process_id, has_thread, aimed_at_thread, aimed_at_process, is_standard, not_twice}
+use Rattle.rules.specs.Sound.{if_live, process_id, has_thread, aimed_at_thread, aimed_at_process, is_standard}
+use Rattle.rules.specs.Sound.{not_twice}
 use Rattle.rules.specs.Sound.{not_marked_too, sound}
 use Rattle.rules.proofs.ClausesByPlace.{Laid, GoodProcess, GoodThread, GoodRecord, GoodBuffer, Good, limit-by}
 use Rattle.rules.proofs.ClausesByPlace.{good, have-threads, good-sound}
@@ -87,14 +88,16 @@ module _ (st : Store) (tb pb : List Siginfo) where
               record {
                 laid = t.laid;
                 records =
-                    record-too (aimed_at_thread v) (aimed_at_thread w) (same-aimed_at_thread w v seen-processes seen-threads)
+                    record-too (aimed_at_thread v) (aimed_at_thread w)
+                    (same-aimed_at_thread w v seen-processes seen-threads)
                     (used tb) t.records;
               };
           process_buffer =
               record {
                 laid = p.laid;
                 records =
-                    record-too (aimed_at_process v) (aimed_at_process w) (same-aimed_at_process w v seen-processes) (used pb)
+                    record-too (aimed_at_process v) (aimed_at_process w) (same-aimed_at_process w v seen-processes)
+                    (used pb)
                     p.records;
               };
         })

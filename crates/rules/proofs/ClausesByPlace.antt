@@ -17,9 +17,11 @@ use Rattle.rules.specs.Types.{Process, Thread}
 use Rattle.rules.specs.View.{action_of}
 use Rattle.rules.specs.Store.{Place, Store, free_process, free_thread, used, queued_in, view}
 use Rattle.rules.specs.Sound.{is_live, apart, if_live, if_free, process_id, thread_id, actions_long, is_default}
-use Rattle.rules.specs.Sound.{zero_process, zero_thread, good_process_id, good_thread_id, good_user, fields_fit, belongs}
+use Rattle.rules.specs.Sound.{zero_process, zero_thread, good_process_id, good_thread_id, good_user, fields_fit}
+use Rattle.rules.specs.Sound.{belongs}
 use Rattle.rules.specs.Sound.{has_thread, action_unmasked, process_unmasked, thread_unmasked, kill_stop_default}
-use Rattle.rules.specs.Sound.{flags_known, process_flags_known, rest_zero, aimed_at_thread, aimed_at_process, within_limit}
+use Rattle.rules.specs.Sound.{flags_known, process_flags_known, rest_zero, aimed_at_thread, aimed_at_process}
+use Rattle.rules.specs.Sound.{within_limit}
 use Rattle.rules.specs.Sound.{is_standard, not_twice, not_marked_too, record_not_ignored, process_not_ignored}
 use Rattle.rules.specs.Sound.{thread_not_ignored, sound}
 use Rattle.rules.proofs.ClausesByTable.{Parts, parts, sound-of}
@@ -44,7 +46,8 @@ pub record OwnThread (x : Place Thread) : Type 0 where
 
 -- a free place has it
 pub own-free-process : OwnProcess free_process
-unfolding actions_long zero_process is_default good_user fields_fit process_unmasked action_unmasked kill_stop_default action_of
+unfolding actions_long zero_process is_default good_user fields_fit process_unmasked action_unmasked kill_stop_default
+    action_of
     process_flags_known flags_known
 own-free-process =
     let l : List Action = replicate signals default_action in
@@ -233,7 +236,8 @@ module _ (st : Store) where
           thread_apart = g.thread_apart;
           owned = of_threads (if_live thread_id (belongs (view st))) (λ x k. k.owned);
           thread_sets = of_threads thread_unmasked (λ x k. k.own.sets);
-          thread_marks_not_ignored = of_threads (if_live thread_id (thread_not_ignored (view st))) (λ x k. k.not-ignored);
+          thread_marks_not_ignored = of_threads (if_live thread_id (thread_not_ignored (view st)))
+              (λ x k. k.not-ignored);
           thread_rest = g.thread_buffer.laid.rest;
           thread_aimed =
               of_records (aimed_at_thread (view st)) st.thread_buffer g.thread_buffer (aimed_at_thread (view st))

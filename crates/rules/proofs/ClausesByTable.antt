@@ -14,7 +14,8 @@ use Rattle.rules.specs.Sound.{zero_process, zero_thread, free_zero, good_process
 use Rattle.rules.specs.Sound.{ids_distinct, fields_fit, fields_in_range, belongs, has_thread, threads_owned}
 use Rattle.rules.specs.Sound.{processes_have_threads, process_unmasked, thread_unmasked, nothing_unmaskable}
 use Rattle.rules.specs.Sound.{kill_stop_default, unmaskable_default, process_flags_known, all_flags_known, rest_zero}
-use Rattle.rules.specs.Sound.{aimed_at_thread, aimed_at_process, records_laid_out, within_limit, limit_kept, is_standard}
+use Rattle.rules.specs.Sound.{aimed_at_thread, aimed_at_process, records_laid_out, within_limit, limit_kept}
+use Rattle.rules.specs.Sound.{is_standard}
 use Rattle.rules.specs.Sound.{not_twice, not_marked_too, pending_once, record_not_ignored, process_not_ignored}
 use Rattle.rules.specs.Sound.{thread_not_ignored, nothing_ignored, sound}
 use Rattle.rules.proofs.Clauses.{Clauses, clauses, sound-by}

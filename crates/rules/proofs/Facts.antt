@@ -20,7 +20,8 @@ use Rattle.rules.specs.View.{queue_of, action_of, live_process, live_thread, the
 use Rattle.rules.specs.Store.{Store, used, mark_in, process_mark, thread_mark, queued_in, view}
 use Rattle.rules.specs.Sound.{process_id, thread_id, good_id, good_process_id, good_thread_id, actions_long, good_user}
 use Rattle.rules.specs.Sound.{fields_fit, belongs, has_thread, unmasked, action_unmasked, process_unmasked}
-use Rattle.rules.specs.Sound.{thread_unmasked, is_default, kill_stop_default, flags_known, process_flags_known, rest_zero}
+use Rattle.rules.specs.Sound.{thread_unmasked, is_default, kill_stop_default, flags_known, process_flags_known}
+use Rattle.rules.specs.Sound.{rest_zero}
 use Rattle.rules.specs.Sound.{aimed_at_thread, aimed_at_process, within_limit, is_standard, not_marked_too}
 use Rattle.rules.specs.Sound.{record_not_ignored, process_not_ignored, thread_not_ignored, sound}
 use Rattle.rules.proofs.Aimed.{thread-process-live, process-live}
@@ -72,7 +73,8 @@ module _ (st : Store) (e : sound st ≡ true) where
   one-thread = one-held thread_id st.threads (parts st e).thread_apart
 
   pub process-id : (n : ℕ) → live_process (view st) n ≡ true → good_id n ≡ true
-  process-id n l = ap good_id (sym (process-is st n l)) ∙ live-process-has st good_process_id (parts st e).process_ids n l
+  process-id n l = ap good_id (sym (process-is st n l))
+      ∙ live-process-has st good_process_id (parts st e).process_ids n l
 
   pub thread-id : (n : ℕ) → live_thread (view st) n ≡ true → good_id n ≡ true
   thread-id n l = ap good_id (sym (thread-is st n l)) ∙ live-thread-has st good_thread_id (parts st e).thread_ids n l

@@ -125,7 +125,8 @@ module _ {v w : View} {n b : ℕ} (a : ProcessAmended v w n (with_stopped b)) wh
 pub fewer-stopped : (st : Store) (p b : ℕ) → live_process (view st) p ≡ true
     → FewerPending (view st) (view (apply (set_stopped p b) st))
 fewer-stopped st p b l =
-    let a : ProcessAmended (view st) (view (apply (set_stopped p b) st)) p (with_stopped b) = set_stopped-amended st p b in
+    let a : ProcessAmended (view st) (view (apply (set_stopped p b) st)) p (with_stopped b) =
+    set_stopped-amended st p b in
     record {
       process = a.live;
       target = stopped-target a;

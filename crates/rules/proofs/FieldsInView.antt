@@ -21,7 +21,8 @@ use Rattle.types.specs.declared.Action.{Action}
 use Rattle.types.specs.Values.{default_action}
 use Rattle.rules.specs.Types.{Process, Thread, Queue, no_process, no_thread}
 use Rattle.rules.specs.Signals.{is_signal}
-use Rattle.rules.specs.View.{View, set_stopped, set_mask, is_process, is_thread, same_queue, process_queue, target_queue}
+use Rattle.rules.specs.View.{View, set_stopped, set_mask, is_process, is_thread, same_queue, process_queue}
+use Rattle.rules.specs.View.{target_queue}
 use Rattle.rules.specs.View.{action_of, live_process, live_thread, the_process, the_thread}
 use Rattle.rules.specs.Store.{Place, Store, held, free_process, free_thread, records_for, process_mark, thread_mark}
 use Rattle.rules.specs.Store.{mark_in, queued_in, view, amend, on_processes, on_threads, with_stopped, with_action}

@@ -179,7 +179,8 @@ module _ (st : Store) (n s : ℕ) (a : Action) (i : Signal s)
 
   module _ (u : is_unmaskable s ≡ false) (y : flags_known a ≡ true) (m : unmasked a.mask ≡ true) where
     default-kept : (p : Process) → (is_default (action_of p SIGKILL) && is_default (action_of p SIGSTOP)) ≡ true
-        → (is_default (action_of (with_action s a p) SIGKILL) && is_default (action_of (with_action s a p) SIGSTOP)) ≡ true
+        → (is_default (action_of (with_action s a p) SIGKILL) && is_default (action_of (with_action s a p) SIGSTOP))
+        ≡ true
     default-kept p d =
         let k = eqb-false s SIGKILL (or-fst-false (eqb s SIGKILL) (eqb s SIGSTOP) u) in
         let t = eqb-false s SIGSTOP (or-snd-false (eqb s SIGKILL) (eqb s SIGSTOP) u) in
@@ -219,7 +220,8 @@ module _ (st : Store) (n s : ℕ) (a : Action) (i : Signal s)
               (imp_use (is_live process_id x) (process_not_ignored x) o.not-ignored v) k f h)));
         }
 
-pub set_action-sound : (st : Store) → sound st ≡ true → (n s : ℕ) (a : Action) → fits (view st) (set_action n s a) ≡ true
+pub set_action-sound : (st : Store) → sound st ≡ true → (n s : ℕ) (a : Action) → fits (view st) (set_action n s a)
+    ≡ true
     → sound (apply (set_action n s a) st) ≡ true
 unfolding apply fits nameable
 set_action-sound st e n s a f =
@@ -316,7 +318,8 @@ module _ (st : Store) (e : sound st ≡ true) (n : ℕ) (m : SigSet) (l : live_t
   have-threads-masked : HaveThreads after_thread
   unfolding has_thread
   have-threads-masked =
-      All-imp (Pass (if_live process_id (has_thread (view st)))) (Pass (if_live process_id (has_thread (view after_thread))))
+      All-imp (Pass (if_live process_id (has_thread (view st))))
+      (Pass (if_live process_id (has_thread (view after_thread))))
       (λ x p. ap (λ (b : Bool). not (is_live process_id x) || b) (threads-of x.holds.id) ∙ p)
       st.processes (have-threads st e)
 

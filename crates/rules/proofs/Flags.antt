@@ -27,7 +27,15 @@ and_assoc : (a b c : ℕ) → bit_and (bit_and a b) c ≡ bit_and a (bit_and b c
 and_assoc a =
     bin_ind (λ (n : ℕ). (b c : ℕ) → bit_and (bit_and n b) c ≡ bit_and n (bit_and b c)) (λ b c. refl)
     (λ n ih b c. and_step (bit_and n b) c
-    ∙ rw (and_high n b, and_low n b, and_step n (bit_and b c), and_high b c, and_low b c, ih (b / 2) (c / 2), min_assoc))
+    ∙ rw (
+      and_high n b,
+      and_low n b,
+      and_step n (bit_and b c),
+      and_high b c,
+      and_low b c,
+      ih (b / 2) (c / 2),
+      min_assoc,
+    ))
     a
 
 -- ---- what is reset

@@ -14,7 +14,8 @@ use Rattle.types.specs.declared.Siginfo.{Siginfo}
 use Rattle.rules.specs.Types.{Process, Thread, Queue}
 use Rattle.rules.specs.View.{is_process, is_thread, queue_of, in_queue, the_process, the_thread}
 use Rattle.rules.specs.Store.{Place, Store, held, free_process, free_thread, used, records_for, view}
-use Rattle.rules.specs.Sound.{is_live, apart, process_id, thread_id, aimed_at_thread, aimed_at_process, names_live, sound}
+use Rattle.rules.specs.Sound.{is_live, apart, process_id, thread_id, aimed_at_thread, aimed_at_process, names_live}
+use Rattle.rules.specs.Sound.{sound}
 use Rattle.rules.proofs.Aimed.{thread-live}
 use Rattle.rules.proofs.Facts.{thread-aimed, process-aimed}
 use Rattle.rules.proofs.Ids.{named, distinct-held}

@@ -77,7 +77,8 @@ module _ {B : Type 0} (id : B → ℕ) where
           find_first (named n) d xs i h s
           (λ j k.
           split (named n (get_or xs j d))
-          (λ t. clash (named-twice n (get_or xs j d) (get_or xs i d) (pairs-at unlike_named d xs j i k h (distinct-pairs e)))
+          (λ t. clash (named-twice n (get_or xs j d) (get_or xs i d)
+          (pairs-at unlike_named d xs j i k h (distinct-pairs e)))
           (ap not (and_both t s)))
           (λ t. t))
 

@@ -57,7 +57,8 @@ module _ {A : Type 0} (id : A → ℕ) where
   -- nobody has the id of what comes
   pub apart-filled : (t : Place A → Bool) (a : Place A) → is_live id a ≡ true → (xs : List (Place A))
       → any (named id (id a.holds)) (map held xs) ≡ false
-      → pairs_where (is_live id) (apart id) xs ≡ true → pairs_where (is_live id) (apart id) (replace_first t a xs) ≡ true
+      → pairs_where (is_live id) (apart id) xs ≡ true → pairs_where (is_live id) (apart id) (replace_first t a xs)
+      ≡ true
   apart-filled t a l xs n e =
       pairs_where-pairs (is_live id) (apart id) (replace_first t a xs)
       ∙ pairs-filled unlike_live t a xs

@@ -23,7 +23,8 @@ use Rattle.rules.specs.Store.{Place, Store, used, records_for, process_mark, thr
 use Rattle.rules.specs.Store.{view}
 use Rattle.rules.specs.Sound.{if_live, if_free, is_live, apart, process_id, thread_id, actions_long, zero_process}
 use Rattle.rules.specs.Sound.{zero_thread, good_process_id, good_thread_id, fields_fit, belongs, has_thread, unmasked}
-use Rattle.rules.specs.Sound.{process_unmasked, thread_unmasked, kill_stop_default, process_flags_known, aimed_at_thread}
+use Rattle.rules.specs.Sound.{process_unmasked, thread_unmasked, kill_stop_default, process_flags_known}
+use Rattle.rules.specs.Sound.{aimed_at_thread}
 use Rattle.rules.specs.Sound.{aimed_at_process, within_limit, is_standard, not_marked_too, record_not_ignored}
 use Rattle.rules.specs.Sound.{marks_not_ignored, process_not_ignored, thread_not_ignored, sound}
 use Rattle.rules.proofs.Facts.{within-limit}
@@ -172,7 +173,8 @@ module _ (st : Store) (g : Queue → SigSet → SigSet) (new : Queue → ℕ →
   -- the action of a live place is the one of its id
   process-not-ignored-after : (x : Place Process)
       → (is_live process_id x ≡ true → the_process (view st) x.holds.id ≡ x.holds)
-      → if_live process_id process_not_ignored x ≡ true → if_live process_id process_not_ignored (process_after x) ≡ true
+      → if_live process_id process_not_ignored x ≡ true → if_live process_id process_not_ignored (process_after x)
+      ≡ true
   process-not-ignored-after x o e =
       imp-by (is_live process_id x)
       (λ l.
@@ -249,10 +251,12 @@ module _ (st : Store) (g : Queue → SigSet → SigSet) (new : Queue → ℕ →
               process_slots = a.lengths.process_slots;
             };
         process_free =
-            all-mapped process_after (if_free process_id zero_process) (if_free process_id zero_process) free-process-after
+            all-mapped process_after (if_free process_id zero_process) (if_free process_id zero_process)
+            free-process-after
             st.processes a.process_free;
         process_ids =
-            all-mapped process_after (if_live process_id good_process_id) (if_live process_id good_process_id) (λ x h. h)
+            all-mapped process_after (if_live process_id good_process_id) (if_live process_id good_process_id)
+            (λ x h. h)
             st.processes a.process_ids;
         process_apart =
             pairs_where-map process_after (is_live process_id) (apart process_id) st.processes ∙ a.process_apart;
@@ -288,7 +292,8 @@ module _ (st : Store) (g : Queue → SigSet → SigSet) (new : Queue → ℕ →
         thread_once = a.thread_once;
         thread_unmarked = unmarked-after (used st.thread_buffer) (thread-queued st e) a.thread_unmarked;
         thread_records_not_ignored =
-            all_same (record_not_ignored w) (record_not_ignored v) (used st.thread_buffer) (same-record_not_ignored w v vp)
+            all_same (record_not_ignored w) (record_not_ignored v) (used st.thread_buffer)
+            (same-record_not_ignored w v vp)
             ∙ a.thread_records_not_ignored;
         process_rest = a.process_rest;
         process_aimed =
@@ -297,6 +302,7 @@ module _ (st : Store) (g : Queue → SigSet → SigSet) (new : Queue → ℕ →
         process_once = a.process_once;
         process_unmarked = unmarked-after (used st.process_buffer) (process-queued st e) a.process_unmarked;
         process_records_not_ignored =
-            all_same (record_not_ignored w) (record_not_ignored v) (used st.process_buffer) (same-record_not_ignored w v vp)
+            all_same (record_not_ignored w) (record_not_ignored v) (used st.process_buffer)
+            (same-record_not_ignored w v vp)
             ∙ a.process_records_not_ignored;
       }

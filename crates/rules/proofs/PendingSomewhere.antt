@@ -44,7 +44,8 @@ module _ (st : Store) where
   unfolding mark_in
   process-marked x m s g h =
       let q : Queue = process_queue x.holds.id in
-      and_both g (or_left (any (thread_mark q s) st.threads) (m (process_mark q s) (and_both (same_queue_lem q q refl) h)))
+      and_both g (or_left (any (thread_mark q s) st.threads)
+      (m (process_mark q s) (and_both (same_queue_lem q q refl) h)))
 
   pub thread-marked : (x : Place Thread) → Stands st.threads x → (s : ℕ) → is_signal s ≡ true
       → has x.marks s ≡ true → mark_in st (thread_queue x.holds) s ≡ true

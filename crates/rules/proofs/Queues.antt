@@ -41,7 +41,8 @@ module _ (v : View) (p : ℕ) (l : live_process v p ≡ true) where
   unfolding bad_target no_process_live
   shared-live = target-queue v p 0 (or-both (ap not l) refl)
 
-  pub own-live : (t : ℕ) → live_thread v t ≡ true → (the_thread v t).process ≡ p → live_queue v (target_queue p t) ≡ true
+  pub own-live : (t : ℕ) → live_thread v t ≡ true → (the_thread v t).process ≡ p → live_queue v (target_queue p t)
+      ≡ true
   unfolding bad_target no_process_live no_thread_live
   own-live t k e =
       target-queue v p t

@@ -136,7 +136,8 @@ module _ (st : Store) (e : sound st ≡ true) (n : ℕ) (live : live_process (vi
   have-threads-without : HaveThreads without
   unfolding has_thread is_process
   have-threads-without =
-      All-changed (Pass (if_live process_id (has_thread (view st)))) (Pass (if_live process_id (has_thread (view without))))
+      All-changed (Pass (if_live process_id (has_thread (view st))))
+      (Pass (if_live process_id (has_thread (view without))))
       goes (λ _. free_process)
       (λ _ _ _. refl)
       (λ x f p.
@@ -269,7 +270,8 @@ module _ (st : Store) (e : sound st ≡ true) (n : ℕ) (live : live_thread (vie
   have-threads-less : HaveThreads less_thread
   unfolding has_thread
   have-threads-less =
-      All-imp (Pass (if_live process_id (has_thread (view st)))) (Pass (if_live process_id (has_thread (view less_thread))))
+      All-imp (Pass (if_live process_id (has_thread (view st))))
+      (Pass (if_live process_id (has_thread (view less_thread))))
       (λ x p.
       imp-by (is_live process_id x)
       (λ l.

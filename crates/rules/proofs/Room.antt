@@ -68,7 +68,8 @@ module _ (st : Store) where
         (used st.process_buffer) (process-aimed st e)))
 
     -- with one record more of a process below its limit, no place has too many
-    names-fit : (p : ℕ) → queued_in st p < record_limit → (x : Place Process) → count (is_of x) (p ∷ names) ≤ record_limit
+    names-fit : (p : ℕ) → queued_in st p < record_limit → (x : Place Process)
+        → count (is_of x) (p ∷ names) ≤ record_limit
     names-fit p h x =
         split (is_of x p)
         (λ k.

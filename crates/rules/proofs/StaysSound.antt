@@ -17,7 +17,8 @@ use Rattle.rules.specs.View.{live_process, live_thread}
 use Rattle.rules.specs.Store.{Store, is_free_process, is_free_thread, view, apply_all}
 use Rattle.rules.specs.Sound.{good_id, good_user, sound}
 use Rattle.rules.specs.Adding.{add_process_changes, add_thread_changes}
-use Rattle.rules.specs.Refusals.{bad_id, no_process_live, no_thread_live, no_process_place, no_thread_place, rows, table}
+use Rattle.rules.specs.Refusals.{bad_id, no_process_live, no_thread_live, no_process_place, no_thread_place, rows}
+use Rattle.rules.specs.Refusals.{table}
 use Rattle.rules.specs.Refusals.{clears, is_clear, refusal_of}
 use Rattle.rules.specs.Calls.{changes, step, run}
 use Rattle.rules.specs.Machine.{is_u32, machine}

@@ -21,7 +21,8 @@ use Rattle.rules.specs.View.{queue_of, in_queue, live_process, live_thread, the_
 use Rattle.rules.specs.View.{pending_for}
 use Rattle.rules.specs.Store.{Store, used, records_for, mark_in, view, apply}
 use Rattle.rules.specs.Sound.{unmasked, nameable, names_live, aimed_at_thread, aimed_at_process, sound}
-use Rattle.rules.specs.Taking.{is_stopped, can_take_signal, next_signal, next_queue, next_in, next, handler_mask, resets}
+use Rattle.rules.specs.Taking.{is_stopped, can_take_signal, next_signal, next_queue, next_in, next, handler_mask}
+use Rattle.rules.specs.Taking.{resets}
 use Rattle.rules.specs.Taking.{reset, reset_changes, outcome_changes, deliver, take_changes}
 use Rattle.rules.specs.Adding.{other_thread, end_thread_changes}
 use Rattle.rules.specs.Fitting.{live_queue, fits, fits_all}
@@ -52,7 +53,8 @@ module _ (st : Store) (e : sound st ≡ true) where
       All-imp (Pass (aimed_at_process (view st))) Nameable
       (λ r a. names-signal st r (and-fst (names_live (view st) r) _ a)) (used st.process_buffer) (process-aimed st e)
   records-nameable false =
-      All-imp (Pass (aimed_at_thread (view st))) Nameable (λ r a. names-signal st r (and-fst (names_live (view st) r) _ a))
+      All-imp (Pass (aimed_at_thread (view st))) Nameable
+      (λ r a. names-signal st r (and-fst (names_live (view st) r) _ a))
       (used st.thread_buffer) (thread-aimed st e)
 
   record-nameable : (q : Queue) (s : ℕ) → any (in_queue q s) (records_for q st) ≡ true → nameable s ≡ true
@@ -71,7 +73,8 @@ module _ (st : Store) (e : sound st ≡ true) where
 
   pub pending-nameable : (q : Queue) (s : ℕ) → pending_in (view st) q s ≡ true → nameable s ≡ true
   pending-nameable q s a =
-      or_cases (any (in_queue q s) (records_for q st)) (mark_in st q s) (sym (pending-is st q s) ∙ a) (record-nameable q s)
+      or_cases (any (in_queue q s) (records_for q st)) (mark_in st q s) (sym (pending-is st q s) ∙ a)
+      (record-nameable q s)
       (mark-nameable q s)
 
 -- ---- a delivery
@@ -202,6 +205,7 @@ end-thread-fits st e t l =
     (λ o.
     ap (λ (c : Change). fits (view st) c && true) (cond-true _ _ o)
     ∙ and_both (and_both (it-lives st e t l)
-    (ap (λ (k : ℕ). any (other_thread (view st) (the_thread (view st) k)) (view st).threads) (the-thread-id st t l) ∙ o))
+    (ap (λ (k : ℕ). any (other_thread (view st) (the_thread (view st) k)) (view st).threads) (the-thread-id st t l)
+    ∙ o))
     refl)
     (λ o. ap (λ (c : Change). fits (view st) c && true) (cond-false _ _ o) ∙ and_both (its-process st e t l) refl)

@@ -152,7 +152,8 @@ module _ (st : Store) (h : Clean st) where
       all-change-keeps thread_unmasked t (λ _. free_thread) (λ x _ _. free-thread) st.threads (clean-threads st h)
 
   -- marks that stay without 9 and 19
-  with_marking : (g : Queue → SigSet → SigSet) → ((q : Queue) (m : SigSet) → unmasked m ≡ true → unmasked (g q m) ≡ true)
+  with_marking : (g : Queue → SigSet → SigSet)
+      → ((q : Queue) (m : SigSet) → unmasked m ≡ true → unmasked (g q m) ≡ true)
       → Clean (on_marks g st)
   unfolding nothing_unmaskable process_unmasked thread_unmasked
   with_marking g k =

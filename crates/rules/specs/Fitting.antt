@@ -2,9 +2,6 @@
 use Rattle.std.specs.Prelude.{ℕ, Bool, true, false, not, ◌&&◌, ◌||◌, List, [], ◌∷◌, eqb, leb, ltb}
 use Rattle.limits.specs.Limits.{record_limit, si_queue}
 use Rattle.lists.specs.Lists.{any, is_some}
-use Rattle.sigset.specs.declared.SigSet.{SigSet}
-use Rattle.types.specs.declared.Action.{Action}
-use Rattle.types.specs.declared.Siginfo.{Siginfo}
 use Rattle.rules.specs.Types.{Thread, Queue}
 use Rattle.rules.specs.Signals.{standard, ignored}
 use Rattle.rules.specs.View.{View, Change, forget, new_process, new_thread, remove_process, remove_thread, set_stopped}

@@ -111,7 +111,8 @@ module _ (v : View) where
       einval (bad_id id) ∷ esrch (no_thread_live creator) ∷ eexist (live_thread v id) ∷ eagain no_thread_place ∷ []
   rows (end_process id) = esrch (no_process_live id) ∷ []
   rows (end_thread id) = esrch (no_thread_live id) ∷ []
-  rows (kill by to t s) = einval (over_last s) ∷ esrch (no_process_live by || bad_target to t) ∷ eperm (may_not by to s) ∷ []
+  rows (kill by to t s) = einval (over_last s) ∷ esrch (no_process_live by || bad_target to t) ∷ eperm (may_not by to s)
+      ∷ []
   rows (sigqueue by to t s value) =
       einval (over_last s) ∷ esrch (no_process_live by || bad_target to t) ∷ eperm (may_not by to s)
       ∷ eagain (no_room to t s) ∷ []

@@ -85,7 +85,8 @@ abbrev pub good_thread_id : Place Thread → Bool
 good_thread_id x = good_id x.holds.id
 
 unfoldable pub ids_in_range : Store → Bool
-ids_in_range st = all (if_live process_id good_process_id) st.processes && all (if_live thread_id good_thread_id) st.threads
+ids_in_range st = all (if_live process_id good_process_id) st.processes
+    && all (if_live thread_id good_thread_id) st.threads
 
 unfoldable pub ids_distinct : Store → Bool
 ids_distinct st =

@@ -11,7 +11,8 @@ use Rattle.lists.proofs.Bools.{split, or-fst-false, or-snd-false, cond-true, con
 use Rattle.sigset.specs.declared.SigSet.{SigSet}
 use Rattle.types.specs.declared.Siginfo.{Siginfo}
 use Rattle.rules.specs.Signals.{stop_signal}
-use Rattle.rules.specs.View.{View, Change, remove_process, set_stopped, set_mark, append, discard, target_queue, queue_of}
+use Rattle.rules.specs.View.{View, Change, remove_process, set_stopped, set_mark, append, discard, target_queue}
+use Rattle.rules.specs.View.{queue_of}
 use Rattle.types.specs.declared.Reply.TheVariants.{Sent}
 use Rattle.rules.specs.Sending.{Generation, generation, info_of, job_control, send_changes, send_answer}
 use Rattle.rules.specs.Calls.{send, changes, reply}
@@ -134,6 +135,7 @@ module _ (l : Lent) (queued : Bool) (by to t s value : ℕ) (d : decided.Decisio
 
   pub when-allowed : (f : declared.Generation) (r : Siginfo) → d ≡ decisions.Allowed f r
       → (refusal_on (send_call queued by to t s value) l ≡ 0)
-      × ((generation_of f ≡ generation (view_of l) queued (target_queue to t) s) × (r ≡ info_of (view_of l) by to t s value))
+      × ((generation_of f ≡ generation (view_of l) queued (target_queue to t) s)
+      × (r ≡ info_of (view_of l) by to t s value))
   unfolding Decided
   when-allowed f r e = subst (Decided l queued by to t s value) e h

@@ -35,7 +35,8 @@ use Rattle.sending.specs.declared.Generation as declared
 use Rattle.sending.specs.declared.Generation.TheVariants as cases
 
 module _ (v : View) (queued : Bool) (q : Queue) (s : ℕ) where
-  pub absorbed : Signal s → (pending marks : SigSet) (is_standard pends marked : Bool) → pending ≡ set_of (pending_in v q)
+  pub absorbed : Signal s → (pending marks : SigSet) (is_standard pends marked : Bool) → pending
+      ≡ set_of (pending_in v q)
       → marks ≡ set_of (v.marks q)
       → is_standard ≡ standard s → pends ≡ has pending s → marked ≡ has marks s
       → ((is_standard && pends) || (not queued && marked)) ≡ absorbs v queued q s

@@ -13,7 +13,8 @@ use Rattle.rules.specs.Types.{kill, sigqueue}
 use Rattle.rules.specs.View.{View, is_process, target_queue, live_process, the_process}
 use Rattle.rules.specs.Store.{view}
 use Rattle.rules.specs.Sending.{may_signal, Generation, generation, info_of, send_changes, needs_record}
-use Rattle.rules.specs.Refusals.{over_last, einval, esrch, eperm, eagain, no_process_live, bad_target, may_not, no_room, rows}
+use Rattle.rules.specs.Refusals.{over_last, einval, esrch, eperm, eagain, no_process_live, bad_target, may_not, no_room}
+use Rattle.rules.specs.Refusals.{rows}
 use Rattle.rules.specs.Refusals.{is_clear}
 use Rattle.rules.specs.Calls.{send}
 use Rattle.rules.proofs.RefusalTable.{Off}
@@ -111,7 +112,8 @@ module _ (l : Lent) (by to t s : ℕ) where
 -- ---- a send with a value: the rows of a plain one, and one more
 
 module _ (l : Lent) (by to t s value : ℕ) where
-  queue-refused : (n : ℕ) → n ≡ refusal_on (kill by to t s) l → (n ≡ 0 → ⊥) → n ≡ refusal_on (sigqueue by to t s value) l
+  queue-refused : (n : ℕ) → n ≡ refusal_on (kill by to t s) l → (n ≡ 0 → ⊥) → n
+      ≡ refusal_on (sigqueue by to t s value) l
   unfolding rows is_clear
   queue-refused n e z =
       let v : View = view_of l in

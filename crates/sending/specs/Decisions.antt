@@ -19,4 +19,5 @@ module _ (l : Lent) (queued : Bool) (by to t s value : ℕ) where
   Decided (cases.Refused n) = (n ≡ refusal_on (send_call queued by to t s value) l) × (n ≡ 0 → ⊥)
   Decided (cases.Allowed f r) =
       (refusal_on (send_call queued by to t s value) l ≡ 0)
-      × ((generation_of f ≡ generation (view_of l) queued (target_queue to t) s) × (r ≡ info_of (view_of l) by to t s value))
+      × ((generation_of f ≡ generation (view_of l) queued (target_queue to t) s)
+      × (r ≡ info_of (view_of l) by to t s value))

@@ -1,12 +1,14 @@
 // Sends: kill, without a value, and queue, with one.
 #![tactic(auto)]
+
 ghost use Rattle.std.specs.Prelude.{◌≡◌, true, false, ◌&&◌, leb, ◌≤◌};
 ghost use Rattle.limits.specs.Limits.{signals, record_limit};
 ghost use Rattle.sigset.specs.Set.{set_of};
 ghost use Rattle.rules.specs.Signals.{stop_signal};
 ghost use Rattle.rules.specs.Types as call;
 ghost use Rattle.rules.specs.View.{target_queue};
-ghost use Rattle.rules.specs.Sending.{absorbs, generation, info_of, job_control, send_changes, send_answer, needs_record};
+ghost use Rattle.rules.specs.Sending.{absorbs, generation, info_of, job_control, send_changes, send_answer};
+ghost use Rattle.rules.specs.Sending.{needs_record};
 ghost use Rattle.rules.specs.Refusals.{bad_target};
 ghost use Rattle.sound.specs.Lent.{view_of, sound_tables, WithQueue, WithProcess, lent};
 ghost use Rattle.effects.specs.Changes.{Ready, Changed};
@@ -56,7 +58,8 @@ fn is_absorbed(
 ) -> bool
     requires with_queue { WithQueue (target_queue process thread) (lent ps.now ts.now tb.now pb.now) }
     requires le_signal { (1 ≤ signal) × (signal ≤ signals) }
-    ensures { result ≡ absorbs (view_of (lent ps.now ts.now tb.now pb.now)) queued (target_queue process thread) signal }
+    ensures { result ≡ absorbs (view_of (lent ps.now ts.now tb.now pb.now)) queued (target_queue process thread)
+        signal }
 {
     let pending = view::pending_of(ps, ts, tb, pb, process, thread);
     let marks = view::marks_of(ps, ts, tb, pb, process, thread);
@@ -262,7 +265,8 @@ fn kill_refusal(
 // only for a send that is kept.
 fn has_no_room(ps: &[u64], ts: &[u64], tb: &[u8], pb: &[u8], f: Generation, to: u32) -> bool
     requires { sound_tables (lent ps.now ts.now tb.now pb.now) ≡ true }
-    ensures { result ≡ (needs_record (generation_of f) && leb record_limit ((view_of (lent ps.now ts.now tb.now pb.now)).queued to)) }
+    ensures { result ≡ (needs_record (generation_of f)
+        && leb record_limit ((view_of (lent ps.now ts.now tb.now pb.now)).queued to)) }
 {
     match f {
         Generation::Keeping => RECORD_LIMIT <= queue::count_of(tb, to) + queue::count_of(pb, to),

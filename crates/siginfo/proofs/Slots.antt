@@ -93,7 +93,8 @@ fits-no_siginfo =
 in_row : (b : List ℕ) (slot at n : ℕ) → at + n ≤ record_bytes
     → take n (drop at (row record_bytes b slot)) ≡ take n (drop (slot * record_bytes + at) b)
 in_row b slot at n h =
-    take-drop-take n at record_bytes (drop (slot * record_bytes) b) h ∙ ap (take n) (drop-drop at (slot * record_bytes) b)
+    take-drop-take n at record_bytes (drop (slot * record_bytes) b) h
+    ∙ ap (take n) (drop-drop at (slot * record_bytes) b)
 
 module _ (b : List ℕ) (slot : ℕ) where
   abbrev field : ℕ → ℕ → ℕ
@@ -184,7 +185,8 @@ slot_bytes-slots (suc n) b e h =
     bytes_of-siginfo_of (take record_bytes b) (length-take-le record_bytes b (omega arith))
     (All-take (λ x. x < 256) record_bytes b h) in
     let rest : slot_bytes (slots n (drop record_bytes b)) ≡ drop record_bytes b =
-    slot_bytes-slots n (drop record_bytes b) (rw length-drop (omega arith)) (All-drop (λ x. x < 256) record_bytes b h) in
+    slot_bytes-slots n (drop record_bytes b) (rw length-drop (omega arith)) (All-drop (λ x. x < 256) record_bytes b h)
+    in
     ap₂ (λ x y. x ++ y) here rest ∙ take-append-drop record_bytes b
 
 -- records to bytes and back

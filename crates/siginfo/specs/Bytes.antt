@@ -1,6 +1,6 @@
 -- "A record is 32 bytes, little-endian": numbers of any width as bytes, the bytes of one record,
 -- and those of a row of slots.
-use Rattle.std.specs.Prelude.{ℕ, zero, suc, ◌+◌, ◌*◌, ◌/◌, ◌%◌, ◌^◌, ◌<◌, List, [], ◌∷◌, ◌++◌, length, take, drop}
+use Rattle.std.specs.Prelude.{ℕ, zero, suc, ◌+◌, ◌*◌, ◌/◌, ◌%◌, ◌^◌, ◌<◌, List, [], ◌∷◌, ◌++◌, take, drop}
 use Rattle.limits.specs.Limits.{record_process, record_thread, record_signal, record_code, record_sender, record_uid}
 use Rattle.limits.specs.Limits.{record_value, record_bytes}
 use Rattle.lists.specs.Lists.{All}

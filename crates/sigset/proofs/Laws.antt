@@ -122,7 +122,10 @@ has-beyond a (suc k) l h = rw (div-eq_of_lt (lt_of_lt_of_le l (pow_mono {i = sig
   where
     far : signals ≤ k
     far =
-        elim (dec_le signals k) [ yes g ↦ g | no n ↦ absurd (h (record { low = omega arith; high = omega (arith, n) })) ]
+        elim (dec_le signals k) [
+          | yes g ↦ g
+          | no n ↦ absurd (h (record { low = omega arith; high = omega (arith, n) }))
+        ]
 
 -- ---- the members of each set
 

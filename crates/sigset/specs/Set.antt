@@ -1,6 +1,6 @@
 -- Signal sets, by membership. Document 01, "Signals and sets": a set is 64 bits; signal s is bit s-1.
 -- Every definition computes on numerals.
-use Rattle.std.specs.Prelude.{Bool, true, false, not, ◌&&◌, ◌||◌, cond, ℕ, zero, suc, ◌+◌, ◌*◌, ◌/◌, ◌%◌, ◌^◌, ◌≤◌, eqb}
+use Rattle.std.specs.Prelude.{Bool, false, not, ◌&&◌, ◌||◌, cond, ℕ, zero, suc, ◌+◌, ◌*◌, ◌/◌, ◌%◌, ◌^◌, ◌≤◌, eqb}
 use Rattle.limits.specs.Limits.{signals, SIGKILL, SIGSTOP}
 use Rattle.sigset.specs.declared.SigSet.{SigSet}
 

@@ -6,7 +6,8 @@ use Prim.Native.Nat.{ℕ, ◌≤◌, ◌<◌}
 use lib.Dec.{eqb}
 use lib.ListN.{length}
 use borrow.Author.Tests.{eqb-true, eq-eqb}
-use Rattle.limits.specs.Limits.{process_places, process_table, thread_places, thread_table, buffer_records, buffer_bytes}
+use Rattle.limits.specs.Limits.{process_places, process_table, thread_places, thread_table, buffer_records}
+use Rattle.limits.specs.Limits.{buffer_bytes}
 use Rattle.limits.specs.Limits.{record_limit}
 use Rattle.lists.specs.Lists.{any, count, find}
 use Rattle.lists.proofs.Bools.{and-fst, and-snd, and_both}

@@ -57,7 +57,8 @@ module _ (ps ts ph th ignored owners : List ℕ) (long : (length ps ≡ process_
             λ i l live.
             and-fst (any (is_process (thread_at ts i).holds.process) (held_processes ps)) _
             (rw (not-true (eqb (thread_at ts i).holds.id 0) live) at
-            (below_all (thread_ok_at (thread_by th ts) (processes_of ps) (threads_of ts)) thread_places threads-ok i l));
+            (below_all (thread_ok_at (thread_by th ts) (processes_of ps) (threads_of ts)) thread_places threads-ok i
+            l));
         ignores = known;
         owner = owned;
       }

@@ -6,7 +6,8 @@ use mathlib.Core.List.{List}
 use lib.Dec.{eqb}
 use lib.ListN.{length}
 use borrow.Author.Tests.{eqb-true, eq-eqb, not-true, not-false}
-use Rattle.limits.specs.Limits.{process_places, process_table, thread_places, thread_table, buffer_records, buffer_bytes}
+use Rattle.limits.specs.Limits.{process_places, process_table, thread_places, thread_table, buffer_records}
+use Rattle.limits.specs.Limits.{buffer_bytes}
 use Rattle.lists.specs.Lists.{count, find}
 use Rattle.lists.proofs.Bools.{and_both, and_left, and_right, or_cases, or-fst-false, or-snd-false}
 use Rattle.hints.specs.Hints.{Hinted}
@@ -101,17 +102,18 @@ module _ (ps ts tb pb : List ℕ) where
 
   -- lengths and what is behind the records being right, places and records decide
   module _ (ph th : List ℕ) (hp : Hinted process_places ph) (ht : Hinted thread_places th)
-      (lp : length ps ≡ process_table) (lt : length ts ≡ thread_table) (t : is_laid tb ≡ true) (p : is_laid pb ≡ true) where
-    hinted : sound_tables (lent ps ts tb pb) ≡ tested (process_by ph ps) (thread_by th ts)
-    hinted =
-        told (process_by ph ps) (thread_by th ts) (λ n c. process-found ph ps n hp c) (λ n c. thread-found th ts n ht c)
+      (lp : length ps ≡ process_table) (lt : length ts ≡ thread_table) (t : is_laid tb ≡ true) (p : is_laid pb ≡ true)
+    where
+      hinted : sound_tables (lent ps ts tb pb) ≡ tested (process_by ph ps) (thread_by th ts)
+      hinted =
+          told (process_by ph ps) (thread_by th ts) (λ n c. process-found ph ps n hp c) (λ n c. thread-found th ts n ht c)
 
-    pub places-wrong : places_ok (process_by ph ps) (thread_by th ts) (processes_of ps) (threads_of ts) ≡ false
-        → false ≡ sound_tables (lent ps ts tb pb)
-    places-wrong e =
-        sym (hinted ∙ rw (eq-eqb (length ps) process_table lp, eq-eqb (length ts) thread_table lt, t, p, e))
+      pub places-wrong : places_ok (process_by ph ps) (thread_by th ts) (processes_of ps) (threads_of ts) ≡ false
+          → false ≡ sound_tables (lent ps ts tb pb)
+      places-wrong e =
+          sym (hinted ∙ rw (eq-eqb (length ps) process_table lp, eq-eqb (length ts) thread_table lt, t, p, e))
 
-    pub records-decide : places_ok (process_by ph ps) (thread_by th ts) (processes_of ps) (threads_of ts) ≡ true
-        → records_ok (processes_of ps) (threads_of ts) (records_of tb) (records_of pb) ≡ sound_tables (lent ps ts tb pb)
-    records-decide e =
-        sym (hinted ∙ rw (eq-eqb (length ps) process_table lp, eq-eqb (length ts) thread_table lt, t, p, e))
+      pub records-decide : places_ok (process_by ph ps) (thread_by th ts) (processes_of ps) (threads_of ts) ≡ true
+          → records_ok (processes_of ps) (threads_of ts) (records_of tb) (records_of pb) ≡ sound_tables (lent ps ts tb pb)
+      records-decide e =
+          sym (hinted ∙ rw (eq-eqb (length ps) process_table lp, eq-eqb (length ts) thread_table lt, t, p, e))

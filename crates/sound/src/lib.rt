@@ -1,5 +1,6 @@
 // Is the store sound? One test of the four lent tables, for any words, any bytes and any lengths.
 #![tactic(auto)]
+
 ghost use Rattle.std.specs.Prelude.{◌≡◌, true, length};
 ghost use Rattle.limits.specs.Limits.{process_table, thread_table};
 ghost use Rattle.queue.specs.Queue.{is_laid};

@@ -17,7 +17,8 @@ use Rattle.hints.proofs.Laws.{seek-find}
 use Rattle.rules.specs.Types.{Process, Thread}
 use Rattle.rules.specs.View.{is_process, is_thread}
 use Rattle.rules.specs.Store.{Place, held}
-use Rattle.tables.specs.Tables.{processes_of, threads_of, held_processes, held_threads, process_from, thread_from, headed}
+use Rattle.tables.specs.Tables.{processes_of, threads_of, held_processes, held_threads, process_from, thread_from}
+use Rattle.tables.specs.Tables.{headed}
 use Rattle.tables.proofs.Words.{length-processes_of, length-threads_of}
 use Rattle.tables.proofs.Places.{held_at}
 use Rattle.soundness.specs.Check.{process_by, thread_by}

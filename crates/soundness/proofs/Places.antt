@@ -18,9 +18,11 @@ use Rattle.types.specs.declared.Action.{Action}
 use Rattle.rules.specs.Types.{Process, Thread, no_process}
 use Rattle.rules.specs.View.{is_process, action_of, live_process, the_process, thread_action}
 use Rattle.rules.specs.Store.{Place, Store, free_process, free_thread, view}
-use Rattle.rules.specs.Sound.{is_live, process_id, thread_id, actions_long, is_default, zero_process, zero_thread, good_id}
+use Rattle.rules.specs.Sound.{is_live, process_id, thread_id, actions_long, is_default, zero_process, zero_thread}
+use Rattle.rules.specs.Sound.{good_id}
 use Rattle.rules.specs.Sound.{fields_fit, belongs, unmasked, action_unmasked, process_unmasked, thread_unmasked}
-use Rattle.rules.specs.Sound.{kill_stop_default, flags_known, process_flags_known, marks_not_ignored, thread_not_ignored}
+use Rattle.rules.specs.Sound.{kill_stop_default, flags_known, process_flags_known, marks_not_ignored}
+use Rattle.rules.specs.Sound.{thread_not_ignored}
 use Rattle.rules.proofs.ClausesByPlace.{OwnProcess, GoodThread, own-free-process}
 use Rattle.rules.proofs.Vacated.{good-free-thread}
 use Rattle.tables.specs.Tables.{action_to, head_to, process_from, process_to, thread_from, thread_to}

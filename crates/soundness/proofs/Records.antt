@@ -19,11 +19,14 @@ use Rattle.sigset.specs.Set.{has}
 use Rattle.types.specs.declared.Siginfo.{Siginfo}
 use Rattle.rules.specs.Types.{Process, Queue}
 use Rattle.rules.specs.Signals.{is_signal, standard}
-use Rattle.rules.specs.View.{is_process, is_thread, same_queue, queue_of, thread_queue, live_process, live_thread, the_process}
+use Rattle.rules.specs.View.{is_process, is_thread, same_queue, queue_of, thread_queue, live_process, live_thread}
+use Rattle.rules.specs.View.{the_process}
 use Rattle.rules.specs.View.{the_thread}
-use Rattle.rules.specs.Store.{Place, Store, held, free_process, free_thread, in_use, used, mark_in, of_process, queued_in}
+use Rattle.rules.specs.Store.{Place, Store, held, free_process, free_thread, in_use, used, mark_in, of_process}
+use Rattle.rules.specs.Store.{queued_in}
 use Rattle.rules.specs.Store.{view}
-use Rattle.rules.specs.Sound.{if_live, if_free, process_id, thread_id, zero_thread, names_live, aimed_at_thread, aimed_at_process}
+use Rattle.rules.specs.Sound.{if_live, if_free, process_id, thread_id, zero_thread, names_live, aimed_at_thread}
+use Rattle.rules.specs.Sound.{aimed_at_process}
 use Rattle.rules.specs.Sound.{record_not_ignored, is_standard, not_twice, not_marked_too, within_limit, limit_kept}
 use Rattle.rules.proofs.ClausesByPlace.{GoodRecord}
 use Rattle.rules.proofs.Aimed.{thread-live, thread-owner, process-live, process-own}
@@ -125,7 +128,8 @@ module _ (st : Store) where
   module _ (one : (n : ℕ) → count (is_thread n) (map held st.threads) ≤ 1) where
     thread-record : (r : Siginfo)
         → Tells (thread_record_good st.processes st.threads r) (GoodRecord st (aimed_at_thread (view st)) r)
-    unfolding thread_record_good thread_record_ok aimed_at_thread names_live record_not_ignored live_process live_thread the_process
+    unfolding thread_record_good thread_record_ok aimed_at_thread names_live record_not_ignored live_process live_thread
+        the_process
         the_thread view
     thread-record r =
         record-tells st (aimed_at_thread (view st)) _ r (λ e. thread-unmarked st r e (one r.thread))
@@ -140,7 +144,8 @@ module _ (st : Store) where
       (free : all (if_free thread_id zero_thread) st.threads ≡ true) where
     process-record : (r : Siginfo)
         → Tells (process_record_good st.processes r) (GoodRecord st (aimed_at_process (view st)) r)
-    unfolding process_record_good process_record_ok aimed_at_process names_live record_not_ignored live_process the_process view
+    unfolding process_record_good process_record_ok aimed_at_process names_live record_not_ignored live_process
+        the_process view
     process-record r =
         record-tells st (aimed_at_process (view st)) _ r (λ e. process-unmarked st r e (one r.process) free)
 
@@ -188,7 +193,8 @@ module _ (st : Store) where
   process_tally = tallies (map held st.processes) (used st.process_buffer)
 
   within-at : (i : ℕ) → i < length st.processes
-      → within_at thread_tally process_tally i ≡ if_live process_id (within_limit st) (get_or st.processes i free_process)
+      → within_at thread_tally process_tally i
+      ≡ if_live process_id (within_limit st) (get_or st.processes i free_process)
   unfolding within_at queued_in
   within-at i h =
       ap₂ (λ (m n : ℕ). leb (m + n) record_limit) (tally-at st.processes (used st.thread_buffer) i h)

@@ -14,7 +14,8 @@ use Rattle.lists.proofs.Index.{all-below, below_all}
 use Rattle.rules.specs.Types.{Process, Thread}
 use Rattle.rules.specs.View.{is_process, is_thread}
 use Rattle.rules.specs.Store.{Place, Store, held, free_process, free_thread, used, view}
-use Rattle.rules.specs.Sound.{is_live, apart, if_live, if_free, process_id, thread_id, actions_long, lengths_right, zero_thread}
+use Rattle.rules.specs.Sound.{is_live, apart, if_live, if_free, process_id, thread_id, actions_long, lengths_right}
+use Rattle.rules.specs.Sound.{zero_thread}
 use Rattle.rules.specs.Sound.{has_thread, rest_zero, aimed_at_thread, aimed_at_process, within_limit, limit_kept, sound}
 use Rattle.rules.proofs.Ids.{one-held, distinct-held, told-apart}
 use Rattle.rules.proofs.ClausesByTable.{Lengths, lengths-of}

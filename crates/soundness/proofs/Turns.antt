@@ -128,7 +128,8 @@ module _ (xs : List (Place Process)) (ys : List (Place Thread)) where
 
     -- not ok, or not fresh
     pub thread-fails :
-        (thread_record_ok xs ys r && is_fresh (seen_sets thread_queue ys (take i rs)) (thread_place ys r) r.signal) ≡ false
+        (thread_record_ok xs ys r && is_fresh (seen_sets thread_queue ys (take i rs)) (thread_place ys r) r.signal)
+        ≡ false
         → thread_records_ok xs ys rs ≡ false
     thread-fails b = split (thread_record_ok xs ys r) (λ k. thread-stale k (rw k at b)) (λ k. thread-bad k)
 

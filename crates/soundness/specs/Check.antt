@@ -1,7 +1,8 @@
 -- The test of soundness in the order in which it is made: place by place, then record by record.
 -- proofs/Regrouped shows that it is the rules' test. Crates places, records and sound make it.
 use Rattle.std.specs.Prelude.{ℕ, ◌+◌, ◌≤◌, Bool, not, ◌&&◌, cond, List, [], map, eqb, leb, get_or, set}
-use Rattle.limits.specs.Limits.{process_places, process_words, thread_places, thread_words, buffer_records, record_limit}
+use Rattle.limits.specs.Limits.{process_places, process_words, thread_places, thread_words, buffer_records}
+use Rattle.limits.specs.Limits.{record_limit}
 use Rattle.limits.specs.Limits.{si_queue}
 use Rattle.lists.specs.Lists.{all, any, count, find, pairs, range}
 use Rattle.zeros.specs.Zeros.{is_nought}
@@ -173,7 +174,8 @@ process_record_ok xs r = aimed_at_process (places_view xs []) r && record_not_ig
 
 -- and not marked too
 unfoldable pub thread_record_good : List (Place Process) → List (Place Thread) → Siginfo → Bool
-thread_record_good xs ys r = thread_record_ok xs ys r && is_fresh (seen_sets thread_queue ys []) (thread_place ys r) r.signal
+thread_record_good xs ys r = thread_record_ok xs ys r
+    && is_fresh (seen_sets thread_queue ys []) (thread_place ys r) r.signal
 
 unfoldable pub process_record_good : List (Place Process) → Siginfo → Bool
 process_record_good xs r = process_record_ok xs r && is_fresh (seen_sets own_queue xs []) (process_place xs r) r.signal

@@ -67,7 +67,8 @@ module _ (ws : List ℕ) (long : length ws ≡ process_table) (place : ℕ) (h :
   unfolding action_of process_from headed
   action-words signal b low high e =
       ap (λ (x : Place Process). get_or x.holds.actions (signal - 1) default_action) (process-from ws place h)
-      ∙ get_d_rows action_from action_words signals (drop head_words (row process_words ws place)) (signal - 1) default_action
+      ∙ get_d_rows action_from action_words signals (drop head_words (row process_words ws place)) (signal - 1)
+      default_action
       (omega arith)
       ∙ ap action_from
       (action-row signal low high ∙ ap (λ k. take action_words (drop k ws)) (sym e)
@@ -92,7 +93,8 @@ module _ (l : List ℕ) (long : length l ≡ process_words) where
   field-set k v hk =
       ap₂ (λ x y. headed x (rows action_from action_words signals y)) (take-set-lt head_words l k v hk)
       (drop-set-lt head_words l k v hk)
-      ∙ ap (λ x. headed (set x k v) (rows action_from action_words signals (drop head_words l))) (sym (head-from l long))
+      ∙ ap (λ x. headed (set x k v) (rows action_from action_words signals (drop head_words l)))
+      (sym (head-from l long))
 
   action-set : (signal : ℕ) (a : Action) → 1 ≤ signal → signal ≤ signals
       → process_from (sets l (head_words + (signal - 1) * action_words) (action_to a)) ≡ acted signal a (process_from l)
@@ -134,7 +136,8 @@ module _ (ws : List ℕ) (long : length ws ≡ process_table) (place : ℕ) (h :
       ∙ ap (with_field field v) (sym (process-from ws place h)))
 
   pub action-put : (signal b : ℕ) (a : Action) → 1 ≤ signal → signal ≤ signals → b ≡ action_base place signal
-      → processes_of (sets_from ws b 0 (action_to a)) ≡ set (processes_of ws) place (acted signal a (process_at ws place))
+      → processes_of (sets_from ws b 0 (action_to a))
+      ≡ set (processes_of ws) place (acted signal a (process_at ws place))
   action-put signal b a low high e =
       let o : ℕ = (signal - 1) * action_words in
       ap processes_of (sets-at ws b (action_to a))
@@ -213,7 +216,8 @@ added-fields new = refl
 
 abbrev with_thread_fields : (id process mask : ℕ) → Place Thread
 with_thread_fields id process mask =
-    with_thread_field thread_mask mask (with_thread_field thread_process process (with_thread_field thread_id id free_thread))
+    with_thread_field thread_mask mask
+    (with_thread_field thread_process process (with_thread_field thread_id id free_thread))
 
 thread-fields : (id process : ℕ) (mask : SigSet) → with_thread_fields id process mask.0 ≡ thread_placed id process mask
 unfolding with_thread_field thread_from thread_to

@@ -93,7 +93,8 @@ head-from l h =
     head-back (take head_words l) (rows action_from action_words signals (drop head_words l))
     (length-take-le head_words l (omega arith))
 
-actions-back : (l : List ℕ) → length l ≡ process_words → flat action_to (process_from l).holds.actions ≡ drop head_words l
+actions-back : (l : List ℕ) → length l ≡ process_words → flat action_to (process_from l).holds.actions
+    ≡ drop head_words l
 unfolding process_from headed
 actions-back l h =
     flat_rows action_from action_to action_words action-back signals (drop head_words l) (rw length-drop (omega arith))

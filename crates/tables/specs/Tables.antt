@@ -1,8 +1,10 @@
 -- What the words of the process table and of the thread table say, place by place, and the words of a list of places.
 use Rattle.std.specs.Prelude.{ℕ, List, [], ◌∷◌, ◌++◌, map, Bool, eqb, get_or, take, drop, set}
 use Rattle.limits.specs.Limits.{process_places, thread_places, signals, process_id, process_real, process_effective}
-use Rattle.limits.specs.Limits.{process_saved, process_session, process_stopped, process_marks, head_words, action_handler}
-use Rattle.limits.specs.Limits.{action_flags, action_mask, action_words, thread_id, thread_process, thread_mask, thread_marks}
+use Rattle.limits.specs.Limits.{process_saved, process_session, process_stopped, process_marks, head_words}
+use Rattle.limits.specs.Limits.{action_handler}
+use Rattle.limits.specs.Limits.{action_flags, action_mask, action_words, thread_id, thread_process, thread_mask}
+use Rattle.limits.specs.Limits.{thread_marks}
 use Rattle.limits.specs.Limits.{thread_words, process_words}
 use Rattle.lists.specs.Rows.{rows, flat}
 use Rattle.sigset.specs.declared.SigSet.{SigSet}
@@ -16,7 +18,12 @@ use Rattle.rules.specs.Store.{Place, held, free_process, free_thread, with_actio
 -- an action is "a 64-bit handler number .., flags, and a mask"
 unfoldable pub action_from : List ℕ → Action
 action_from l =
-    record { handler = get_or l action_handler 0; flags = get_or l action_flags 0; mask = bits (get_or l action_mask 0) }
+    record {
+      handler = get_or l action_handler 0;
+      flags = get_or l action_flags 0;
+      mask =
+          bits (get_or l action_mask 0);
+    }
 
 unfoldable pub action_to : Action → List ℕ
 action_to a = a.handler ∷ a.flags ∷ a.mask.0 ∷ []
@@ -54,7 +61,12 @@ process_to x = head_to x ++ flat action_to x.holds.actions
 unfoldable pub thread_from : List ℕ → Place Thread
 thread_from l =
     record {
-      holds = record { id = get_or l thread_id 0; process = get_or l thread_process 0; mask = bits (get_or l thread_mask 0) };
+      holds = record {
+        id = get_or l thread_id 0;
+        process = get_or l thread_process 0;
+        mask =
+            bits (get_or l thread_mask 0);
+      };
       marks = bits (get_or l thread_marks 0);
     }
 

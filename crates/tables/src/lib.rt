@@ -1,8 +1,10 @@
 // The process table and the thread table as words: a place found by id, read, written, filled and cleared.
 #![tactic(auto)]
+
 ghost use Rattle.std.specs.Prelude.{◌≡◌, ◌+◌, ◌-◌, ◌*◌, ◌≤◌, ◌<◌, length, get_or, set, replicate};
 ghost use Rattle.std.proofs.lemmas.List.Edits.{sets};
-ghost use Rattle.limits.specs.Limits.{process_places, process_table, thread_places, thread_table, signals, process_words};
+ghost use Rattle.limits.specs.Limits.{process_places, process_table, thread_places, thread_table, signals};
+ghost use Rattle.limits.specs.Limits.{process_words};
 ghost use Rattle.limits.specs.Limits.{head_words, action_words, thread_words};
 ghost use Rattle.lists.specs.Lists.{find};
 ghost use Rattle.rules.specs.View.{is_process, is_thread, action_of};

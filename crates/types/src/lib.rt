@@ -1,5 +1,6 @@
 // The values that the tables hold and that calls carry and answer, by value.
 #![tactic(auto)]
+
 use limits::SIG_DFL;
 use sigset::SigSet;
 

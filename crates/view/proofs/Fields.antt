@@ -7,7 +7,8 @@ use lib.Dec.{eqb, leb, ltb}
 use lib.ListN.{length, get_or}
 use borrow.Author.Tests.{leb-true}
 use Rattle.limits.specs.Limits.{SIGCONT, process_places, thread_places, largest_id, largest_user, process_stopped}
-use Rattle.limits.specs.Limits.{process_real, process_effective, process_saved, process_session, thread_process, thread_mask}
+use Rattle.limits.specs.Limits.{process_real, process_effective, process_saved, process_session, thread_process}
+use Rattle.limits.specs.Limits.{thread_mask}
 use Rattle.lists.specs.Lists.{any, find}
 use Rattle.lists.proofs.Bools.{and-snd}
 use Rattle.lists.proofs.Finds.{any-inside, find-within}
@@ -47,7 +48,8 @@ module _ (ps : List ℕ) (n place : ℕ) (e : place ≡ find (is_process n) (hel
       (any-inside (is_process n) (held_processes ps) process_places (length-held_processes ps) l)
 
   pub process-there : (process_at ps place).holds ≡ process_named ps n
-  process-there = ap (λ (k : ℕ). (process_at ps k).holds) e ∙ sym (first-held free_process (is_process n) (processes_of ps))
+  process-there = ap (λ (k : ℕ). (process_at ps k).holds) e
+      ∙ sym (first-held free_process (is_process n) (processes_of ps))
 
   module _ (r : ℕ) where
     pub stopped-read : r ≡ get_or (head_to (process_at ps place)) process_stopped 0 → r ≡ (process_named ps n).stopped
@@ -58,7 +60,8 @@ module _ (ps : List ℕ) (n place : ℕ) (e : place ≡ find (is_process n) (hel
     unfolding head_to
     real_read h = h ∙ ap (λ (p : Process). p.real) process-there
 
-    pub effective-read : r ≡ get_or (head_to (process_at ps place)) process_effective 0 → r ≡ (process_named ps n).effective
+    pub effective-read : r ≡ get_or (head_to (process_at ps place)) process_effective 0 → r
+        ≡ (process_named ps n).effective
     unfolding head_to
     effective-read h = h ∙ ap (λ (p : Process). p.effective) process-there
 
@@ -83,11 +86,13 @@ module _ (ts : List ℕ) (n place : ℕ) (e : place ≡ find (is_thread n) (held
   pub thread-there : (thread_at ts place).holds ≡ thread_named ts n
   thread-there = ap (λ (k : ℕ). (thread_at ts k).holds) e ∙ sym (first-held free_thread (is_thread n) (threads_of ts))
 
-  pub owner-read : (r : ℕ) → r ≡ get_or (thread_to (thread_at ts place)) thread_process 0 → r ≡ (thread_named ts n).process
+  pub owner-read : (r : ℕ) → r ≡ get_or (thread_to (thread_at ts place)) thread_process 0 → r
+      ≡ (thread_named ts n).process
   unfolding thread_to
   owner-read r h = h ∙ ap (λ (t : Thread). t.process) thread-there
 
-  pub mask-read : (r : ℕ) → r ≡ get_or (thread_to (thread_at ts place)) thread_mask 0 → bits r ≡ (thread_named ts n).mask
+  pub mask-read : (r : ℕ) → r ≡ get_or (thread_to (thread_at ts place)) thread_mask 0 → bits r
+      ≡ (thread_named ts n).mask
   unfolding thread_to
   mask-read r h = ap bits h ∙ ap (λ (t : Thread). t.mask) thread-there
 

@@ -9,7 +9,8 @@ use Rattle.sigset.specs.declared.SigSet.{SigSet}
 use Rattle.sigset.specs.Set.{Signal, has, set_of, union}
 use Rattle.sigset.proofs.Laws.{has-set, has-union}
 use Rattle.rules.specs.Types.{Thread, Queue}
-use Rattle.rules.specs.View.{View, is_process, is_thread, process_queue, thread_queue, target_queue, live_process, live_thread}
+use Rattle.rules.specs.View.{View, is_process, is_thread, process_queue, thread_queue, target_queue, live_process}
+use Rattle.rules.specs.View.{live_thread}
 use Rattle.rules.specs.View.{the_process, the_thread, pending_in, pending_for}
 use Rattle.rules.specs.Store.{view}
 use Rattle.rules.specs.Sound.{good_id}

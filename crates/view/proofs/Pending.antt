@@ -53,7 +53,8 @@ module _ (l : Lent) (e : sound_tables l ≡ true) where
       ap₂ target_queue o (the-thread-id (decoded l) t live) in
       marked (target_queue p t) r (thread_at l.threads (find (is_thread t) (held_threads l.threads))).marks b
       (ap bits h ∙ ap (λ (k : ℕ). (thread_at l.threads k).marks) f)
-      (λ s. ap (λ (x : Queue). mark_in (decoded l) x s) (sym q) ∙ marks-of-thread (decoded l) (store-sound l e) t live s)
+      (λ s. ap (λ (x : Queue). mark_in (decoded l) x s) (sym q)
+      ∙ marks-of-thread (decoded l) (store-sound l e) t live s)
 
 module _ (l : Lent) where
   -- records and marks

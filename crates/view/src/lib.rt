@@ -1,6 +1,7 @@
 // What the rules read of the lent tables: who is live, the fields of a process or a thread by id,
 // and what is pending in a queue.
 #![tactic(auto)]
+
 ghost use Rattle.std.specs.Prelude.{◌≡◌, true, not, cond, [], ◌∷◌, ◌≤◌, eqb, length};
 ghost use Rattle.limits.specs.Limits.{process_table, thread_table, buffer_bytes, signals};
 ghost use Rattle.lists.specs.Lists.{any};

@@ -1,6 +1,7 @@
 // Are the words, or the bytes, of a part all zero? Each loop goes to its end and puts together what it reads,
 // so that the compiler reads many at once.
 #![tactic(auto)]
+
 ghost use Rattle.std.specs.Prelude.{◌≡◌, ◌+◌, ◌≤◌, length, take, drop};
 ghost use Rattle.lists.specs.Lists.{all};
 ghost use Rattle.zeros.specs.Zeros.{is_nought};

@@ -15,13 +15,13 @@ pub new_process-requires : goal.new_process-requires
 new_process-requires c =
     let both = process-room (lent c.args.ps.now c.args.ts.now c.args.tb.now c.args.pb.now)
     c.args.new c.add_process_refusal-n.result c.add_process_refusal-n.ensures c.if-n-ne0.false in
-    record { ps_len = both.0; ps_value = both.1; }
+    record { ps_len = both.0; ps_value = both.1 }
 
 pub new_thread-requires : goal.new_thread-requires
 new_thread-requires c =
     let both = first-thread-room (lent c.args.ps.now c.args.ts.now c.args.tb.now c.args.pb.now)
     c.args.new c.add_process_refusal-n.result c.add_process_refusal-n.ensures c.if-n-ne0.false in
-    record { ts_len = both.0; ts_value = both.1; }
+    record { ts_len = both.0; ts_value = both.1 }
 
 pub returns : goal.returns
 returns c =

@@ -1,8 +1,10 @@
 -- `call_of` meets its contract. Assumes nothing.
 use mathlib.Core.Path.{◌≡◌, ap, ◌∙◌}
 use native.Mathlib.Omega.{arith}
-use Rattle.limits.specs.Limits.{call_clear, call_add_process, call_add_thread, call_end_process, call_end_thread, call_kill}
-use Rattle.limits.specs.Limits.{call_sigqueue, call_sigaction, call_sigmask, call_sigpending, call_look, call_who, call_take}
+use Rattle.limits.specs.Limits.{call_clear, call_add_process, call_add_thread, call_end_process, call_end_thread}
+use Rattle.limits.specs.Limits.{call_kill}
+use Rattle.limits.specs.Limits.{call_sigqueue, call_sigaction, call_sigmask, call_sigpending, call_look, call_who}
+use Rattle.limits.specs.Limits.{call_take}
 use Rattle.limits.specs.Limits.{call_sigreturn}
 use Rattle.rules.specs.Types.{add_process, sigaction, sigmask}
 use Rattle.calls.specs.Calls.{placing_of, sending_of, setting_of, asking_of, call_of}
@@ -108,5 +110,6 @@ unfolding call_of placing_of sending_of setting_of asking_of numbered calls_of
 returns-in_default c =
     let a = c.args in
     let b = call-bounds a.number c.requires in
-    let last : a.number ≡ call_sigreturn = omega (arith, b.1, past a.number call_take c.in_default.in_default-own.rest b.0) in
+    let last : a.number ≡ call_sigreturn =
+    omega (arith, b.1, past a.number call_take c.in_default.in_default-own.rest b.0) in
     at-number a.number call_sigreturn (arguments a.a a.b a.c a.d a.e a.f a.x a.y a.z) last

@@ -12,14 +12,16 @@ pub field_at-requires : goal.field_at-requires
 field_at-requires c =
     let ps = c.args.ps.now in
     let h =
-    any-inside (is_process c.args.process) (held_processes ps) process_places (length-held_processes ps) c.requires.ps_value in
+    any-inside (is_process c.args.process) (held_processes ps) process_places (length-held_processes ps)
+    c.requires.ps_value in
     (c.requires.ps_len, (omega (arith, c.find_process-place.ensures), omega arith))
 
 pub put_field-requires : goal.put_field-requires
 put_field-requires c =
     let ps = c.args.ps.now in
     let h =
-    any-inside (is_process c.args.process) (held_processes ps) process_places (length-held_processes ps) c.requires.ps_value in
+    any-inside (is_process c.args.process) (held_processes ps) process_places (length-held_processes ps)
+    c.requires.ps_value in
     (c.requires.ps_len, (omega (arith, c.find_process-place.ensures), omega arith))
 
 pub returns : goal.returns

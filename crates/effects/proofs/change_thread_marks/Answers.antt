@@ -11,13 +11,15 @@ use Rattle.effects.proofs.change_thread_marks.Goals as goal
 pub thread_field_at-requires : goal.thread_field_at-requires
 thread_field_at-requires c =
     let ts = c.args.ts.now in
-    let h = any-inside (is_thread c.args.thread) (held_threads ts) thread_places (length-held_threads ts) c.requires.ts_value in
+    let h = any-inside (is_thread c.args.thread) (held_threads ts) thread_places (length-held_threads ts)
+    c.requires.ts_value in
     (c.requires.ts_len, (omega (arith, c.find_thread-place.ensures), omega arith))
 
 pub put_thread_field-requires : goal.put_thread_field-requires
 put_thread_field-requires c =
     let ts = c.args.ts.now in
-    let h = any-inside (is_thread c.args.thread) (held_threads ts) thread_places (length-held_threads ts) c.requires.ts_value in
+    let h = any-inside (is_thread c.args.thread) (held_threads ts) thread_places (length-held_threads ts)
+    c.requires.ts_value in
     (c.requires.ts_len, (omega (arith, c.find_thread-place.ensures), omega arith))
 
 pub returns : goal.returns

@@ -27,7 +27,7 @@ loop-i-preserved c =
     let x = thread_at ts i in
     let h = c.loop-i-test.true in
     elim c.if-thread_field_at-process.branch [
-      then-thread_field_at-process w ↦
+      | then-thread_field_at-process w ↦
           passing_step (with_marking_of p how) ts₀ ts i c.loop-i.invariant h c.if-thread_field_at-process.ts _
           (marks-changed-here p c.thread_field_at.result x c.thread_field_at.ensures how
           w.thread_field_at-then-thread_field_at-process.result w.marked-m.result

@@ -54,5 +54,6 @@ returns-else-thread-eq0 c =
     let s = c.args.signal in
     let tb' = c.remove-else-thread-eq0.new.b in
     makes c.requires refl refl (search rules) refl
-    (drop-thread l q s c.first_of-k-else-thread-eq0.result (ne_eqb c.args.thread 0 c.if-thread-eq0.false) c.first_of-k-else-thread-eq0.ensures tb'
+    (drop-thread l q s c.first_of-k-else-thread-eq0.result (ne_eqb c.args.thread 0 c.if-thread-eq0.false)
+    c.first_of-k-else-thread-eq0.ensures tb'
     c.remove-else-thread-eq0.ensures)

@@ -14,7 +14,8 @@ use Rattle.effects.proofs.new_process.Goals as goal
 pub fill_process-requires : goal.fill_process-requires
 fill_process-requires c =
     let ps = c.args.ps.now in
-    let h = any-inside is_free_process (held_processes ps) process_places (length-held_processes ps) c.requires.ps_value in
+    let h = any-inside is_free_process (held_processes ps) process_places (length-held_processes ps) c.requires.ps_value
+    in
     (c.requires.ps_len, omega (arith, c.free_process-place.ensures))
 
 pub returns : goal.returns

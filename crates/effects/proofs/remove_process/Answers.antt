@@ -16,8 +16,11 @@ pub clear_process-requires : goal.clear_process-requires
 clear_process-requires c =
     let l = lent c.args.ps.now c.args.ts.now c.args.tb.now c.args.pb.now in
     let n = c.args.process in
-    let live = ended-live (view_of l) n (fits_one c.requires) in
-    (processes-long l c.requires.sound, process-inside l n c.find_process-place.result live c.find_process-place.ensures)
+    let live = ended-live (view_of l) n (fits_one c.requires) in (
+      processes-long l c.requires.sound,
+      process-inside l n c.find_process-place.result live
+          c.find_process-place.ensures,
+    )
 
 pub vacate_threads-requires : goal.vacate_threads-requires
 vacate_threads-requires c =

@@ -25,7 +25,7 @@ loop-i-preserved c =
     let x = thread_at ts i in
     let h = c.loop-i-test.true in
     elim c.if-process-thread_field_at.branch [
-      then-process-thread_field_at w ↦
+      | then-process-thread_field_at w ↦
           passing_step (vacated_of p) ts₀ ts i c.loop-i.invariant h c.if-process-thread_field_at.ts free_thread
           (vacated-here p c.thread_field_at.result x c.thread_field_at.ensures w.if-process-thread_field_at.true)
           (ap length w.ts-is ∙ search rules) (ap threads_of w.ts-is ∙ w.clear_thread.ensures)

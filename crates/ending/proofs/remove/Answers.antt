@@ -8,7 +8,7 @@ pub process_of-process-requires : goal.process_of-process-requires
 process_of-process-requires c =
     let both = owner-known (lent c.args.ps.now c.args.ts.now c.args.tb.now c.args.pb.now) c.requires.sound
     c.args.thread c.requires.live in
-    record { ts_len = both.0; ts_value = both.1.0; thread_value = both.1.1; }
+    record { ts_len = both.0; ts_value = both.1.0; thread_value = both.1.1 }
 
 pub has_other-requires : goal.has_other-requires
 has_other-requires c =

@@ -1,7 +1,6 @@
 -- `fill` meets its contract. The invariant: every hint is a place. Assumes nothing.
-use Prim.Native.Nat.{◌*◌, ◌-◌}
+use Prim.Native.Nat.{◌*◌}
 use mathlib.Core.Path.{sym, subst, ◌∙◌}
-use mathlib.Core.Logic.{⊎_elim}
 use native.Mathlib.Omega.{arith}
 use borrow.Author.Rules.{rules}
 use lib.ListN.{get_or}
@@ -32,7 +31,7 @@ loop-i-preserved c =
     let a = c.args in (
       omega arith,
       elim c.if-id-ne0.branch [
-        then-id-ne0 w ↦
+        | then-id-ne0 w ↦
             filling-noted a.places c.loop-i.hints c.if-id-ne0.hints (get_or a.ws.now (c.loop-i.i * a.width) 0)
             c.loop-i.i c.loop-i.invariant.1 (omega arith) (w.hints-is ∙ w.note.ensures)
         | else-id-ne0 w ↦ subst (Filling a.places) (sym w.hints-is) c.loop-i.invariant.1

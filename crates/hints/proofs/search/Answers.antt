@@ -1,5 +1,4 @@
 -- `search` meets its contract. The invariant: what is left to search is the table from i on. Assumes nothing.
-use Prim.Native.Nat.{◌-◌}
 use mathlib.Core.Path.{sym, ◌∙◌}
 use native.Mathlib.Omega.{arith}
 use borrow.Author.Rules.{rules}

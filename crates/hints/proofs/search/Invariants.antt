@@ -9,7 +9,8 @@ use Rattle.hints.proofs.search.Given as goal
 abbrev pub invariant-loop-i : goal.invariant-loop-i
 invariant-loop-i l =
     (l.i ≤ l.places)
-    × (find (is_id l.id) (ids_of l.width l.places l.ws) ≡ l.i + find (is_id l.id) (drop l.i (ids_of l.width l.places l.ws)))
+    × (find (is_id l.id) (ids_of l.width l.places l.ws)
+    ≡ l.i + find (is_id l.id) (drop l.i (ids_of l.width l.places l.ws)))
 
 abbrev pub decreases-loop-i : goal.decreases-loop-i
 decreases-loop-i l = l.places - l.i

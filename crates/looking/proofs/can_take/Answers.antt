@@ -13,8 +13,10 @@ returns-then-process-eq0 c =
     (thread_in c.args.ts.now c.args.place) c.if-process-eq0.true
 
 pub thread_field_at-requires : goal.thread_field_at-requires
-thread_field_at-requires c =
-    (threads-long (lent c.args.ps.now c.args.ts.now c.args.tb.now c.args.pb.now) c.requires.pb_value, (c.requires.place_lt_thread_places, omega arith))
+thread_field_at-requires c = (
+  threads-long (lent c.args.ps.now c.args.ts.now c.args.tb.now c.args.pb.now) c.requires.pb_value,
+  (c.requires.place_lt_thread_places, omega arith),
+)
 
 pub returns-then-thread_field_at-process : goal.returns-then-thread_field_at-process
 returns-then-thread_field_at-process c =
@@ -25,8 +27,10 @@ returns-then-thread_field_at-process c =
     (thread_in c.args.ts.now c.args.place) (λ z. c.if-thread_field_at-process.true (o ∙ z))
 
 pub thread_field_at-thread-requires : goal.thread_field_at-thread-requires
-thread_field_at-thread-requires c =
-    (threads-long (lent c.args.ps.now c.args.ts.now c.args.tb.now c.args.pb.now) c.requires.pb_value, (c.requires.place_lt_thread_places, omega arith))
+thread_field_at-thread-requires c = (
+  threads-long (lent c.args.ps.now c.args.ts.now c.args.tb.now c.args.pb.now) c.requires.pb_value,
+  (c.requires.place_lt_thread_places, omega arith),
+)
 
 pub overflow_cast-thread : goal.overflow_cast-thread
 overflow_cast-thread c =
@@ -34,7 +38,10 @@ overflow_cast-thread c =
     omega (
       arith,
       id-small (lent c.args.ps.now c.args.ts.now c.args.tb.now c.args.pb.now) c.requires.pb_value c.args.place
-          c.args.process c.requires.place_lt_thread_places (let o = owner-read c.args.ts.now c.args.place c.thread_field_at.result c.thread_field_at.ensures in owned c.args.process (thread_in c.args.ts.now c.args.place) c.if-process-eq0.false (sym o ∙ c.if-thread_field_at-process.false)) c.thread_field_at-thread.result i,
+          c.args.process c.requires.place_lt_thread_places
+          (let o = owner-read c.args.ts.now c.args.place c.thread_field_at.result c.thread_field_at.ensures in owned
+          c.args.process (thread_in c.args.ts.now c.args.place) c.if-process-eq0.false
+          (sym o ∙ c.if-thread_field_at-process.false)) c.thread_field_at-thread.result i,
     )
 
 pub next_signal-requires : goal.next_signal-requires
@@ -45,12 +52,18 @@ next_signal-requires c =
       sound = c.requires.pb_value;
       live =
           id-live (lent c.args.ps.now c.args.ts.now c.args.tb.now c.args.pb.now) c.requires.pb_value c.args.place
-          c.args.process c.requires.place_lt_thread_places (let o = owner-read c.args.ts.now c.args.place c.thread_field_at.result c.thread_field_at.ensures in owned c.args.process (thread_in c.args.ts.now c.args.place) c.if-process-eq0.false (sym o ∙ c.if-thread_field_at-process.false)) c.thread_field_at-thread.result i;
+          c.args.process c.requires.place_lt_thread_places
+          (let o = owner-read c.args.ts.now c.args.place c.thread_field_at.result c.thread_field_at.ensures in owned
+          c.args.process (thread_in c.args.ts.now c.args.place) c.if-process-eq0.false
+          (sym o ∙ c.if-thread_field_at-process.false)) c.thread_field_at-thread.result i;
     }
 
 pub returns : goal.returns
 returns c =
     let i = id-read c.args.ts.now c.args.place c.thread_field_at-thread.result c.thread_field_at-thread.ensures in
     id-takes (lent c.args.ps.now c.args.ts.now c.args.tb.now c.args.pb.now) c.requires.pb_value c.args.place
-    c.args.process c.requires.place_lt_thread_places (let o = owner-read c.args.ts.now c.args.place c.thread_field_at.result c.thread_field_at.ensures in owned c.args.process (thread_in c.args.ts.now c.args.place) c.if-process-eq0.false (sym o ∙ c.if-thread_field_at-process.false)) c.thread_field_at-thread.result i
+    c.args.process c.requires.place_lt_thread_places
+    (let o = owner-read c.args.ts.now c.args.place c.thread_field_at.result c.thread_field_at.ensures in owned
+    c.args.process (thread_in c.args.ts.now c.args.place) c.if-process-eq0.false
+    (sym o ∙ c.if-thread_field_at-process.false)) c.thread_field_at-thread.result i
     c.next_signal.result c.next_signal.ensures

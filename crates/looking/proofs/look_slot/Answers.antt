@@ -18,7 +18,9 @@ next_of-requires c =
 
 pub first_of-requires : goal.first_of-requires
 first_of-requires c =
-    process-buffer-long (lent c.args.ps.now c.args.ts.now c.args.tb.now c.args.pb.now) ((look-with (lent c.args.ps.now c.args.ts.now c.args.tb.now c.args.pb.now) c.args.thread c.thread_refusal.result c.thread_refusal.ensures c.if-thread_refusal-ne0.false).sound)
+    process-buffer-long (lent c.args.ps.now c.args.ts.now c.args.tb.now c.args.pb.now)
+    ((look-with (lent c.args.ps.now c.args.ts.now c.args.tb.now c.args.pb.now) c.args.thread c.thread_refusal.result
+    c.thread_refusal.ensures c.if-thread_refusal-ne0.false).sound)
 
 pub overflow_add-result : goal.overflow_add-result
 overflow_add-result c = omega (arith, found-small _ _ _ c.first_of.ensures)
@@ -35,7 +37,9 @@ returns-then-r-eq0 c =
 
 pub first_of-requires-in-Record : goal.first_of-requires-in-Record
 first_of-requires-in-Record c =
-    thread-buffer-long (lent c.args.ps.now c.args.ts.now c.args.tb.now c.args.pb.now) ((look-with (lent c.args.ps.now c.args.ts.now c.args.tb.now c.args.pb.now) c.args.thread c.thread_refusal.result c.thread_refusal.ensures c.if-thread_refusal-ne0.false).sound)
+    thread-buffer-long (lent c.args.ps.now c.args.ts.now c.args.tb.now c.args.pb.now)
+    ((look-with (lent c.args.ps.now c.args.ts.now c.args.tb.now c.args.pb.now) c.args.thread c.thread_refusal.result
+    c.thread_refusal.ensures c.if-thread_refusal-ne0.false).sound)
 
 pub overflow_add-result-in-Record : goal.overflow_add-result-in-Record
 overflow_add-result-in-Record c = omega (arith, found-small _ _ _ c.first_of-in-Record.ensures)

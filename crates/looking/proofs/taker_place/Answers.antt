@@ -11,13 +11,12 @@ use Rattle.sound.specs.Lent.{lent, view_of}
 use Rattle.looking.proofs.taker_place.Goals as goal
 
 pub loop-i-init : goal.loop-i-init
-loop-i-init c =
-    (
-      omega arith,
-      find_none
-          (can_take_some (view_of (lent c.args.ps.now c.args.ts.now c.args.tb.now c.args.pb.now)) c.args.process)
-          no_thread (held_threads c.args.ts.now),
-    )
+loop-i-init c = (
+  omega arith,
+  find_none
+      (can_take_some (view_of (lent c.args.ps.now c.args.ts.now c.args.tb.now c.args.pb.now)) c.args.process)
+      no_thread (held_threads c.args.ts.now),
+)
 
 pub can_take-requires : goal.can_take-requires
 can_take-requires c =
@@ -34,14 +33,13 @@ returns-then-can_take c =
     (rw length-held_threads (omega arith)) c.loop-i.invariant.1 (sym c.can_take.ensures ∙ c.if-can_take.true))
 
 pub loop-i-preserved : goal.loop-i-preserved
-loop-i-preserved c =
-    (
-      omega arith,
-      find-more
-          (can_take_some (view_of (lent c.args.ps.now c.args.ts.now c.args.tb.now c.args.pb.now)) c.args.process)
-          no_thread (held_threads c.args.ts.now) c.loop-i.i
-          (rw length-held_threads (omega arith)) c.loop-i.invariant.1 (sym c.can_take.ensures ∙ c.if-can_take.false),
-    )
+loop-i-preserved c = (
+  omega arith,
+  find-more
+      (can_take_some (view_of (lent c.args.ps.now c.args.ts.now c.args.tb.now c.args.pb.now)) c.args.process)
+      no_thread (held_threads c.args.ts.now) c.loop-i.i
+      (rw length-held_threads (omega arith)) c.loop-i.invariant.1 (sym c.can_take.ensures ∙ c.if-can_take.false),
+)
 
 pub returns : goal.returns
 returns c =

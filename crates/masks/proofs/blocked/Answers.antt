@@ -10,7 +10,7 @@ pub process_of-process-requires : goal.process_of-process-requires
 process_of-process-requires c =
     let l = lent c.args.ps.now c.args.ts.now c.args.tb.now c.args.pb.now in
     let both = owner-known l c.requires.sound c.args.thread c.requires.live in
-    record { ts_len = both.0; ts_value = both.1.0; thread_value = both.1.1; }
+    record { ts_len = both.0; ts_value = both.1.0; thread_value = both.1.1 }
 
 pub pending_of-own-requires : goal.pending_of-own-requires
 pending_of-own-requires c =
@@ -18,7 +18,8 @@ pending_of-own-requires c =
     record {
       sound = c.requires.sound;
       live =
-          own-queue l c.requires.sound c.args.thread c.requires.live c.process_of-process.result c.process_of-process.ensures;
+          own-queue l c.requires.sound c.args.thread c.requires.live c.process_of-process.result
+          c.process_of-process.ensures;
     }
 
 pub pending_of-shared-requires : goal.pending_of-shared-requires

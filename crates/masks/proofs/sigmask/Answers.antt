@@ -80,5 +80,6 @@ returns-in-Set c =
     c.mask_after.ensures
     (lent l.processes c.set_mask.new.ts l.thread_buffer l.process_buffer)
     (record { processes = refl; threads = search rules; thread_buffer = refl; process_buffer = refl })
-    (bytes-each l.thread_buffer (λ k₀. omega (arith, c.slice_known-3-1.given k₀))) (bytes-each l.process_buffer (λ k₀. omega (arith, c.slice_known-4-1.given k₀)))
+    (bytes-each l.thread_buffer (λ k₀. omega (arith, c.slice_known-3-1.given k₀)))
+    (bytes-each l.process_buffer (λ k₀. omega (arith, c.slice_known-4-1.given k₀)))
     c.set_mask.ensures

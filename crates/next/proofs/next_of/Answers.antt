@@ -16,9 +16,11 @@ pub process_of-process-requires : goal.process_of-process-requires
 process_of-process-requires c =
     record {
       ts_len = threads-long (lent c.args.ps.now c.args.ts.now c.args.tb.now c.args.pb.now) c.requires.sound;
-      ts_value = thread-listed (lent c.args.ps.now c.args.ts.now c.args.tb.now c.args.pb.now) c.args.thread c.requires.live;
-      thread_value = owner-good (lent c.args.ps.now c.args.ts.now c.args.tb.now c.args.pb.now) c.requires.sound c.args.thread
-            c.requires.live;
+      ts_value = thread-listed (lent c.args.ps.now c.args.ts.now c.args.tb.now c.args.pb.now) c.args.thread
+          c.requires.live;
+      thread_value = owner-good (lent c.args.ps.now c.args.ts.now c.args.tb.now c.args.pb.now) c.requires.sound
+          c.args.thread
+          c.requires.live;
     }
 
 pub pending_of-own-requires : goal.pending_of-own-requires

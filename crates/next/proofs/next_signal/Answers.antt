@@ -9,16 +9,19 @@ pub process_of-process-requires : goal.process_of-process-requires
 process_of-process-requires c =
     record {
       ts_len = threads-long (lent c.args.ps.now c.args.ts.now c.args.tb.now c.args.pb.now) c.requires.sound;
-      ts_value = thread-listed (lent c.args.ps.now c.args.ts.now c.args.tb.now c.args.pb.now) c.args.thread c.requires.live;
-      thread_value = owner-good (lent c.args.ps.now c.args.ts.now c.args.tb.now c.args.pb.now) c.requires.sound c.args.thread
-            c.requires.live;
+      ts_value = thread-listed (lent c.args.ps.now c.args.ts.now c.args.tb.now c.args.pb.now) c.args.thread
+          c.requires.live;
+      thread_value = owner-good (lent c.args.ps.now c.args.ts.now c.args.tb.now c.args.pb.now) c.requires.sound
+          c.args.thread
+          c.requires.live;
     }
 
 pub is_stopped-requires : goal.is_stopped-requires
 is_stopped-requires c =
     record {
       ps_len = processes-long (lent c.args.ps.now c.args.ts.now c.args.tb.now c.args.pb.now) c.requires.sound;
-      ps_value = process-held (lent c.args.ps.now c.args.ts.now c.args.tb.now c.args.pb.now) c.requires.sound c.args.thread
+      ps_value = process-held (lent c.args.ps.now c.args.ts.now c.args.tb.now c.args.pb.now) c.requires.sound
+          c.args.thread
           c.requires.live c.process_of-process.result c.process_of-process.ensures;
     }
 
@@ -51,7 +54,8 @@ pub mask_of-requires : goal.mask_of-requires
 mask_of-requires c =
     record {
       ts_len = threads-long (lent c.args.ps.now c.args.ts.now c.args.tb.now c.args.pb.now) c.requires.sound;
-      ts_value = thread-listed (lent c.args.ps.now c.args.ts.now c.args.tb.now c.args.pb.now) c.args.thread c.requires.live;
+      ts_value = thread-listed (lent c.args.ps.now c.args.ts.now c.args.tb.now c.args.pb.now) c.args.thread
+          c.requires.live;
     }
 
 pub returns : goal.returns

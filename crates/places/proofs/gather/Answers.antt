@@ -12,11 +12,12 @@ pub loop-n-init : goal.loop-n-init
 loop-n-init c = (search rules, gathers-none (process_at c.args.ps.now c.args.place).holds)
 
 pub gather_block-g-requires : goal.gather_block-g-requires
-gather_block-g-requires c = 
+gather_block-g-requires c =
     record {
       ps_len = c.requires;
       block_bound = (omega arith, c.loop-n.invariant.1);
     }
+
 pub loop-n-preserved : goal.loop-n-preserved
 loop-n-preserved c =
     let l = c.loop-n in

@@ -23,23 +23,25 @@ loop-i-init c =
     )
 
 pub process_ok-requires : goal.process_ok-requires
-process_ok-requires c = 
+process_ok-requires c =
     record {
       ps_len = (c.requires.ps_len, omega arith);
       hints_len = c.requires.hints_len;
       notes_len = omega (arith, c.loop-i.invariant.1.0, c.requires.notes_len);
     }
+
 pub returns-then-not-process_ok : goal.returns-then-not-process_ok
 unfolding processes_ok
 returns-then-not-process_ok c =
     let a = c.args in
-    let f = process_ok_at (process_by a.hints.now a.ps.now) (processes_of a.ps.now) in 
+    let f = process_ok_at (process_by a.hints.now a.ps.now) (processes_of a.ps.now) in
     record {
       value = sym (range-fails f 0 process_places c.loop-i.i (omega arith)
           (ap f (zero-add c.loop-i.i)
           ∙ sym c.process_ok.ensures.value ∙ c.if-not-process_ok.true));
       ignored_noted = λ e. clash e refl;
     }
+
 pub loop-i-preserved : goal.loop-i-preserved
 loop-i-preserved c =
     let xs = processes_of c.args.ps.now in
@@ -62,7 +64,7 @@ unfolding processes_ok
 returns c =
     let a = c.args in
     let e : c.loop-i.i ≡ process_places = omega arith in
-    let xs = processes_of a.ps.now in 
+    let xs = processes_of a.ps.now in
     record {
       value = sym (ap (λ k. all (process_ok_at (process_by a.hints.now a.ps.now) xs) (range 0 k)) (sym e)
           ∙ c.loop-i.invariant.1.1.0);

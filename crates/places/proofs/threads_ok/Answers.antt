@@ -31,7 +31,7 @@ loop-i-init c =
 
 pub thread_ok-requires : goal.thread_ok-requires
 thread_ok-requires c =
-    let n = c.requires.ignored_len in 
+    let n = c.requires.ignored_len in
     record {
       ps_len = (c.requires.ps_len.0, (c.requires.ps_len.1, omega arith));
       ph_len = c.requires.ph_len;
@@ -39,11 +39,12 @@ thread_ok-requires c =
       ignored_len = (n.0, (c.loop-i.invariant.1.0.0 ∙ n.1.0, c.loop-i.invariant.1.0.1 ∙ n.1.1));
       one_place = c.requires.one_place;
     }
+
 pub returns-then-not-thread_ok : goal.returns-then-not-thread_ok
 unfolding threads_ok
 returns-then-not-thread_ok c =
     let a = c.args in
-    let f = thread_ok_at (thread_by a.th.now a.ts.now) (processes_of a.ps.now) (threads_of a.ts.now) in 
+    let f = thread_ok_at (thread_by a.th.now a.ts.now) (processes_of a.ps.now) (threads_of a.ts.now) in
     record {
       value = sym (range-fails f 0 thread_places c.loop-i.i (omega arith)
           (ap f (zero-add c.loop-i.i)
@@ -51,6 +52,7 @@ returns-then-not-thread_ok c =
       owners_noted = λ e. clash e refl;
       threaded_noted_2 = λ e. clash e refl;
     }
+
 pub loop-i-preserved : goal.loop-i-preserved
 loop-i-preserved c =
     let n = c.requires.ignored_len in
@@ -85,9 +87,10 @@ returns c =
     let l = c.loop-i in
     let e : l.i ≡ thread_places = omega arith in
     let xs = processes_of a.ps.now in
-    let ys = threads_of a.ts.now in 
+    let ys = threads_of a.ts.now in
     record {
-      value = sym (ap (λ k. all (thread_ok_at (thread_by a.th.now a.ts.now) xs ys) (range 0 k)) (sym e) ∙ l.invariant.1.1.0);
+      value = sym (ap (λ k. all (thread_ok_at (thread_by a.th.now a.ts.now) xs ys) (range 0 k)) (sym e)
+          ∙ l.invariant.1.1.0);
       owners_noted = λ _. subst (λ k. OwnersNoted xs ys k l.owners) e l.invariant.1.1.1.0;
       threaded_noted_2 = λ _. subst (λ k. ThreadedNoted xs ys k l.threaded) e l.invariant.1.1.1.1;
     }

@@ -11,7 +11,8 @@ use Rattle.places.proofs.threads_ok.Given as goal
 
 abbrev pub invariant-loop-i : goal.invariant-loop-i
 invariant-loop-i l =
-    (l.i ≤ thread_places) × (((length l.owners ≡ length l.initial.owners) × (length l.threaded ≡ length l.initial.threaded))
+    (l.i ≤ thread_places) × (((length l.owners ≡ length l.initial.owners)
+    × (length l.threaded ≡ length l.initial.threaded))
     × ((all (thread_ok_at (thread_by l.th l.ts) (processes_of l.ps) (threads_of l.ts)) (range 0 l.i) ≡ true)
     × (OwnersNoted (processes_of l.ps) (threads_of l.ts) l.i l.owners
     × ThreadedNoted (processes_of l.ps) (threads_of l.ts) l.i l.threaded)))

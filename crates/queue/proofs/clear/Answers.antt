@@ -12,14 +12,13 @@ use Rattle.queue.proofs.Buffer.{length-slots_of, slot-written}
 use Rattle.queue.proofs.clear.Goals as goal
 
 pub loop-t-init : goal.loop-t-init
-loop-t-init c =
-    (
-      omega arith,
-      (
-        omega arith,
-        paste-zero (slots_of c.args.b.now) c.args.j (replicate (c.args.n - c.args.j) no_siginfo),
-      ),
-    )
+loop-t-init c = (
+  omega arith,
+  (
+    omega arith,
+    paste-zero (slots_of c.args.b.now) c.args.j (replicate (c.args.n - c.args.j) no_siginfo),
+  ),
+)
 
 pub loop-t-preserved : goal.loop-t-preserved
 loop-t-preserved c =

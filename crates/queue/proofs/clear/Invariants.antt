@@ -10,7 +10,8 @@ use Rattle.queue.proofs.clear.Given as goal
 
 abbrev pub invariant-loop-t : goal.invariant-loop-t
 invariant-loop-t l =
-    (l.t ≤ l.n - l.j) × ((length l.b ≡ buffer_bytes) × (slots_of l.b ≡ paste (slots_of l.initial.b) l.j (replicate (l.n - l.j) no_siginfo) l.t))
+    (l.t ≤ l.n - l.j) × ((length l.b ≡ buffer_bytes)
+    × (slots_of l.b ≡ paste (slots_of l.initial.b) l.j (replicate (l.n - l.j) no_siginfo) l.t))
 
 abbrev pub decreases-loop-t : goal.decreases-loop-t
 decreases-loop-t l = l.n - l.j - l.t

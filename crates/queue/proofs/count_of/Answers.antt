@@ -1,7 +1,6 @@
 -- `count_of` meets its contract. The invariant: k of the records before i are of the process. Assumes nothing.
 use mathlib.Core.Path.{sym}
-use mathlib.Core.Logic.{⊎_elim}
-use Prim.Native.Nat.{◌-◌, ◌<◌}
+use Prim.Native.Nat.{◌<◌}
 use native.Mathlib.Omega.{arith}
 use borrow.Author.Tests.{eq-eqb, ne_eqb}
 use lib.ListN.{length}
@@ -35,7 +34,7 @@ loop-i-preserved c =
     let h : i < length (records_of b) =
     omega (arith, c.loop-i-test.true, c.used-n.ensures) in
     elim c.if-r-process.branch [
-      then-r-process w ↦
+      | then-r-process w ↦
           omega (
             arith,
             count-hit (of_process p) no_siginfo (records_of b) i k n h c.loop-i.invariant.3

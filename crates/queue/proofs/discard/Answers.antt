@@ -1,7 +1,6 @@
 -- `discard` meets its contract. Its loop keeps `Sparing`. Assumes nothing.
 use mathlib.Core.Path.{sym, ◌∙◌}
-use mathlib.Core.Logic.{⊎_elim}
-use Prim.Native.Nat.{◌-◌, ◌<◌}
+use Prim.Native.Nat.{◌<◌}
 use native.Mathlib.Omega.{arith}
 use lib.ListN.{length}
 use Rattle.siginfo.specs.Bytes.{Fits}
@@ -36,7 +35,7 @@ loop-i-preserved c =
       omega arith,
       omega arith,
       elim c.if-is_left.branch [
-        then-is_left w ↦
+        | then-is_left w ↦
             sparing-kept q b₀ b i j r inv h e c.if-is_left.b c.if-is_left.j
             (sym c.is_left.ensures ∙ w.if-is_left.true) fits (w.b-is ∙ w.write.ensures) w.j-is
         | else-is_left w ↦

@@ -1,7 +1,7 @@
 -- `first_of` meets its contract. The invariant: none of the records before i is of the queue and the signal.
 -- Assumes nothing.
 use mathlib.Core.Path.{sym, ◌∙◌}
-use Prim.Native.Nat.{◌-◌, ◌<◌}
+use Prim.Native.Nat.{◌<◌}
 use native.Mathlib.Omega.{arith}
 use lib.ListN.{length}
 use Rattle.lists.proofs.Loops.{find_none, find-more, find-here, find-done}

@@ -1,8 +1,7 @@
 -- `signals_of` meets its contract. The invariant: the set has the signals of the queue's records before i.
 -- Assumes nothing.
 use mathlib.Core.Path.{◌≡◌, sym, ap₂, ◌∙◌}
-use mathlib.Core.Logic.{⊎_elim}
-use Prim.Native.Nat.{◌-◌, ◌<◌}
+use Prim.Native.Nat.{◌<◌}
 use native.Mathlib.Omega.{arith}
 use lib.ListN.{length, get_or}
 use Rattle.sigset.specs.Set.{union}
@@ -35,7 +34,7 @@ loop-i-preserved c =
       omega arith,
       omega arith,
       elim c.if-process-r.branch [
-        then-process-r w ↦
+        | then-process-r w ↦
             w.set-is ∙ w.union-set.ensures ∙ ap₂ union c.loop-i.invariant.2 w.of_signal.ensures
             ∙ signals-here rs i h r e q w.if-process-r.true
         | else-process-r w ↦ w.set-is ∙ c.loop-i.invariant.2 ∙ sym (signals-other rs i h r e q w.if-process-r.false)

@@ -10,7 +10,8 @@ use Rattle.queue.proofs.signals_of.Given as goal
 
 abbrev pub invariant-loop-i : goal.invariant-loop-i
 invariant-loop-i l =
-    (l.n ≤ buffer_records) × (l.i ≤ l.n) × (l.set ≡ signals_in (target_queue l.process l.thread) (take l.i (records_of l.b)))
+    (l.n ≤ buffer_records) × (l.i ≤ l.n)
+    × (l.set ≡ signals_in (target_queue l.process l.thread) (take l.i (records_of l.b)))
 
 abbrev pub decreases-loop-i : goal.decreases-loop-i
 decreases-loop-i l = l.n - l.i

@@ -9,7 +9,8 @@ use Rattle.queue.specs.Queue.{slots_of, records_of}
 use Rattle.queue.proofs.used.Given as goal
 
 abbrev pub invariant-loop-n : goal.invariant-loop-n
-invariant-loop-n l = (l.n ≤ buffer_records) × (length (leading in_use (drop l.n (slots_of l.b))) + l.n ≡ length (records_of l.b))
+invariant-loop-n l = (l.n ≤ buffer_records)
+    × (length (leading in_use (drop l.n (slots_of l.b))) + l.n ≡ length (records_of l.b))
 
 abbrev pub decreases-loop-n : goal.decreases-loop-n
 decreases-loop-n l = buffer_records - l.n

@@ -11,7 +11,8 @@ use Rattle.records.proofs.process_marks.Given as goal
 abbrev pub invariant-loop-i : goal.invariant-loop-i
 invariant-loop-i l =
     (l.i ≤ process_places)
-    × ((length l.seen ≡ process_places) × (l.seen ≡ filled (seen_by own_queue []) l.i (processes_of l.ps) l.initial.seen))
+    × ((length l.seen ≡ process_places)
+    × (l.seen ≡ filled (seen_by own_queue []) l.i (processes_of l.ps) l.initial.seen))
 
 abbrev pub decreases-loop-i : goal.decreases-loop-i
 decreases-loop-i l = process_places - l.i

@@ -15,7 +15,8 @@ place_of-place-requires c =
 pub returns-then-place-r : goal.returns-then-place-r
 returns-then-place-r c =
     record {
-      value = sym (and_left _ (sym (misaimed c.args.ps.now c.args.ph.now c.args.ignored.now c.requires.processes_noted c.args.r
+      value = sym (and_left _ (sym (misaimed c.args.ps.now c.args.ph.now c.args.ignored.now c.requires.processes_noted
+          c.args.r
           c.place_of-place.result c.place_of-place.ensures refl c.if-place-r.true)));
       counts_after = refl;
       seen_after = refl;
@@ -69,4 +70,4 @@ returns c =
     (sym k ∙ sym c.is_delivered.ensures
     ∙ c.if-not-is_delivered.false)
     place place (c.admit.ensures.value, (c.admit.ensures.counts_after, c.admit.ensures.seen_after)) in
-    record { value = both.0; counts_after = both.1.0; seen_after = both.1.1; }
+    record { value = both.0; counts_after = both.1.0; seen_after = both.1.1 }

@@ -11,7 +11,8 @@ use Rattle.records.proofs.thread_marks.Given as goal
 
 abbrev pub invariant-loop-i : goal.invariant-loop-i
 invariant-loop-i l =
-    (l.i ≤ thread_places) × ((length l.seen ≡ thread_places) × (l.seen ≡ filled (seen_by thread_queue []) l.i (threads_of l.ts) l.initial.seen))
+    (l.i ≤ thread_places) × ((length l.seen ≡ thread_places)
+    × (l.seen ≡ filled (seen_by thread_queue []) l.i (threads_of l.ts) l.initial.seen))
 
 abbrev pub decreases-loop-i : goal.decreases-loop-i
 decreases-loop-i l = thread_places - l.i

@@ -1,4 +1,5 @@
--- `look_part` meets its contract: the empty part for a row of another length, else the look on its words. Assumes nothing.
+-- `look_part` meets its contract: the empty part for a row of another length, else the look on its words. Assumes
+-- nothing.
 use mathlib.Core.Path.{ap, ◌∙◌}
 use Rattle.sound.specs.Lent.{lent}
 use Rattle.looking.specs.Looks.{look_bytes}

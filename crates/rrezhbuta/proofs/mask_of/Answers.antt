@@ -5,18 +5,18 @@ use Rattle.rrezhbuta.proofs.mask_of.Goals as goal
 
 pub returns-then-place-eq-THREAD_PLACES : goal.returns-then-place-eq-THREAD_PLACES
 returns-then-place-eq-THREAD_PLACES c =
-    mask-absent c.args.ws.now c.args.id c.thread_place-place.result c.thread_place-place.ensures c.if-place-eq-THREAD_PLACES.true
+    mask-absent c.args.ws.now c.args.id c.thread_place-place.result c.thread_place-place.ensures
+    c.if-place-eq-THREAD_PLACES.true
 
 pub thread_field_at-requires : goal.thread_field_at-requires
-thread_field_at-requires c =
-    (
-      c.requires,
-      (
-        mask-inside c.args.ws.now c.args.id c.thread_place-place.result c.thread_place-place.ensures
-            c.if-place-eq-THREAD_PLACES.false,
-        omega arith,
-      ),
-    )
+thread_field_at-requires c = (
+  c.requires,
+  (
+    mask-inside c.args.ws.now c.args.id c.thread_place-place.result c.thread_place-place.ensures
+        c.if-place-eq-THREAD_PLACES.false,
+    omega arith,
+  ),
+)
 
 pub returns : goal.returns
 returns c =

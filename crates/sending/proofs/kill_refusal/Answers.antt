@@ -58,8 +58,10 @@ may_signal-requires c =
     record {
       ps_len = processes-long l
           (sym c.sound.ensures ∙ c.if-not-sound.false);
-      ps_value = sym i.ensures ∙ not-false i.result (or-fst-false (not i.result) b.result c.if-is_process-is_bad_target.false);
-      ps_value_2 = target-process (view_of l) to t (sym b.ensures ∙ or-snd-false (not i.result) b.result c.if-is_process-is_bad_target.false);
+      ps_value = sym i.ensures ∙ not-false i.result
+          (or-fst-false (not i.result) b.result c.if-is_process-is_bad_target.false);
+      ps_value_2 = target-process (view_of l) to t
+          (sym b.ensures ∙ or-snd-false (not i.result) b.result c.if-is_process-is_bad_target.false);
     }
 
 pub returns-then-not-may_signal : goal.returns-then-not-may_signal

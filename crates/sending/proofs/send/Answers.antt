@@ -14,7 +14,6 @@ use Rattle.sending.proofs.send.Goals as goal
 
 pub generate-requires : goal.generate-requires
 generate-requires c =
-    
     let j = c.judge-decision in
     let l = lent c.args.ps.now c.args.ts.now c.args.tb.now c.args.pb.now in
     let x = c.args in
@@ -39,7 +38,6 @@ shape_of-pb-in-Refused c = refl
 
 pub returns-in-Refused : goal.returns-in-Refused
 returns-in-Refused c =
-    
     let j = c.judge-decision in
     let l = lent c.args.ps.now c.args.ts.now c.args.tb.now c.args.pb.now in
     let x = c.args in

@@ -50,7 +50,8 @@ records_ok-requires c =
     let owners = c.places_ok.new.owners in
     let kept = c.places_ok.auto in
     let long : (length ignored ≡ process_places) × (length owners ≡ thread_places) =
-    (kept.ignored ∙ length-replicate {A = ℕ} process_places 0, kept.owners ∙ length-replicate {A = ℕ} thread_places 0) in
+    (kept.ignored ∙ length-replicate {A = ℕ} process_places 0, kept.owners ∙ length-replicate {A = ℕ} thread_places 0)
+    in
     record {
       processes_noted = (
         processes-noted c.args.ps.now c.args.ts.now ph th ignored owners c.requires.ps_len ok

@@ -10,7 +10,8 @@ use Rattle.tables.proofs.process_place.Given as goal
 abbrev pub invariant-loop-i : goal.invariant-loop-i
 invariant-loop-i l =
     (l.i ≤ process_places)
-    × (find (has_process_id l.id) (held_processes l.ps) ≡ l.i + find (has_process_id l.id) (drop l.i (held_processes l.ps)))
+    × (find (has_process_id l.id) (held_processes l.ps)
+    ≡ l.i + find (has_process_id l.id) (drop l.i (held_processes l.ps)))
 
 abbrev pub decreases-loop-i : goal.decreases-loop-i
 decreases-loop-i l = process_places - l.i

@@ -9,7 +9,8 @@ use Rattle.tables.proofs.thread_place.Given as goal
 
 abbrev pub invariant-loop-i : goal.invariant-loop-i
 invariant-loop-i l =
-    (l.i ≤ thread_places) × (find (has_thread_id l.id) (held_threads l.ts) ≡ l.i + find (has_thread_id l.id) (drop l.i (held_threads l.ts)))
+    (l.i ≤ thread_places) × (find (has_thread_id l.id) (held_threads l.ts)
+    ≡ l.i + find (has_thread_id l.id) (drop l.i (held_threads l.ts)))
 
 abbrev pub decreases-loop-i : goal.decreases-loop-i
 decreases-loop-i l = thread_places - l.i

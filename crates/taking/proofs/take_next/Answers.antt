@@ -36,8 +36,9 @@ action_of-a-requires c =
     record {
       ps_len = processes-long l c.requires.sound;
       ps_value = process-held l c.requires.sound t c.requires.live p.result p.ensures;
-      le_signal = signal-named l c.requires.sound t c.requires.live c.args.next c.requires.next c.requires.something r.result
-            r.ensures;
+      le_signal = signal-named l c.requires.sound t c.requires.live c.args.next c.requires.next c.requires.something
+          r.result
+          r.ensures;
     }
 
 pub dequeue-requires : goal.dequeue-requires

@@ -7,15 +7,14 @@ use Rattle.view.proofs.Fields.{process-place, stopped-read}
 use Rattle.view.proofs.is_stopped.Goals as goal
 
 pub field_at-requires : goal.field_at-requires
-field_at-requires c =
-    (
-      c.requires.ps_len,
-      (
-        process-place c.args.ps.now c.args.process c.find_process-place.result c.find_process-place.ensures
-            c.requires.ps_value,
-        omega arith,
-      ),
-    )
+field_at-requires c = (
+  c.requires.ps_len,
+  (
+    process-place c.args.ps.now c.args.process c.find_process-place.result c.find_process-place.ensures
+        c.requires.ps_value,
+    omega arith,
+  ),
+)
 
 pub returns : goal.returns
 returns c =

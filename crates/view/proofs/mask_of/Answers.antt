@@ -3,15 +3,14 @@ use Rattle.view.proofs.Fields.{thread-place, mask-read}
 use Rattle.view.proofs.mask_of.Goals as goal
 
 pub thread_field_at-requires : goal.thread_field_at-requires
-thread_field_at-requires c =
-    (
-      c.requires.ts_len,
-      (
-        thread-place c.args.ts.now c.args.thread c.find_thread-place.result c.find_thread-place.ensures
-            c.requires.ts_value,
-        omega arith,
-      ),
-    )
+thread_field_at-requires c = (
+  c.requires.ts_len,
+  (
+    thread-place c.args.ts.now c.args.thread c.find_thread-place.result c.find_thread-place.ensures
+        c.requires.ts_value,
+    omega arith,
+  ),
+)
 
 pub returns : goal.returns
 returns c =

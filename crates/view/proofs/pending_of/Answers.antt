@@ -6,11 +6,10 @@ use Rattle.rules.specs.View.{target_queue}
 use Rattle.view.proofs.pending_of.Goals as goal
 
 pub queued_of-queued-requires : goal.queued_of-queued-requires
-queued_of-queued-requires c =
-    (
-      thread-buffer-long (lent c.args.ps.now c.args.ts.now c.args.tb.now c.args.pb.now) c.requires.sound,
-      process-buffer-long (lent c.args.ps.now c.args.ts.now c.args.tb.now c.args.pb.now) c.requires.sound,
-    )
+queued_of-queued-requires c = (
+  thread-buffer-long (lent c.args.ps.now c.args.ts.now c.args.tb.now c.args.pb.now) c.requires.sound,
+  process-buffer-long (lent c.args.ps.now c.args.ts.now c.args.tb.now c.args.pb.now) c.requires.sound,
+)
 
 pub returns : goal.returns
 returns c = c.union.ensures ∙ pending-read (lent c.args.ps.now c.args.ts.now c.args.tb.now c.args.pb.now)

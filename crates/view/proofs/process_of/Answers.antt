@@ -6,15 +6,14 @@ use Rattle.view.proofs.Fields.{id-fits, owner-read}
 use Rattle.view.proofs.process_of.Goals as goal
 
 pub thread_field_at-requires : goal.thread_field_at-requires
-thread_field_at-requires c =
-    (
-      c.requires.ts_len,
-      (
-        thread-place c.args.ts.now c.args.thread c.find_thread-place.result c.find_thread-place.ensures
-            c.requires.ts_value,
-        omega arith,
-      ),
-    )
+thread_field_at-requires c = (
+  c.requires.ts_len,
+  (
+    thread-place c.args.ts.now c.args.thread c.find_thread-place.result c.find_thread-place.ensures
+        c.requires.ts_value,
+    omega arith,
+  ),
+)
 
 pub overflow_cast-result : goal.overflow_cast-result
 overflow_cast-result c = let h =

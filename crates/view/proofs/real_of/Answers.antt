@@ -6,15 +6,14 @@ use Rattle.view.proofs.Fields.{user-fits, real_read}
 use Rattle.view.proofs.real_of.Goals as goal
 
 pub field_at-requires : goal.field_at-requires
-field_at-requires c =
-    (
-      c.requires.ps_len,
-      (
-        process-place c.args.ps.now c.args.process c.find_process-place.result c.find_process-place.ensures
-            c.requires.ps_value,
-        omega arith,
-      ),
-    )
+field_at-requires c = (
+  c.requires.ps_len,
+  (
+    process-place c.args.ps.now c.args.process c.find_process-place.result c.find_process-place.ensures
+        c.requires.ps_value,
+    omega arith,
+  ),
+)
 
 pub overflow_cast-result : goal.overflow_cast-result
 overflow_cast-result c = let h =

@@ -1,5 +1,4 @@
 -- `words_part_zero` meets its contract. Assumes nothing.
-use Prim.Native.Nat.{◌-◌}
 use borrow.Author.Rules.{rules}
 use native.Mathlib.Omega.{arith}
 use Rattle.zeros.proofs.Zeros.{together-none, together-more, together-all}
