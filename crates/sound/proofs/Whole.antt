@@ -106,7 +106,8 @@ module _ (ps ts tb pb : List ℕ) where
     where
       hinted : sound_tables (lent ps ts tb pb) ≡ tested (process_by ph ps) (thread_by th ts)
       hinted =
-          told (process_by ph ps) (thread_by th ts) (λ n c. process-found ph ps n hp c) (λ n c. thread-found th ts n ht c)
+          told (process_by ph ps) (thread_by th ts) (λ n c. process-found ph ps n hp c)
+          (λ n c. thread-found th ts n ht c)
 
       pub places-wrong : places_ok (process_by ph ps) (thread_by th ts) (processes_of ps) (threads_of ts) ≡ false
           → false ≡ sound_tables (lent ps ts tb pb)
@@ -114,6 +115,7 @@ module _ (ps ts tb pb : List ℕ) where
           sym (hinted ∙ rw (eq-eqb (length ps) process_table lp, eq-eqb (length ts) thread_table lt, t, p, e))
 
       pub records-decide : places_ok (process_by ph ps) (thread_by th ts) (processes_of ps) (threads_of ts) ≡ true
-          → records_ok (processes_of ps) (threads_of ts) (records_of tb) (records_of pb) ≡ sound_tables (lent ps ts tb pb)
+          → records_ok (processes_of ps) (threads_of ts) (records_of tb) (records_of pb)
+          ≡ sound_tables (lent ps ts tb pb)
       records-decide e =
           sym (hinted ∙ rw (eq-eqb (length ps) process_table lp, eq-eqb (length ts) thread_table lt, t, p, e))
