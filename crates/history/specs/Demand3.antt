@@ -23,7 +23,7 @@ use Rattle.answers.specs.Step.{encoded}
 use Rattle.boundary.specs.Boundary.{Arguments, sent_word, errno_of, written}
 use Rattle.rrezhbuta.specs.Entry.{Host, lent_by, call_on, look_at, slot_at}
 use Rattle.history.specs.Ledger.{Ledger, of_process, ledger_view, ledger_refusal, ledger_answer, pending_where}
-use Rattle.history.specs.Acts.{Act, kept, sent, said, turns, acts_of}
+use Rattle.history.specs.Acts.{Act, sent, said, turns, acts_of}
 use Rattle.history.specs.Tally.{kept_since, taken_since, mark_since, discarded_at, is_keep, keeps_at, is_take, takes_at}
 use Rattle.history.specs.Tally.{takes_either}
 use Rattle.history.specs.History.{Past, Item, lending, after, cleared, machine_item, row_thread, heard, looked_bytes}

@@ -20,7 +20,7 @@ use Rattle.rules.specs.Refusals.{bad_way, no_thread_live, refusal, rows, is_clea
 use Rattle.rules.specs.Refusals.{esrch}
 use Rattle.rules.specs.Calls.{changes, reply, stages, run_stages, finish, step}
 use Rattle.rules.proofs.SendFits.{mask_fits}
-use Rattle.sound.specs.Lent.{Lent, decoded, view_of, lengths_are, sound_tables, lent}
+use Rattle.sound.specs.Lent.{Lent, decoded, view_of, lengths_are, sound_tables}
 use Rattle.sound.proofs.Facts.{AsLong}
 use Rattle.answers.specs.Step.{refusal_on, committed, step_on}
 use Rattle.answers.proofs.Endings.{accepted-tables-sound, accepted-rows, same_ends, accepted-ends}

@@ -200,11 +200,11 @@ module _ (st st' : Store) (stays thread_stays : ℕ → Bool) (c : Carries st st
   pub processes-kept : All (GoodProcess st) st.processes → All (GoodProcess st') st.processes
   processes-kept = All-imp (GoodProcess st) (GoodProcess st') (λ x g. process-carried x g g.own) st.processes
 
-  module _ (All-stay : (k : ℕ) → stays k ≡ true) where
+  module _ (all-stay : (k : ℕ) → stays k ≡ true) where
     pub threads-kept : All (GoodThread st) st.threads → All (GoodThread st') st.threads
     threads-kept a =
         All-imp (λ x. Stands st.threads x × GoodThread st x) (GoodThread st')
-        (λ x p. thread-carried x p.0 p.1 (λ _. All-stay x.holds.process))
+        (λ x p. thread-carried x p.0 p.1 (λ _. all-stay x.holds.process))
         st.threads (All-standing (GoodThread st) st.threads a)
 
     buffer-kept : (aims aims' : Siginfo → Bool) (slots : List Siginfo)
@@ -223,11 +223,11 @@ module _ (st st' : Store) (stays thread_stays : ℕ → Bool) (c : Carries st st
         → GoodBuffer st' (aimed_at_process (view st')) st.process_buffer
     process-buffer-kept =
         buffer-kept (aimed_at_process (view st)) (aimed_at_process (view st')) st.process_buffer
-        (λ r. process-record-carried r (All-stay r.process))
+        (λ r. process-record-carried r (all-stay r.process))
 
     pub thread-buffer-kept : ((k : ℕ) → thread_stays k ≡ true)
         → GoodBuffer st (aimed_at_thread (view st)) st.thread_buffer
         → GoodBuffer st' (aimed_at_thread (view st')) st.thread_buffer
     thread-buffer-kept t =
         buffer-kept (aimed_at_thread (view st)) (aimed_at_thread (view st')) st.thread_buffer
-        (λ r m. thread-record-carried r (All-stay r.process) m (t r.thread))
+        (λ r m. thread-record-carried r (all-stay r.process) m (t r.thread))

@@ -3,7 +3,6 @@ use Prim.Native.Nat.{ℕ}
 use mathlib.Core.Path.{◌≡◌, refl, sym, ap, ◌∙◌}
 use mathlib.Core.Bool.{true, false}
 use mathlib.Core.List.{[], ◌∷◌}
-use lib.Dec.{eqb}
 use Rattle.rules.specs.Types.{Thread, take}
 use Rattle.rules.specs.View.{View, live_thread, the_thread}
 use Rattle.rules.specs.Store.{apply_all}

@@ -1,5 +1,4 @@
 -- `write` meets its contract. The invariant: i words are copied and the rest is as it was. Assumes nothing.
-use Prim.Native.Nat.{◌-◌}
 use native.Mathlib.Omega.{arith}
 use lib.Seq.{paste-zero}
 use Rattle.boundary.proofs.Copied.{written-length, written-more, written_all}

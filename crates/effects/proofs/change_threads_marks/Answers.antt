@@ -1,8 +1,6 @@
 -- `change_threads_marks` meets its contract. The invariant: the threads below i have their marks changed.
 -- Assumes nothing.
 use mathlib.Core.Path.{◌∙◌, ap}
-use mathlib.Core.Logic.{⊎_elim}
-use Prim.Native.Nat.{◌-◌}
 use native.Mathlib.Omega.{arith}
 use borrow.Author.Rules.{rules}
 use lib.ListN.{length}

@@ -1,8 +1,6 @@
 -- `vacate_threads` meets its contract. The invariant: the places below i are free where they were the process's.
 -- Assumes nothing.
 use mathlib.Core.Path.{◌∙◌, ap}
-use mathlib.Core.Logic.{⊎_elim}
-use Prim.Native.Nat.{◌-◌}
 use native.Mathlib.Omega.{arith}
 use borrow.Author.Rules.{rules}
 use lib.ListN.{length}

@@ -1,6 +1,5 @@
 -- `taker_place` meets its contract. The invariant: what is left to search is the table from i on. Assumes nothing.
 use mathlib.Core.Path.{sym, ◌∙◌}
-use Prim.Native.Nat.{◌-◌}
 use native.Mathlib.Omega.{arith}
 use Rattle.lists.proofs.Loops.{find_none, find-more, find-here, find-done}
 use Rattle.rules.specs.Types.{no_thread}

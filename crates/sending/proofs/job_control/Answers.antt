@@ -1,6 +1,5 @@
 -- `job_control` meets its contract: nothing, a discard, or a discard and then the state. Assumes nothing.
 use mathlib.Core.Path.{sym, ◌∙◌}
-use Rattle.rules.specs.View.{discard}
 use Rattle.effects.proofs.Makes.{made_as, made_none, ready-first, ready-last, made-last}
 use Rattle.sending.proofs.Carried.{leaves, discards-first, discards-then-sets, discards-only}
 use Rattle.sending.proofs.job_control.Goals as goal
