@@ -13,7 +13,7 @@ use Rattle.lists.proofs.Bools.{or-fst-false, or-snd-false}
 use Rattle.siginfo.specs.Bytes.{Bytes}
 use Rattle.types.specs.declared.Action.{Action}
 use Rattle.types.specs.declared.Reply.TheVariants.{OldAction}
-use Rattle.types.specs.declared.Answer.TheVariants as answers
+use Rattle.types.specs.Answers as answers
 use Rattle.rules.specs.Types.{sigaction}
 use Rattle.rules.specs.View.{live_process, action_of}
 use Rattle.rules.specs.Refusals.{over_last, bad_action, no_process_live, rows, is_clear, einval, esrch}

@@ -48,7 +48,7 @@ fn stored_of(a: Action) -> Action
     }
 }
 
-fn action_refusal(
+fn check_action(
     ps: &[u64],
     ts: &[u64],
     tb: &[u8],
@@ -84,7 +84,7 @@ pub fn sigaction(
     ensures { stepped (call.sigaction process signal (new_action new)) result
         (lent ps.old ts.old tb.old pb.old) (lent ps.new ts.new tb.new pb.new) }
 {
-    let n = action_refusal(ps, ts, tb, pb, process, signal, new);
+    let n = check_action(ps, ts, tb, pb, process, signal, new);
     if n != 0 {
         return Answer::Refused(n);
     }

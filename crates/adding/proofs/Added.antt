@@ -28,8 +28,8 @@ use Rattle.effects.specs.Effects.{thread_of}
 use Rattle.view.specs.Named.{thread_named}
 use Rattle.types.specs.declared.NewProcess.{NewProcess}
 use Rattle.types.specs.declared.Reply.TheVariants.{Done}
-use Rattle.types.specs.declared.Answer.{Answer}
-use Rattle.types.specs.declared.Answer.TheVariants.{Refused, Accepted}
+use Rattle.types.specs.Answers.{Answer}
+use Rattle.types.specs.Answers.{Refused, Accepted}
 use Rattle.answers.specs.Step.{refusal_on, step_on}
 use Rattle.view.proofs.Live.{owner-known}
 use Rattle.answers.proofs.Endings.{accepted-long, accepted-rows, accepted-tables-sound, refused-ends, accepted-ends}

@@ -1,4 +1,4 @@
--- What `add_process_refusal` finds, test after test, is the rows of its call in order. Assumes nothing.
+-- What `check_add_process` finds, test after test, is the rows of its call in order. Assumes nothing.
 use Prim.Native.Nat.{ℕ}
 use mathlib.Core.Path.{◌≡◌, refl, sym, ap₂, ◌∙◌}
 use mathlib.Core.Bool.{Bool, true, false, not, ◌||◌}

@@ -10,7 +10,7 @@ use limits::{EAGAIN, EEXIST, EFAULT, EINVAL, ESRCH};
 use sigset::SigSet;
 use types::{Answer, NewProcess, Reply};
 
-fn add_process_refusal(ps: &[u64], ts: &[u64], tb: &[u8], pb: &[u8], new: NewProcess) -> u32
+fn check_add_process(ps: &[u64], ts: &[u64], tb: &[u8], pb: &[u8], new: NewProcess) -> u32
     ensures { result ≡ refusal_on (call.add_process new) (lent ps.now ts.now tb.now pb.now) }
 {
     let id = new.id;
@@ -41,7 +41,7 @@ pub fn add_process(
     ensures { stepped (call.add_process new) result (lent ps.old ts.old tb.old pb.old)
         (lent ps.new ts.new tb.new pb.new) }
 {
-    let n = add_process_refusal(ps, ts, tb, pb, new);
+    let n = check_add_process(ps, ts, tb, pb, new);
     if n != 0 {
         return Answer::Refused(n);
     }
@@ -51,7 +51,7 @@ pub fn add_process(
     Answer::Accepted(Reply::Done)
 }
 
-fn add_thread_refusal(ps: &[u64], ts: &[u64], tb: &[u8], pb: &[u8], creator: u32, id: u32) -> u32
+fn check_add_thread(ps: &[u64], ts: &[u64], tb: &[u8], pb: &[u8], creator: u32, id: u32) -> u32
     ensures { result ≡ refusal_on (call.add_thread creator id) (lent ps.now ts.now tb.now pb.now) }
 {
     if !sound::sound(ps, ts, tb, pb) {
@@ -84,7 +84,7 @@ pub fn add_thread(
     ensures { stepped (call.add_thread creator id) result (lent ps.old ts.old tb.old pb.old)
         (lent ps.new ts.new tb.new pb.new) }
 {
-    let n = add_thread_refusal(ps, ts, tb, pb, creator, id);
+    let n = check_add_thread(ps, ts, tb, pb, creator, id);
     if n != 0 {
         return Answer::Refused(n);
     }

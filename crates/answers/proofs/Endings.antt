@@ -4,14 +4,17 @@ use Prim.Native.Nat.{ℕ}
 use mathlib.Core.Path.{◌≡◌, refl, sym, ap, ◌∙◌}
 use mathlib.Core.Bool.{Bool, true, false, cond}
 use mathlib.Core.List.{List, []}
+use Rattle.std.specs.Prelude.{Result, Ok, Err, IsErrAnd}
+use Rattle.std.proofs.lemmas.Result.{err_from_is_err_and}
 use lib.Dec.{eqb}
 use Rattle.limits.specs.Limits.{EFAULT}
 use Rattle.lists.specs.Lists.{All}
 use Rattle.lists.proofs.Bools.{split, clash, and_both}
 use Rattle.siginfo.specs.Bytes.{Bytes}
 use Rattle.types.specs.declared.Reply.{Reply}
-use Rattle.types.specs.declared.Answer.{Answer}
-use Rattle.types.specs.declared.Answer.TheVariants.{Refused, Accepted}
+use Rattle.types.specs.declared.Errno.{Errno}
+use Rattle.types.specs.declared.Errno.TheVariants as errno
+use Rattle.types.specs.Answers.{Answer, Refused, Accepted, number, answer_of, refused_by}
 use Rattle.rules.specs.Types.{Call}
 use Rattle.rules.specs.View.{Change}
 use Rattle.rules.specs.Store.{apply_all}
@@ -150,12 +153,35 @@ tables-of e = ap (λ x. x.0) e
 pub answer-of : {m : Lent} {a : Answer} {s : Lent × Answer} → (m, a) ≡ s → a ≡ s.1
 answer-of e = ap (λ x. x.1) e
 
+-- ---- by what code hands back
+
+-- no errno has the number 0
+pub number-some : (e : Errno) → number e ≡ 0 → ⊥
+number-some errno.EPERM h = clash (ap (λ (n : ℕ). eqb n 0) h) refl
+number-some errno.ESRCH h = clash (ap (λ (n : ℕ). eqb n 0) h) refl
+number-some errno.EAGAIN h = clash (ap (λ (n : ℕ). eqb n 0) h) refl
+number-some errno.EFAULT h = clash (ap (λ (n : ℕ). eqb n 0) h) refl
+number-some errno.EEXIST h = clash (ap (λ (n : ℕ). eqb n 0) h) refl
+number-some errno.EINVAL h = clash (ap (λ (n : ℕ). eqb n 0) h) refl
+
 module _ (c : Call) (l : Lent) where
   -- by the number that code has of the refusal
   pub refused-ends : (n : ℕ) → n ≡ refusal_on c l → (n ≡ 0 → ⊥) → (l, Refused n) ≡ step_on c l
   refused-ends n r z =
       let k : refusal_on c l ≡ 0 → ⊥ = λ e. z (r ∙ e) in
       λ i. (refused-tables c l k i, (ap Refused r ∙ refused-answer c l k) i)
+
+  -- by the check that code makes before anything else
+  module _ {A : Type 0} (r : Result A Errno) (h : refused_by r ≡ refusal_on c l) where
+    -- `?` hands its refusal back
+    pub turned-away : (z : Result Reply Errno) (e : Errno) → r ≡ Err e → IsErrAnd z (λ d. d ≡ e)
+        → (l, answer_of z) ≡ step_on c l
+    turned-away z e k g =
+        let p = err_from_is_err_and z g in
+        ap (λ x. (l, answer_of x)) (p.1 ∙ ap Err p.2) ∙ refused-ends (number e) (ap refused_by (sym k) ∙ h) (number-some e)
+
+    pub let-through : {a : A} → r ≡ Ok a → refusal_on c l ≡ 0
+    let-through k = sym h ∙ ap refused_by k
 
   module _ (e : refusal_on c l ≡ 0) (a : Reply) (h : a ≡ reply (view_of l) c) where
     pub same_ends : Bytes l.thread_buffer → Bytes l.process_buffer → changes (view_of l) c ≡ []

@@ -1,9 +1,11 @@
 -- One call on the lent tables, word for word and byte for byte: the rules' step on what they say.
-use Rattle.std.specs.Prelude.{ℕ, ◌≡◌, cond, List}
+use Rattle.std.specs.Prelude.{ℕ, ◌≡◌, cond, List, Result}
 use Rattle.limits.specs.Limits.{EFAULT}
 use Rattle.siginfo.specs.Bytes.{slot_bytes}
-use Rattle.types.specs.declared.Answer.{Answer}
-use Rattle.types.specs.declared.Answer.TheVariants.{Refused}
+use Rattle.types.specs.declared.Reply.{Reply}
+use Rattle.types.specs.declared.Errno.{Errno}
+use Rattle.types.specs.Answers.{Answer, answer_of}
+use Rattle.types.specs.Answers.{Refused}
 use Rattle.rules.specs.Types.{Call}
 use Rattle.rules.specs.Store.{Store}
 use Rattle.rules.specs.Refusals.{Row, refusal, refusal_of}
@@ -37,5 +39,5 @@ step_on c l =
 
 -- what a function that makes a call promises: the tables after it and its answer are those of the call on the tables
 -- before it
-abbrev pub stepped : Call → Answer → (before after : Lent) → Type 0
-stepped c a before after = (after, a) ≡ step_on c before
+abbrev pub stepped : Call → Result Reply Errno → (before after : Lent) → Type 0
+stepped c a before after = (after, answer_of a) ≡ step_on c before

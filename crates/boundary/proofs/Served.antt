@@ -10,8 +10,8 @@ use borrow.Author.Tests.{eq-eqb, ne_eqb, ltb-false, not-true}
 use Rattle.limits.specs.Limits.{EFAULT, EINVAL, call_clear, answer_words}
 use Rattle.lists.specs.Lists.{padded}
 use Rattle.lists.proofs.Bools.{and-fst, and-snd, cond-true, cond-false}
-use Rattle.types.specs.declared.Answer.{Answer}
-use Rattle.types.specs.declared.Answer.TheVariants.{Refused}
+use Rattle.types.specs.Answers.{Answer}
+use Rattle.types.specs.Answers.{Refused}
 use Rattle.rules.specs.Types.{Call}
 use Rattle.sound.specs.Lent.{Lent, lengths_are, sound_tables}
 use Rattle.answers.specs.Step.{step_on}

@@ -6,7 +6,7 @@ use lib.Dec.{eqb}
 use borrow.Author.Tests.{eqb-true, eqb-false}
 use Rattle.lists.proofs.Bools.{split}
 use Rattle.siginfo.specs.Bytes.{Bytes}
-use Rattle.types.specs.declared.Answer.{Answer}
+use Rattle.types.specs.Answers.{Answer}
 use Rattle.rules.specs.Types.{Call}
 use Rattle.rules.specs.View.{View}
 use Rattle.rules.specs.Calls.{changes}

@@ -13,7 +13,7 @@ use Rattle.rules.specs.Store.{apply, apply_all}
 use Rattle.rules.specs.Refusals.{refusal, rows, is_clear, fault, table, refusal_of}
 use Rattle.rules.specs.Calls.{changes, reply}
 use Rattle.types.specs.declared.Reply.TheVariants.{Done}
-use Rattle.types.specs.declared.Answer.TheVariants.{Refused, Accepted}
+use Rattle.types.specs.Answers.{Refused, Accepted}
 use Rattle.sound.specs.Lent.{Lent, decoded, lengths_are}
 use Rattle.sound.proofs.Facts.{AsLong}
 use Rattle.answers.specs.Step.{refusal_on, step_on}

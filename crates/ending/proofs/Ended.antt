@@ -22,7 +22,7 @@ use Rattle.effects.specs.Changes.{Ready, Changed}
 use Rattle.effects.proofs.Makes.{ready-as, made_as}
 use Rattle.view.specs.Named.{thread_named}
 use Rattle.types.specs.declared.Reply.TheVariants.{Done}
-use Rattle.types.specs.declared.Answer.TheVariants.{Refused, Accepted}
+use Rattle.types.specs.Answers.{Refused, Accepted}
 use Rattle.answers.specs.Step.{refusal_on, rows_on, step_on}
 use Rattle.answers.proofs.Endings.{rows-given, refused-ends, accepted-ends}
 use Rattle.answers.proofs.Rows.{live-process, live-thread}

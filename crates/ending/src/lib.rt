@@ -22,7 +22,7 @@ pub fn end_process(ps: &mut [u64], ts: &mut [u64], tb: &mut [u8], pb: &mut [u8],
     ensures { stepped (call.end_process id) result (lent ps.old ts.old tb.old pb.old)
         (lent ps.new ts.new tb.new pb.new) }
 {
-    let n = view::process_refusal(ps, ts, tb, pb, id);
+    let n = view::check_process(ps, ts, tb, pb, id);
     if n != 0 {
         return Answer::Refused(n);
     }
@@ -75,7 +75,7 @@ pub fn end_thread(ps: &mut [u64], ts: &mut [u64], tb: &mut [u8], pb: &mut [u8], 
     ensures { stepped (call.end_thread id) result (lent ps.old ts.old tb.old pb.old)
         (lent ps.new ts.new tb.new pb.new) }
 {
-    let n = view::thread_refusal(ps, ts, tb, pb, id);
+    let n = view::check_thread(ps, ts, tb, pb, id);
     if n != 0 {
         return Answer::Refused(n);
     }

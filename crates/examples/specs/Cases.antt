@@ -11,7 +11,7 @@ use Rattle.sigset.specs.Set.{bits, empty, of_signal}
 use Rattle.types.specs.declared.Action.{Action}
 use Rattle.types.specs.declared.Siginfo.{Siginfo}
 use Rattle.types.specs.Values.{default_action}
-use Rattle.types.specs.declared.Answer.{Answer}
+use Rattle.types.specs.Answers.{Answer}
 use Rattle.rules.specs.Types.{Call, add_thread, end_process, end_thread, kill, sigqueue, sigaction, sigmask, sigpending}
 use Rattle.rules.specs.Types.{look, who, take, sigreturn}
 use Rattle.rules.specs.Store.{Store, cleared}

@@ -7,7 +7,7 @@ use Rattle.limits.specs.Limits.{record_limit}
 use Rattle.lists.specs.Lists.{All, all}
 use Rattle.sigset.specs.Set.{bits, empty}
 use Rattle.types.specs.Values.{default_action}
-use Rattle.types.specs.declared.Answer.{Answer}
+use Rattle.types.specs.Answers.{Answer}
 use Rattle.rules.specs.Types.{Call, clear, add_thread, end_process, end_thread, kill, sigqueue, sigaction, sigmask}
 use Rattle.rules.specs.Types.{sigpending, look, who, take, sigreturn}
 use Rattle.rules.specs.Store.{Store, cleared}

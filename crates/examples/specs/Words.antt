@@ -9,8 +9,8 @@ use Rattle.types.specs.declared.Taken as takes
 use Rattle.types.specs.declared.Taken.TheVariants.{Nothing, Handler, End, Stop, NoAction}
 use Rattle.types.specs.declared.Reply.TheVariants.{Done, Sent, OldAction, OldMask, PendingSet, Looked, CanTake}
 use Rattle.types.specs.declared.Reply.TheVariants.{NoneCan, Taken}
-use Rattle.types.specs.declared.Answer.{Answer}
-use Rattle.types.specs.declared.Answer.TheVariants.{Refused, Accepted}
+use Rattle.types.specs.Answers.{Answer}
+use Rattle.types.specs.Answers.{Refused, Accepted}
 use Rattle.types.specs.Values.{new_of}
 use Rattle.rules.specs.Types.{Call, add_process}
 

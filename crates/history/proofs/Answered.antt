@@ -9,7 +9,7 @@ use lib.Dec.{eqb, leb, eqb-suc-zero}
 use borrow.Author.Tests.{eqb-true, eq-eqb, leb-true, le-leb, not-true}
 use Rattle.limits.specs.Limits.{record_limit, EAGAIN, EFAULT}
 use Rattle.lists.proofs.Bools.{split, same_test, cond-false}
-use Rattle.types.specs.declared.Answer.TheVariants.{Refused, Accepted}
+use Rattle.types.specs.Answers.{Refused, Accepted}
 use Rattle.types.specs.declared.NewProcess.{NewProcess}
 use Rattle.rules.specs.Types.{Call, add_process, add_thread, kill, sigqueue}
 use Rattle.rules.specs.View.{View, target_queue, live_process, live_thread}

@@ -19,8 +19,8 @@ use Rattle.types.specs.declared.Taken.{Taken}
 use Rattle.types.specs.declared.Taken.TheVariants as taken
 use Rattle.types.specs.declared.Reply.{Reply}
 use Rattle.types.specs.declared.Reply.TheVariants as reply
-use Rattle.types.specs.declared.Answer.{Answer}
-use Rattle.types.specs.declared.Answer.TheVariants.{Refused, Accepted}
+use Rattle.types.specs.Answers.{Answer}
+use Rattle.types.specs.Answers.{Refused, Accepted}
 use Rattle.rules.specs.Types.{Call, kill, sigqueue, sigpending, who, take}
 use Rattle.rules.specs.View.{View, belongs_to, live_process, live_thread, the_thread, pending_for}
 use Rattle.rules.specs.Store.{Store, is_free_process, is_free_thread}

@@ -18,7 +18,7 @@ use Rattle.types.specs.declared.Siginfo.{Siginfo}
 use Rattle.types.specs.Values.{no_siginfo}
 use Rattle.siginfo.specs.Bytes.{Fits, encode, bytes_of, slots, slot_bytes}
 use Rattle.siginfo.proofs.Slots.{slots-slot_bytes, length-slot_bytes}
-use Rattle.types.specs.declared.Answer.TheVariants.{Refused}
+use Rattle.types.specs.Answers.{Refused}
 use Rattle.rules.specs.Types.{Call, clear}
 use Rattle.rules.specs.Store.{Store, free_process, free_thread, cleared, apply, apply_all}
 use Rattle.rules.specs.Sound.{actions_long, sound}

@@ -17,8 +17,8 @@ use Rattle.lists.proofs.Lists.{all_get_d}
 use Rattle.lists.proofs.Rows.{flat_rows, spelled}
 use Rattle.sigset.specs.declared.SigSet.{SigSet}
 use Rattle.types.specs.declared.Action.{Action}
-use Rattle.types.specs.declared.Answer.{Answer}
-use Rattle.types.specs.declared.Answer.TheVariants.{Refused}
+use Rattle.types.specs.Answers.{Answer}
+use Rattle.types.specs.Answers.{Refused}
 use Rattle.rules.specs.Types.{Thread, Call, clear}
 use Rattle.rules.specs.Store.{Place, held, apply_all}
 use Rattle.rules.specs.Sound.{sound}

@@ -19,8 +19,8 @@ use Rattle.types.specs.declared.Siginfo.{Siginfo}
 use Rattle.types.specs.declared.Sent.{Sent}
 use Rattle.types.specs.declared.Sent.TheVariants.{Tested, Acted, Dropped, Absorbed, Marked, Kept}
 use Rattle.types.specs.declared.Reply.TheVariants as reply
-use Rattle.types.specs.declared.Answer.{Answer}
-use Rattle.types.specs.declared.Answer.TheVariants.{Accepted}
+use Rattle.types.specs.Answers.{Answer}
+use Rattle.types.specs.Answers.{Accepted}
 use Rattle.rules.specs.Types.{Thread, Queue, Next, no_next, next_mark, next_record, Call, clear, add_process}
 use Rattle.rules.specs.Types.{add_thread}
 use Rattle.rules.specs.Types.{end_process, end_thread, kill, sigqueue, sigaction, sigmask, sigpending, look, who, take}

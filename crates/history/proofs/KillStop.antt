@@ -16,8 +16,8 @@ use Rattle.siginfo.proofs.Slots.{fits-slots}
 use Rattle.types.specs.declared.Sent.TheVariants.{Acted}
 use Rattle.types.specs.declared.Reply.{Reply}
 use Rattle.types.specs.declared.Reply.TheVariants.{Sent}
-use Rattle.types.specs.declared.Answer.{Answer}
-use Rattle.types.specs.declared.Answer.TheVariants.{Accepted}
+use Rattle.types.specs.Answers.{Answer}
+use Rattle.types.specs.Answers.{Accepted}
 use Rattle.rules.specs.Types.{Call, kill, sigqueue}
 use Rattle.rules.specs.View.{View, Change, remove_process, set_stopped, discard, live_process}
 use Rattle.rules.specs.Store.{apply_all}

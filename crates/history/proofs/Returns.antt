@@ -12,8 +12,8 @@ use Rattle.limits.specs.Limits.{call_look, call_who}
 use Rattle.lists.specs.Lists.{any, padded}
 use Rattle.lists.proofs.Bools.{split, clash, and-fst, and-snd, and_both, or_cases, cond-true, cond-false}
 use Rattle.siginfo.specs.Bytes.{Bytes}
-use Rattle.types.specs.declared.Answer.{Answer}
-use Rattle.types.specs.declared.Answer.TheVariants.{Refused, Accepted}
+use Rattle.types.specs.Answers.{Answer}
+use Rattle.types.specs.Answers.{Refused, Accepted}
 use Rattle.rules.specs.Types.{Call, clear}
 use Rattle.rules.specs.View.{View}
 use Rattle.rules.specs.Actions.{action_changes, mask_changes}

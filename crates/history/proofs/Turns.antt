@@ -11,7 +11,7 @@ use Rattle.lists.specs.Lists.{all, All}
 use Rattle.lists.proofs.Lists.{all-kept}
 use Rattle.lists.proofs.Bools.{and-fst, or-fst-false, or-snd-false}
 use Rattle.types.specs.declared.Siginfo.{Siginfo}
-use Rattle.types.specs.declared.Answer.TheVariants.{Accepted}
+use Rattle.types.specs.Answers.{Accepted}
 use Rattle.rules.specs.Types.{Call, sigaction, take}
 use Rattle.rules.specs.View.{in_queue, View, live_thread, the_thread}
 use Rattle.rules.specs.Store.{records_for, Store, view, apply_all}

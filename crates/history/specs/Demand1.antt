@@ -10,7 +10,7 @@ use Rattle.sigset.specs.Set.{is_unmaskable, has}
 use Rattle.siginfo.specs.Bytes.{Bytes}
 use Rattle.types.specs.declared.Sent.TheVariants.{Acted}
 use Rattle.types.specs.declared.Reply.TheVariants.{Sent}
-use Rattle.types.specs.declared.Answer.TheVariants.{Accepted}
+use Rattle.types.specs.Answers.{Accepted}
 use Rattle.rules.specs.Types.{Queue}
 use Rattle.rules.specs.View.{belongs_to, in_queue, action_of, live_process, the_process, the_thread, pending_in}
 use Rattle.rules.specs.Store.{records_for, mark_in, cleared}

@@ -10,7 +10,7 @@ use Rattle.lists.specs.Lists.{all, any, count, first, keep, All}
 use Rattle.sigset.specs.Set.{has, set_of}
 use Rattle.types.specs.declared.Siginfo.{Siginfo}
 use Rattle.types.specs.declared.Reply.TheVariants.{Sent, PendingSet}
-use Rattle.types.specs.declared.Answer.TheVariants.{Accepted}
+use Rattle.types.specs.Answers.{Accepted}
 use Rattle.rules.specs.Types.{Queue, Call, kill, sigqueue, sigpending, who, take}
 use Rattle.rules.specs.View.{View, belongs_to, in_queue, live_process, live_thread, the_thread, pending_for}
 use Rattle.rules.specs.Store.{held, used, records_for, mark_in, is_free_process, is_free_thread}

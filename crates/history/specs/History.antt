@@ -3,8 +3,8 @@ use Rattle.std.specs.Prelude.{ℕ, zero, suc, ◌-◌, Bool, true, not, ◌&&◌
 use Rattle.limits.specs.Limits.{EINVAL, buffer_records, record_bytes, call_clear}
 use Rattle.lists.specs.Rows.{row}
 use Rattle.siginfo.specs.Bytes.{bytes_of}
-use Rattle.types.specs.declared.Answer.{Answer}
-use Rattle.types.specs.declared.Answer.TheVariants.{Refused}
+use Rattle.types.specs.Answers.{Answer}
+use Rattle.types.specs.Answers.{Refused}
 use Rattle.rules.specs.Types.{Thread, Call, look, Next, no_next, next_mark, next_record}
 use Rattle.rules.specs.View.{the_thread}
 use Rattle.rules.specs.Taking.{next}

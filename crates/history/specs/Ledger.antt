@@ -5,8 +5,8 @@ use mathlib.Core.List.{List, [], ◌∷◌, ◌++◌, map, head?}
 use Rattle.limits.specs.Limits.{process_places, thread_places, signals}
 use Rattle.lists.specs.Lists.{change, keep, range, replace_first, sum}
 use Rattle.types.specs.declared.Siginfo.{Siginfo}
-use Rattle.types.specs.declared.Answer.{Answer}
-use Rattle.types.specs.declared.Answer.TheVariants.{Refused, Accepted}
+use Rattle.types.specs.Answers.{Answer}
+use Rattle.types.specs.Answers.{Refused, Accepted}
 use Rattle.rules.specs.Types.{Process, Thread, Queue, Call, no_process, no_thread}
 use Rattle.rules.specs.View.{View, Change, forget, new_process, new_thread, remove_process, remove_thread, set_stopped}
 use Rattle.rules.specs.View.{set_action, set_mask, set_mark, clear_mark, append, drop_oldest, discard, is_process}

@@ -8,8 +8,8 @@ use Rattle.types.specs.declared.Siginfo.{Siginfo}
 use Rattle.types.specs.declared.Taken.{Taken}
 use Rattle.types.specs.declared.Taken.TheVariants.{Nothing, Handler, End, Stop, NoAction}
 use Rattle.types.specs.declared.Reply.TheVariants as reply
-use Rattle.types.specs.declared.Answer.{Answer}
-use Rattle.types.specs.declared.Answer.TheVariants.{Accepted}
+use Rattle.types.specs.Answers.{Answer}
+use Rattle.types.specs.Answers.{Accepted}
 use Rattle.rules.specs.Types.{Thread, Queue}
 use Rattle.rules.specs.Signals.{ignores, stops, continues, ends, outcome}
 use Rattle.rules.specs.View.{View, process_queue, thread_queue, live_thread, the_thread, thread_action, pending_in}

@@ -23,7 +23,7 @@ use Rattle.queue.proofs.Buffer.{length-records_of}
 use Rattle.sound.specs.Lent.{Lent, decoded, view_of, lengths_are, WithThread}
 use Rattle.types.specs.declared.Next as declared
 use Rattle.types.specs.declared.Next.TheVariants as case
-use Rattle.types.specs.declared.Answer.TheVariants as said
+use Rattle.types.specs.Answers as said
 use Rattle.answers.specs.Answers.{next_of}
 use Rattle.answers.specs.Step.{refusal_on, rows_on, step_on}
 use Rattle.answers.proofs.Told.{told-next}

@@ -30,7 +30,7 @@ use Rattle.tables.proofs.Words.{length-threads_of, length-held_threads}
 use Rattle.tables.proofs.Places.{held_at}
 use Rattle.sound.specs.Lent.{Lent, decoded, view_of, sound_tables}
 use Rattle.sound.proofs.Facts.{store-sound}
-use Rattle.types.specs.declared.Answer.TheVariants as said
+use Rattle.types.specs.Answers as said
 use Rattle.answers.specs.Step.{refusal_on, rows_on, step_on}
 use Rattle.answers.proofs.Endings.{answer-of, rows-given, answer-after, refused-ends}
 use Rattle.answers.proofs.Rows.{live-process}

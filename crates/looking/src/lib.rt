@@ -33,7 +33,7 @@ fn slot_of(b: &[u8], k: usize) -> &[u8]
 pub fn look_slot(ps: &[u64], ts: &[u64], tb: &[u8], pb: &[u8], thread: u32) -> usize
     ensures { result ≡ look_slot thread (lent ps.now ts.now tb.now pb.now) }
 {
-    if view::thread_refusal(ps, ts, tb, pb, thread) != 0 {
+    if view::check_thread(ps, ts, tb, pb, thread) != 0 {
         return 0;
     }
     match next::next_of(ps, ts, tb, pb, thread) {
@@ -67,7 +67,7 @@ pub fn look_part<'a>(ps: &[u64], ts: &[u64], tb: &'a [u8], pb: &'a [u8], thread:
 pub fn look(ps: &[u64], ts: &[u64], tb: &[u8], pb: &[u8], thread: u32) -> Answer
     ensures { result ≡ (step_on (call.look thread) (lent ps.now ts.now tb.now pb.now)).1 }
 {
-    let n = view::thread_refusal(ps, ts, tb, pb, thread);
+    let n = view::check_thread(ps, ts, tb, pb, thread);
     if n != 0 {
         return Answer::Refused(n);
     }
@@ -112,7 +112,7 @@ fn taker_place(ps: &[u64], ts: &[u64], tb: &[u8], pb: &[u8], process: u32) -> us
 pub fn who(ps: &[u64], ts: &[u64], tb: &[u8], pb: &[u8], process: u32) -> Answer
     ensures { result ≡ (step_on (call.who process) (lent ps.now ts.now tb.now pb.now)).1 }
 {
-    let n = view::process_refusal(ps, ts, tb, pb, process);
+    let n = view::check_process(ps, ts, tb, pb, process);
     if n != 0 {
         return Answer::Refused(n);
     }

@@ -11,7 +11,7 @@ use Rattle.sigset.specs.declared.SigSet.{SigSet}
 use Rattle.sigset.specs.Set.{union, without, maskable}
 use Rattle.siginfo.specs.Bytes.{Bytes}
 use Rattle.types.specs.declared.Reply.TheVariants.{OldMask}
-use Rattle.types.specs.declared.Answer.TheVariants.{Refused, Accepted}
+use Rattle.types.specs.Answers.{Refused, Accepted}
 use Rattle.rules.specs.Types.{Thread, sigmask, sigreturn}
 use Rattle.rules.specs.View.{set_mask, live_thread, the_thread}
 use Rattle.rules.specs.Store.{Store}

@@ -8,7 +8,7 @@ use Rattle.sigset.specs.declared.SigSet.{SigSet}
 use Rattle.sigset.specs.Set.{has, set_of, union, intersect}
 use Rattle.sigset.proofs.Laws.{set-cong}
 use Rattle.types.specs.declared.Reply.TheVariants.{PendingSet}
-use Rattle.types.specs.declared.Answer.TheVariants.{Accepted}
+use Rattle.types.specs.Answers.{Accepted}
 use Rattle.rules.specs.Types.{Thread, sigpending}
 use Rattle.rules.specs.View.{target_queue, live_thread, the_thread, pending_in, pending_for}
 use Rattle.rules.specs.Actions.{blocked_pending}

@@ -2,34 +2,24 @@
 #![tactic(auto)]
 
 ghost use Rattle.std.specs.Prelude.{◌≡◌};
+ghost use Rattle.types.specs.Answers.{answer_of, given, refused_by};
 ghost use Rattle.rules.specs.Types as call;
 ghost use Rattle.rules.specs.View.{the_thread};
 ghost use Rattle.rules.specs.Actions.{new_mask, blocked_pending};
 ghost use Rattle.rules.specs.Refusals.{bad_way};
 ghost use Rattle.sound.specs.Lent.{view_of, WithThread, lent};
 ghost use Rattle.answers.specs.Step.{refusal_on, step_on, stepped};
-ghost use Rattle.masks.specs.Given.{new_set};
 
-use limits::{EFAULT, EINVAL, ESRCH, SIG_BLOCK, SIG_SETMASK, SIG_UNBLOCK};
+use limits::{SIG_BLOCK, SIG_SETMASK, SIG_UNBLOCK};
 use sigset::SigSet;
-use types::{Answer, Reply};
-
-// A set to change a mask by, or none: then the call enquires.
-#[derive(Clone, Copy)]
-pub enum GivenSet {
-    NoSet,
-    Set(SigSet),
-}
+use types::{Answer, Errno, Reply};
 
 // ---- masks
 
-fn is_bad_way(way: u32, set: GivenSet) -> bool
-    ensures { result ≡ bad_way way (new_set set) }
+fn is_bad_way(way: u32, set: Option<SigSet>) -> bool
+    ensures { result ≡ bad_way way (given set) }
 {
-    match set {
-        GivenSet::NoSet => false,
-        GivenSet::Set(_) => SIG_SETMASK < way,
-    }
+    set.is_some() & (SIG_SETMASK < way)
 }
 
 // Way 0 adds the set, 1 removes its members, 2 replaces the mask; KILL and STOP are left out.
@@ -45,30 +35,30 @@ fn mask_after(old: SigSet, way: u32, set: SigSet) -> SigSet
     SigSet::maskable(set)
 }
 
-fn mask_refusal(
+fn check_mask(
     ps: &[u64],
     ts: &[u64],
     tb: &[u8],
     pb: &[u8],
     thread: u32,
     way: u32,
-    set: GivenSet,
-) -> u32
-    ensures { result ≡ refusal_on (call.sigmask thread way (new_set set)) (lent ps.now ts.now tb.now pb.now) }
+    set: Option<SigSet>,
+) -> Result<(), Errno>
+    ensures { refused_by result ≡ refusal_on (call.sigmask thread way (given set)) (lent ps.now ts.now tb.now pb.now) }
 {
     if !sound::sound(ps, ts, tb, pb) {
-        return EFAULT;
+        return Err(Errno::EFAULT);
     }
     if is_bad_way(way, set) {
-        return EINVAL;
+        return Err(Errno::EINVAL);
     }
     if !view::is_thread(ts, thread) {
-        return ESRCH;
+        return Err(Errno::ESRCH);
     }
-    0
+    Ok(())
 }
 
-// Answers the mask of a thread and, where a set is given, changes it.
+// Answers the mask of a thread and, where a set is given, changes it; without one it enquires.
 pub fn sigmask(
     ps: &mut [u64],
     ts: &mut [u64],
@@ -76,23 +66,17 @@ pub fn sigmask(
     pb: &mut [u8],
     thread: u32,
     way: u32,
-    set: GivenSet,
+    set: Option<SigSet>,
 ) -> Answer
-    ensures { stepped (call.sigmask thread way (new_set set)) result
+    ensures { stepped (call.sigmask thread way (given set)) result
         (lent ps.old ts.old tb.old pb.old) (lent ps.new ts.new tb.new pb.new) }
 {
-    let n = mask_refusal(ps, ts, tb, pb, thread, way, set);
-    if n != 0 {
-        return Answer::Refused(n);
-    }
+    check_mask(ps, ts, tb, pb, thread, way, set)?;
     let old = view::mask_of(ts, thread);
-    match set {
-        GivenSet::NoSet => Answer::Accepted(Reply::OldMask(old)),
-        GivenSet::Set(s) => {
-            effects::set_mask(ps, ts, tb, pb, thread, mask_after(old, way, s));
-            Answer::Accepted(Reply::OldMask(old))
-        }
+    if let Some(s) = set {
+        effects::set_mask(ps, ts, tb, pb, thread, mask_after(old, way, s));
     }
+    Ok(Reply::OldMask(old))
 }
 
 // The return from a handler: the saved mask replaces the thread's.
@@ -107,7 +91,7 @@ pub fn sigreturn(
     ensures { stepped (call.sigreturn thread saved) result (lent ps.old ts.old tb.old pb.old)
         (lent ps.new ts.new tb.new pb.new) }
 {
-    sigmask(ps, ts, tb, pb, thread, SIG_SETMASK, GivenSet::Set(saved))
+    sigmask(ps, ts, tb, pb, thread, SIG_SETMASK, Some(saved))
 }
 
 // ---- the pending set
@@ -125,11 +109,8 @@ fn blocked(ps: &[u64], ts: &[u64], tb: &[u8], pb: &[u8], thread: u32) -> SigSet
 }
 
 pub fn sigpending(ps: &[u64], ts: &[u64], tb: &[u8], pb: &[u8], thread: u32) -> Answer
-    ensures { result ≡ (step_on (call.sigpending thread) (lent ps.now ts.now tb.now pb.now)).1 }
+    ensures { answer_of result ≡ (step_on (call.sigpending thread) (lent ps.now ts.now tb.now pb.now)).1 }
 {
-    let n = view::thread_refusal(ps, ts, tb, pb, thread);
-    if n != 0 {
-        return Answer::Refused(n);
-    }
-    Answer::Accepted(Reply::PendingSet(blocked(ps, ts, tb, pb, thread)))
+    view::check_thread(ps, ts, tb, pb, thread)?;
+    Ok(Reply::PendingSet(blocked(ps, ts, tb, pb, thread)))
 }

@@ -11,8 +11,8 @@ use borrow.Author.Tests.{ne_eqb}
 use Rattle.limits.specs.Limits.{EFAULT, EINVAL, thread_places, thread_table, process_table, buffer_bytes, call_clear}
 use Rattle.lists.proofs.Rows.{nil-of}
 use Rattle.lists.proofs.Bools.{split, and_left, and_right, cond-true, cond-false}
-use Rattle.types.specs.declared.Answer.{Answer}
-use Rattle.types.specs.declared.Answer.TheVariants.{Refused}
+use Rattle.types.specs.Answers.{Answer}
+use Rattle.types.specs.Answers.{Refused}
 use Rattle.sound.specs.Lent.{Lent, lent, decoded, lengths_are, sound_tables}
 use Rattle.answers.specs.Step.{committed, step_on}
 use Rattle.rules.specs.Calls.{step, look_part}

@@ -11,8 +11,8 @@ use borrow.Author.Tests.{eqb-true, eqb-false}
 use Rattle.limits.specs.Limits.{EFAULT, EINVAL, thread_places, call_sigmask, call_sigreturn, sig_setmask}
 use Rattle.lists.proofs.Bools.{split, or_cases, cond-true, cond-false}
 use Rattle.sigset.specs.Set.{bits}
-use Rattle.types.specs.declared.Answer.{Answer}
-use Rattle.types.specs.declared.Answer.TheVariants.{Refused}
+use Rattle.types.specs.Answers.{Answer}
+use Rattle.types.specs.Answers.{Refused}
 use Rattle.rules.specs.Types.{Call}
 use Rattle.sound.specs.Lent.{Lent, lent}
 use Rattle.answers.specs.Step.{refusal_on, step_on}

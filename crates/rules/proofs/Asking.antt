@@ -78,22 +78,10 @@ module _ (v : View) (t : Thread) where
 
   -- ---- what a take answers
 
-  outcome-yields : (o : Outcome) (s : ℕ) → is_taken (outcome_answer o s) ≡ true
-  unfolding outcome_answer is_taken
-  outcome-yields ignores s = refl
-  outcome-yields stops s = refl
-  outcome-yields continues s = refl
-  outcome-yields ends s = refl
-
-  pub delivered-yields : (a : Action) (r : Siginfo) → is_taken (delivered t a r) ≡ true
-  unfolding delivered is_taken
-  delivered-yields a r =
-      split (eqb a.handler sig_dfl) (λ e. rw e (outcome-yields (outcome r.signal) r.signal)) (λ e. rw e)
-
   next-yields : (o : Option Siginfo) (q : Queue) (s : ℕ) → is_taken (take_answer v t (next_in v q s o)) ≡ true
-  unfolding take_answer next_in
-  next-yields none q s = delivered-yields (thread_action v t s) (mark_info q s)
-  next-yields (some r) q s = delivered-yields (thread_action v t s) r
+  unfolding take_answer next_in is_taken
+  next-yields none q s = refl
+  next-yields (some r) q s = refl
 
   -- "Asking a live thread for a signal yields one exactly when .."
   pub asking-yields : is_taken (take_answer v t (next v t)) ≡ has_offer v t

@@ -12,8 +12,8 @@ use Rattle.lists.proofs.Bools.{split, and-fst, and-snd, and_right, cond-false}
 use Rattle.lists.proofs.Lists.{any-keep, any_same}
 use Rattle.sigset.specs.Set.{bits, has}
 use Rattle.sigset.proofs.Laws.{has-empty}
-use Rattle.types.specs.declared.Answer.{Answer}
-use Rattle.types.specs.declared.Answer.TheVariants.{Refused, Accepted}
+use Rattle.types.specs.Answers.{Answer}
+use Rattle.types.specs.Answers.{Refused, Accepted}
 use Rattle.rules.specs.Types.{Process, Thread, Queue, Call, look}
 use Rattle.rules.specs.View.{View, in_queue, same_queue, thread_queue, process_queue, the_thread}
 use Rattle.rules.specs.Signals.{is_signal}

@@ -4,7 +4,7 @@ use mathlib.Core.Path.{◌≡◌, refl, sym, ap}
 use mathlib.Core.Bool.{true, not}
 use lib.Dec.{eqb, eqb-suc-zero}
 use Rattle.lists.proofs.Bools.{clash}
-use Rattle.types.specs.declared.Answer.TheVariants.{Refused}
+use Rattle.types.specs.Answers.{Refused}
 use Rattle.rules.specs.Types.{Call}
 use Rattle.rules.specs.Store.{Store}
 use Rattle.rules.specs.Refusals.{refusal_of}

@@ -2,6 +2,7 @@
 use Prim.Native.Nat.{ℕ, zero, suc, ◌-◌}
 use mathlib.Core.Path.{◌≡◌, refl, sym, ap, subst, ◌∙◌}
 use mathlib.Core.Bool.{Bool, true, false, not, ◌&&◌, ◌||◌, cond, and-false}
+use Rattle.std.specs.Prelude.{Some, None}
 use mathlib.Core.List.{List, [], ◌∷◌}
 use mathlib.Core.Option.{Option, some, none}
 use native.Mathlib.Omega.{arith}
@@ -24,8 +25,8 @@ use Rattle.types.specs.declared.Taken.{Taken}
 use Rattle.types.specs.declared.Taken.TheVariants as taken
 use Rattle.types.specs.declared.Reply.{Reply}
 use Rattle.types.specs.declared.Reply.TheVariants as reply
-use Rattle.types.specs.declared.Answer.{Answer}
-use Rattle.types.specs.declared.Answer.TheVariants.{Refused, Accepted}
+use Rattle.types.specs.Answers.{Answer}
+use Rattle.types.specs.Answers.{Refused, Accepted}
 use Rattle.rules.specs.Types.{Process, Thread, Queue, no_process, no_thread, Call, clear, add_process, add_thread}
 use Rattle.rules.specs.Types.{end_process, end_thread, kill, sigqueue, sigaction, sigmask, sigpending, look, who}
 use Rattle.rules.specs.Types.{take, sigreturn, Next, no_next, next_mark, next_record}
@@ -384,7 +385,6 @@ left-clean c st a = go (refusal_of st c) refl a
 
 -- the sets of an answer have neither
 unfoldable pub clean_taken : Taken → Bool
-clean_taken taken.Nothing = true
 clean_taken (taken.Handler n s r flags saved) = unmasked saved
 clean_taken (taken.End s) = true
 clean_taken (taken.Stop s) = true
@@ -397,9 +397,9 @@ clean_reply (reply.OldAction a) = action_unmasked a
 clean_reply (reply.OldMask m) = unmasked m
 clean_reply (reply.PendingSet m) = unmasked m
 clean_reply (reply.Looked n) = true
-clean_reply (reply.CanTake t) = true
-clean_reply reply.NoneCan = true
-clean_reply (reply.Taken x) = clean_taken x
+clean_reply (reply.Taker t) = true
+clean_reply (reply.Taken None) = true
+clean_reply (reply.Taken (Some x)) = clean_taken x
 
 unfoldable pub clean_answer : Answer → Bool
 clean_answer (Refused n) = true
@@ -429,8 +429,8 @@ module _ (t : Thread) (e : unmasked t.mask ≡ true) where
   delivered-answer a r =
       split (eqb a.handler sig_dfl) (λ k. rw k (outcome-answer (outcome r.signal) r.signal)) (λ k. rw k e)
 
-  take-answer : (v : View) (n : Next) → clean_taken (take_answer v t n) ≡ true
-  unfolding take_answer clean_taken
+  take-answer : (v : View) (n : Next) → clean_reply (reply.Taken (take_answer v t n)) ≡ true
+  unfolding take_answer clean_reply
   take-answer v no_next = refl
   take-answer v (next_mark q s) = delivered-answer _ _
   take-answer v (next_record q s r) = delivered-answer _ _

@@ -1,10 +1,9 @@
 -- Demand 3's words for asking a thread for a signal, and for what a take may take.
-use Rattle.std.specs.Prelude.{ℕ, ◌≡◌, Bool, true, false, not, ◌&&◌, ◌||◌, eqb}
+use Rattle.std.specs.Prelude.{ℕ, ◌≡◌, Bool, true, false, not, ◌&&◌, ◌||◌, eqb, Some, None, Option as Maybe}
 use Rattle.limits.specs.Limits.{signals}
 use Rattle.lists.specs.Lists.{any, range}
 use Rattle.sigset.specs.Set.{has}
 use Rattle.types.specs.declared.Taken.{Taken}
-use Rattle.types.specs.declared.Taken.TheVariants as taken
 use Rattle.rules.specs.Types.{Thread, Queue}
 use Rattle.rules.specs.View.{View, the_process, pending_in, pending_for}
 
@@ -38,9 +37,6 @@ module _ (v : View) (t : Thread) where
     pub pending : pending_in v q s ≡ true
 
 -- a signal is taken
-unfoldable pub is_taken : Taken → Bool
-is_taken taken.Nothing = false
-is_taken (taken.Handler n s r flags saved) = true
-is_taken (taken.End s) = true
-is_taken (taken.Stop s) = true
-is_taken (taken.NoAction s) = true
+unfoldable pub is_taken : Maybe Taken → Bool
+is_taken None = false
+is_taken (Some x) = true

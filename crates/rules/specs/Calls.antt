@@ -5,8 +5,8 @@ use Rattle.limits.specs.Limits.{sig_setmask}
 use Rattle.lists.specs.Lists.{find}
 use Rattle.types.specs.declared.Reply.{Reply}
 use Rattle.types.specs.declared.Reply.TheVariants.{Done, Sent, OldAction, OldMask, PendingSet, Looked, Taken}
-use Rattle.types.specs.declared.Answer.{Answer}
-use Rattle.types.specs.declared.Answer.TheVariants.{Refused, Accepted}
+use Rattle.types.specs.Answers.{Answer}
+use Rattle.types.specs.Answers.{Refused, Accepted}
 use Rattle.rules.specs.Types.{Queue, Call, clear, add_process, add_thread, end_process, end_thread, kill, sigqueue}
 use Rattle.rules.specs.Types.{sigaction, sigmask, sigpending, look, who, take, sigreturn, Next, no_next, next_mark}
 use Rattle.rules.specs.Types.{next_record, told}

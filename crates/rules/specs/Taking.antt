@@ -1,5 +1,6 @@
 -- "Taking".
-use Rattle.std.specs.Prelude.{ℕ, ◌-◌, Bool, not, ◌&&◌, ◌||◌, cond, List, [], ◌∷◌, eqb}
+use Rattle.std.specs.Prelude.{ℕ, ◌-◌, Bool, not, ◌&&◌, ◌||◌, cond, List, [], ◌∷◌, eqb, Some, None}
+use Rattle.std.specs.Prelude.{Option as Maybe}
 use Rattle.std.proofs.Math.Option.{Option, some, none}
 use Rattle.std.specs.Int.Bits.{bit_and}
 use Rattle.limits.specs.Limits.{SIGILL, SIGTRAP, sig_dfl, sa_siginfo, sa_nodefer, sa_resethand, known_flags}
@@ -9,9 +10,9 @@ use Rattle.sigset.specs.Set.{has, union, maskable, of_signal, lowest_of, empty}
 use Rattle.types.specs.declared.Action.{Action}
 use Rattle.types.specs.declared.Siginfo.{Siginfo}
 use Rattle.types.specs.declared.Taken.{Taken}
-use Rattle.types.specs.declared.Taken.TheVariants.{Nothing, Handler, End, Stop, NoAction}
+use Rattle.types.specs.declared.Taken.TheVariants.{Handler, End, Stop, NoAction}
 use Rattle.types.specs.declared.Reply.{Reply}
-use Rattle.types.specs.declared.Reply.TheVariants.{CanTake, NoneCan}
+use Rattle.types.specs.declared.Reply.TheVariants.{Taker}
 use Rattle.rules.specs.Types.{Thread, Queue, Next, no_next, next_mark, next_record}
 use Rattle.rules.specs.Signals.{Outcome, ignores, stops, continues, ends, outcome}
 use Rattle.rules.specs.View.{View, Change, remove_process, set_stopped, set_mask, clear_mark, drop_oldest, thread_queue}
@@ -52,8 +53,8 @@ module _ (v : View) where
   can_take_some p t = belongs_to p t && not (eqb (next_signal t) 0)
 
   unfoldable pub who_answer : Option Thread → Reply
-  who_answer none = NoneCan
-  who_answer (some t) = CanTake t.id
+  who_answer none = Taker None
+  who_answer (some t) = Taker (Some t.id)
 
   unfoldable pub taker : (process : ℕ) → Reply
   taker p = who_answer (first (can_take_some p) v.threads)
@@ -114,7 +115,7 @@ module _ (v : View) where
   take_changes t (next_mark q s) = clear_mark q s ∷ deliver t (thread_action v t s) s
   take_changes t (next_record q s r) = drop_oldest q s ∷ deliver t (thread_action v t s) s
 
-  unfoldable pub take_answer : Thread → Next → Taken
-  take_answer t no_next = Nothing
-  take_answer t (next_mark q s) = delivered t (thread_action v t s) (mark_info q s)
-  take_answer t (next_record q s r) = delivered t (thread_action v t s) r
+  unfoldable pub take_answer : Thread → Next → Maybe Taken
+  take_answer t no_next = None
+  take_answer t (next_mark q s) = Some (delivered t (thread_action v t s) (mark_info q s))
+  take_answer t (next_record q s r) = Some (delivered t (thread_action v t s) r)

@@ -1,5 +1,5 @@
 -- What the rules speak of: processes, threads, queues, calls and what is next.
-use Rattle.std.specs.Prelude.{ℕ, List, replicate}
+use Rattle.std.specs.Prelude.{ℕ, List, replicate, Some, None, Option as Maybe}
 use Rattle.std.proofs.Math.Option.{Option}
 use Rattle.limits.specs.Limits.{signals}
 use Rattle.sigset.specs.declared.SigSet.{SigSet}
@@ -7,8 +7,8 @@ use Rattle.sigset.specs.Set.{empty}
 use Rattle.types.specs.declared.Action.{Action}
 use Rattle.types.specs.declared.Siginfo.{Siginfo}
 use Rattle.types.specs.declared.NewProcess.{NewProcess}
-use Rattle.types.specs.declared.Next as declared
-use Rattle.types.specs.declared.Next.TheVariants as next
+use Rattle.types.specs.declared.Pending.{Pending}
+use Rattle.types.specs.declared.Pending.TheVariants.{Mark, Record}
 use Rattle.types.specs.Values.{default_action}
 
 -- ---- "The tables"
@@ -105,7 +105,7 @@ pub data Next : Type 0 where
   next_record : (queue : Queue) (signal : ℕ) (info : Siginfo) → Next
 
 -- what a look tells of it: a record is the oldest of its own queue and signal
-unfoldable pub told : Next → declared.Next
-told no_next = next.Nothing
-told (next_mark q s) = next.Mark q.process q.thread s
-told (next_record q s r) = next.Record r
+unfoldable pub told : Next → Maybe Pending
+told no_next = None
+told (next_mark q s) = Some (Mark q.process q.thread s)
+told (next_record q s r) = Some (Record r)

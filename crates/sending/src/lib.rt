@@ -234,7 +234,7 @@ fn is_bad_target(ps: &[u64], ts: &[u64], tb: &[u8], pb: &[u8], to: u32, thread: 
 }
 
 // A queued send is refused for all of this too.
-fn kill_refusal(
+fn check_kill(
     ps: &[u64],
     ts: &[u64],
     tb: &[u8],
@@ -289,7 +289,7 @@ fn judge(
 ) -> Decision
     ensures { Decided (lent ps.now ts.now tb.now pb.now) queued by to thread signal value result }
 {
-    let n = kill_refusal(ps, ts, tb, pb, by, to, thread, signal);
+    let n = check_kill(ps, ts, tb, pb, by, to, thread, signal);
     if n != 0 {
         return Decision::Refused(n);
     }

@@ -14,7 +14,7 @@ use Rattle.types.specs.declared.Next.TheVariants as cases
 use Rattle.types.specs.declared.Taken as taken
 use Rattle.types.specs.declared.Taken.TheVariants.{Nothing}
 use Rattle.types.specs.declared.Reply.TheVariants.{Taken}
-use Rattle.types.specs.declared.Answer.TheVariants.{Refused, Accepted}
+use Rattle.types.specs.Answers.{Refused, Accepted}
 use Rattle.sound.proofs.Facts.{AsLong}
 use Rattle.answers.specs.Answers.{next_of}
 use Rattle.sound.specs.Lent.{Lent, decoded, view_of, sound_tables}

@@ -239,7 +239,7 @@ pub fn take(ps: &mut [u64], ts: &mut [u64], tb: &mut [u8], pb: &mut [u8], thread
     ensures { stepped (call.take thread) result (lent ps.old ts.old tb.old pb.old)
         (lent ps.new ts.new tb.new pb.new) }
 {
-    let n = view::thread_refusal(ps, ts, tb, pb, thread);
+    let n = view::check_thread(ps, ts, tb, pb, thread);
     if n != 0 {
         return Answer::Refused(n);
     }

@@ -1,7 +1,9 @@
 // The values that the tables hold and that calls carry and answer, by value.
 #![tactic(auto)]
 
-use limits::SIG_DFL;
+ghost use Rattle.std.specs.Prelude.{◌≡◌};
+
+use limits::{EAGAIN, EEXIST, EFAULT, EINVAL, EPERM, ESRCH, SIG_DFL};
 use sigset::SigSet;
 
 // What a process does about a signal: a handler number (0 default, 1 ignore), flags, and a mask.
@@ -61,19 +63,17 @@ pub enum Sent {
     Kept,
 }
 
-// What a thread takes next.
+// A pending signal, as a thread takes it.
 #[derive(Clone, Copy)]
-pub enum Next {
-    Nothing,
+pub enum Pending {
     // a mark: the process and the thread of its queue, and the signal
     Mark(u32, u32, u32),
     Record(Siginfo),
 }
 
-// A take's answer.
+// What a taken signal comes to.
 #[derive(Clone, Copy)]
 pub enum Taken {
-    Nothing,
     // handler number, signal, record, flags, saved mask
     Handler(u64, u32, Siginfo, u64, SigSet),
     // the signal whose default outcome it is
@@ -90,17 +90,42 @@ pub enum Reply {
     OldAction(Action),
     OldMask(SigSet),
     PendingSet(SigSet),
-    Looked(Next),
-    // the thread that can take something
-    CanTake(u32),
-    NoneCan,
-    Taken(Taken),
+    // what the thread takes next, or nothing
+    Looked(Option<Pending>),
+    // the thread that can take something, or none
+    Taker(Option<u32>),
+    // what was taken, or nothing
+    Taken(Option<Taken>),
+}
+
+// Why a call is refused, under POSIX's names.
+#[derive(Clone, Copy, PartialEq, Eq, Debug)]
+pub enum Errno {
+    EPERM,
+    ESRCH,
+    EAGAIN,
+    EFAULT,
+    EEXIST,
+    EINVAL,
+}
+
+// The number that document 01 gives it.
+impl From<Errno> for u32 {
+    ghost use Rattle.types.specs.Answers.{number};
+
+    ghost from_gives = { λ e n. n ≡ number e };
+
+    fn from(e: Errno) -> u32 {
+        match e {
+            Errno::EPERM => EPERM,
+            Errno::ESRCH => ESRCH,
+            Errno::EAGAIN => EAGAIN,
+            Errno::EFAULT => EFAULT,
+            Errno::EEXIST => EEXIST,
+            Errno::EINVAL => EINVAL,
+        }
+    }
 }
 
 // The answer of a call.
-#[derive(Clone, Copy)]
-pub enum Answer {
-    // the errno
-    Refused(u32),
-    Accepted(Reply),
-}
+pub type Answer = Result<Reply, Errno>;

@@ -6,6 +6,7 @@ ghost use Rattle.std.specs.Prelude.{◌≡◌, true, not, cond, [], ◌∷◌, �
 ghost use Rattle.limits.specs.Limits.{process_table, thread_table, buffer_bytes, signals};
 ghost use Rattle.lists.specs.Lists.{any};
 ghost use Rattle.sigset.specs.Set.{set_of};
+ghost use Rattle.types.specs.Answers.{refused_by};
 ghost use Rattle.rules.specs.View.{is_process, is_thread, target_queue, action_of, pending_in};
 ghost use Rattle.rules.specs.Store.{is_free_process, is_free_thread};
 ghost use Rattle.rules.specs.Sound.{good_id, good_user};
@@ -18,12 +19,11 @@ ghost use Rattle.answers.specs.Step.{rows_on};
 ghost use Rattle.view.specs.Named.{process_named, thread_named};
 
 use limits::{
-    EFAULT, ESRCH, PROCESS_EFFECTIVE, PROCESS_MARKS, PROCESS_PLACES, PROCESS_REAL, PROCESS_SAVED,
-    PROCESS_SESSION, PROCESS_STOPPED, SIGCONT, THREAD_MARKS, THREAD_MASK, THREAD_PLACES,
-    THREAD_PROCESS,
+    PROCESS_EFFECTIVE, PROCESS_MARKS, PROCESS_PLACES, PROCESS_REAL, PROCESS_SAVED, PROCESS_SESSION,
+    PROCESS_STOPPED, SIGCONT, THREAD_MARKS, THREAD_MASK, THREAD_PLACES, THREAD_PROCESS,
 };
 use sigset::SigSet;
-use types::Action;
+use types::{Action, Errno};
 
 // ---- who is there
 
@@ -166,32 +166,40 @@ pub fn pending_of(ps: &[u64], ts: &[u64], tb: &[u8], pb: &[u8], process: u32, th
     SigSet::union(queued, marks)
 }
 
-// ---- the refusals that several calls share
+// ---- the checks that several calls share
 
-// 14 where the tables are not sound, 3 where the process is not live, else 0.
-pub fn process_refusal(ps: &[u64], ts: &[u64], tb: &[u8], pb: &[u8], process: u32) -> u32
-    ensures { result ≡ rows_on (esrch (no_process_live (view_of (lent ps.now ts.now tb.now pb.now)) process) ∷ [])
+// Refused with 14 where the tables are not sound, with 3 where the process is not live.
+pub fn check_process(
+    ps: &[u64],
+    ts: &[u64],
+    tb: &[u8],
+    pb: &[u8],
+    process: u32,
+) -> Result<(), Errno>
+    ensures { refused_by result
+        ≡ rows_on (esrch (no_process_live (view_of (lent ps.now ts.now tb.now pb.now)) process) ∷ [])
         (lent ps.now ts.now tb.now pb.now) }
 {
     if !sound::sound(ps, ts, tb, pb) {
-        return EFAULT;
+        return Err(Errno::EFAULT);
     }
     if !is_process(ps, process) {
-        return ESRCH;
+        return Err(Errno::ESRCH);
     }
-    0
+    Ok(())
 }
 
 // The same of a thread.
-pub fn thread_refusal(ps: &[u64], ts: &[u64], tb: &[u8], pb: &[u8], thread: u32) -> u32
-    ensures { result ≡ rows_on (esrch (no_thread_live (view_of (lent ps.now ts.now tb.now pb.now)) thread) ∷ [])
+pub fn check_thread(ps: &[u64], ts: &[u64], tb: &[u8], pb: &[u8], thread: u32) -> Result<(), Errno>
+    ensures { refused_by result
+        ≡ rows_on (esrch (no_thread_live (view_of (lent ps.now ts.now tb.now pb.now)) thread) ∷ [])
         (lent ps.now ts.now tb.now pb.now) }
 {
     if !sound::sound(ps, ts, tb, pb) {
-        return EFAULT;
+        return Err(Errno::EFAULT);
     }
     if !is_thread(ts, thread) {
-        return ESRCH;
+        return Err(Errno::ESRCH);
     }
-    0
+    Ok(())
 }

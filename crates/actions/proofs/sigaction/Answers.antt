@@ -17,8 +17,8 @@ returns-then-n-ne0 c =
     let p = c.args.process in
     let s = c.args.signal in
     let new = new_action c.args.new in
-    let n = c.action_refusal-n.result in
-    let e = c.action_refusal-n.ensures in
+    let n = c.check_action-n.result in
+    let e = c.check_action-n.ensures in
     refused-ends (sigaction p s new) l n e c.if-n-ne0.true
 
 pub action_of-old-requires : goal.action_of-old-requires
@@ -27,7 +27,7 @@ action_of-old-requires c =
     let p = c.args.process in
     let s = c.args.signal in
     let new = new_action c.args.new in
-    let e = sym c.action_refusal-n.ensures ∙ c.if-n-ne0.false in
+    let e = sym c.check_action-n.ensures ∙ c.if-n-ne0.false in
     let d = action-accepted l p s new e in
     record {
       ps_len = processes-long l d.sound;
@@ -44,7 +44,7 @@ store_action-requires c =
     let new = new_action c.args.new in
     let e =
     sym
-    c.action_refusal-n.ensures
+    c.check_action-n.ensures
     ∙ c.if-n-ne0.false in
     let d = action-accepted l p s new e in
     action-ready l p s new e c.in-Action.a
@@ -61,7 +61,7 @@ returns-in-NoAction c =
     let s = a.args.signal in
     let new = new_action a.args.new in
     let e =
-    sym c.action_refusal-n.ensures
+    sym c.check_action-n.ensures
     ∙ c.if-n-ne0.false in
     action-kept l p s new e c.action_of-old.result c.action_of-old.ensures
     (ap new_action c.in-NoAction.is) (bytes-each l.thread_buffer (λ k₀. omega (arith, c.slice_known-3-1.given k₀)))
@@ -74,7 +74,7 @@ returns-in-Action c =
     let p = c.args.process in
     let s = c.args.signal in
     let new = new_action c.args.new in
-    let e = sym c.action_refusal-n.ensures
+    let e = sym c.check_action-n.ensures
     ∙ c.if-n-ne0.false in
     let ps' = c.store_action.new.ps in
     let ts' = c.store_action.new.ts in

@@ -9,30 +9,30 @@ use Rattle.adding.proofs.add_thread.Goals as goal
 pub returns-then-n-ne0 : goal.returns-then-n-ne0
 returns-then-n-ne0 c =
     thread-refused (lent c.args.ps.now c.args.ts.now c.args.tb.now c.args.pb.now)
-    c.args.creator c.args.id c.add_thread_refusal-n.result c.add_thread_refusal-n.ensures c.if-n-ne0.true
+    c.args.creator c.args.id c.check_add_thread-n.result c.check_add_thread-n.ensures c.if-n-ne0.true
 
 pub process_of-process-requires : goal.process_of-process-requires
 process_of-process-requires c =
     let both = creator-owned (lent c.args.ps.now c.args.ts.now c.args.tb.now c.args.pb.now)
-    c.args.creator c.args.id c.add_thread_refusal-n.result c.add_thread_refusal-n.ensures c.if-n-ne0.false in
+    c.args.creator c.args.id c.check_add_thread-n.result c.check_add_thread-n.ensures c.if-n-ne0.false in
     record { ts_len = both.0; ts_value = both.1.0; thread_value = both.1.1 }
 
 pub mask_of-mask-requires : goal.mask_of-mask-requires
 mask_of-mask-requires c =
     let both = creator-found (lent c.args.ps.now c.args.ts.now c.args.tb.now c.args.pb.now)
-    c.args.creator c.args.id c.add_thread_refusal-n.result c.add_thread_refusal-n.ensures c.if-n-ne0.false in
+    c.args.creator c.args.id c.check_add_thread-n.result c.check_add_thread-n.ensures c.if-n-ne0.false in
     record { ts_len = both.0; ts_value = both.1 }
 
 pub new_thread-requires : goal.new_thread-requires
 new_thread-requires c =
     let both = thread-room (lent c.args.ps.now c.args.ts.now c.args.tb.now c.args.pb.now)
-    c.args.creator c.args.id c.add_thread_refusal-n.result c.add_thread_refusal-n.ensures c.if-n-ne0.false in
+    c.args.creator c.args.id c.check_add_thread-n.result c.check_add_thread-n.ensures c.if-n-ne0.false in
     record { ts_len = both.0; ts_value = both.1 }
 
 pub returns : goal.returns
 returns c =
     thread-added (lent c.args.ps.now c.args.ts.now c.args.tb.now c.args.pb.now)
-    c.args.creator c.args.id c.add_thread_refusal-n.result c.add_thread_refusal-n.ensures c.if-n-ne0.false
+    c.args.creator c.args.id c.check_add_thread-n.result c.check_add_thread-n.ensures c.if-n-ne0.false
     c.new_thread.new.ts c.process_of-process.result c.mask_of-mask.result c.process_of-process.ensures
     c.mask_of-mask.ensures
     c.new_thread.ensures (search rules)

@@ -9,17 +9,17 @@ use Rattle.ending.proofs.end_process.Goals as goal
 pub returns-then-n-ne0 : goal.returns-then-n-ne0
 returns-then-n-ne0 c =
     process-kept (lent c.args.ps.now c.args.ts.now c.args.tb.now c.args.pb.now)
-    c.args.id c.process_refusal-n.result c.process_refusal-n.ensures c.if-n-ne0.true
+    c.args.id c.check_process-n.result c.check_process-n.ensures c.if-n-ne0.true
 
 pub remove_process-requires : goal.remove_process-requires
 remove_process-requires c =
     process-can-end (lent c.args.ps.now c.args.ts.now c.args.tb.now c.args.pb.now)
-    c.args.id c.process_refusal-n.result c.process_refusal-n.ensures c.if-n-ne0.false
+    c.args.id c.check_process-n.result c.check_process-n.ensures c.if-n-ne0.false
 
 pub returns : goal.returns
 returns c =
     process-ended (lent c.args.ps.now c.args.ts.now c.args.tb.now c.args.pb.now)
-    c.args.id c.process_refusal-n.result c.process_refusal-n.ensures c.if-n-ne0.false
+    c.args.id c.check_process-n.result c.check_process-n.ensures c.if-n-ne0.false
     (lent c.remove_process.new.ps c.remove_process.new.ts c.remove_process.new.tb
     c.remove_process.new.pb)
     (record {

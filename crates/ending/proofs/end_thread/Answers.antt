@@ -10,17 +10,17 @@ use Rattle.ending.proofs.end_thread.Goals as goal
 pub returns-then-n-ne0 : goal.returns-then-n-ne0
 returns-then-n-ne0 c =
     thread-kept (lent c.args.ps.now c.args.ts.now c.args.tb.now c.args.pb.now) c.args.id
-    c.thread_refusal-n.result c.thread_refusal-n.ensures c.if-n-ne0.true
+    c.check_thread-n.result c.check_thread-n.ensures c.if-n-ne0.true
 
 pub remove-requires : goal.remove-requires
 remove-requires c =
     thread-can-end (lent c.args.ps.now c.args.ts.now c.args.tb.now c.args.pb.now) c.args.id
-    c.thread_refusal-n.result c.thread_refusal-n.ensures c.if-n-ne0.false
+    c.check_thread-n.result c.check_thread-n.ensures c.if-n-ne0.false
 
 pub returns : goal.returns
 returns c =
     thread-ended (lent c.args.ps.now c.args.ts.now c.args.tb.now c.args.pb.now) c.args.id
-    c.thread_refusal-n.result c.thread_refusal-n.ensures c.if-n-ne0.false
+    c.check_thread-n.result c.check_thread-n.ensures c.if-n-ne0.false
     (lent c.remove.new.ps c.remove.new.ts c.remove.new.tb c.remove.new.pb)
     (record {
       processes = search rules;

@@ -11,7 +11,7 @@ use Rattle.sending.proofs.judge.Goals as goal
 pub returns-then-n-ne0 : goal.returns-then-n-ne0
 unfolding Decided
 returns-then-n-ne0 c =
-    let k = c.kill_refusal-n in
+    let k = c.check_kill-n in
     let l = lent c.args.ps.now c.args.ts.now c.args.tb.now c.args.pb.now in
     let x = c.args in (
       send-refused l x.by x.to x.thread x.signal x.value x.queued k.result k.ensures
@@ -21,7 +21,7 @@ returns-then-n-ne0 c =
 
 pub generation_of-f-requires : goal.generation_of-f-requires
 generation_of-f-requires c =
-    let k = c.kill_refusal-n in
+    let k = c.check_kill-n in
     let l = lent c.args.ps.now c.args.ts.now c.args.tb.now c.args.pb.now in
     let x = c.args in
     let y = kill-allowed l x.by x.to x.thread x.signal (sym k.ensures ∙ c.if-n-ne0.false) in
@@ -32,7 +32,7 @@ generation_of-f-requires c =
 
 pub has_no_room-requires : goal.has_no_room-requires
 has_no_room-requires c =
-    let k = c.kill_refusal-n in
+    let k = c.check_kill-n in
     let l = lent c.args.ps.now c.args.ts.now c.args.tb.now c.args.pb.now in
     let x = c.args in
     (kill-allowed l x.by x.to x.thread x.signal (sym k.ensures ∙ c.if-n-ne0.false)).sound
@@ -42,7 +42,7 @@ unfolding Decided
 returns-then-has_no_room c =
     let h = c.has_no_room in
     let f = c.generation_of-f in
-    let k = c.kill_refusal-n in
+    let k = c.check_kill-n in
     let l = lent c.args.ps.now c.args.ts.now c.args.tb.now c.args.pb.now in
     let x = c.args in
     let e = sym k.ensures ∙ c.if-n-ne0.false in (
@@ -53,7 +53,7 @@ returns-then-has_no_room c =
 
 pub info-requires : goal.info-requires
 info-requires c =
-    let k = c.kill_refusal-n in
+    let k = c.check_kill-n in
     let l = lent c.args.ps.now c.args.ts.now c.args.tb.now c.args.pb.now in
     let x = c.args in
     let y = kill-allowed l x.by x.to x.thread x.signal (sym k.ensures ∙ c.if-n-ne0.false) in
@@ -64,7 +64,7 @@ unfolding Decided
 returns c =
     let h = c.has_no_room in
     let f = c.generation_of-f in
-    let k = c.kill_refusal-n in
+    let k = c.check_kill-n in
     let l = lent c.args.ps.now c.args.ts.now c.args.tb.now c.args.pb.now in
     let x = c.args in
     let e = sym k.ensures ∙ c.if-n-ne0.false in (

@@ -10,14 +10,14 @@ pub returns-then-n-ne0 : goal.returns-then-n-ne0
 returns-then-n-ne0 c =
     let l = lent c.args.ps.now c.args.ts.now c.args.tb.now c.args.pb.now in
     let t = c.args.thread in
-    let n = c.thread_refusal-n in
+    let n = c.check_thread-n in
     take-refused l t n.result n.ensures c.if-n-ne0.true
 
 pub next_of-next-requires : goal.next_of-next-requires
 next_of-next-requires c =
     let l = lent c.args.ps.now c.args.ts.now c.args.tb.now c.args.pb.now in
     let t = c.args.thread in
-    let n = c.thread_refusal-n in
+    let n = c.check_thread-n in
     let z = c.if-n-ne0.false in
     record { sound = taker-sound l t n.result n.ensures z; live = taker-live l t n.result n.ensures z }
 
@@ -25,7 +25,7 @@ pub returns-in-Nothing : goal.returns-in-Nothing
 returns-in-Nothing c =
     let l = lent c.args.ps.now c.args.ts.now c.args.tb.now c.args.pb.now in
     let t = c.args.thread in
-    let n = c.thread_refusal-n in
+    let n = c.check_thread-n in
     let x = c.next_of-next in
     take-nothing l t n.result n.ensures c.if-n-ne0.false
     x.result x.ensures c.in-Nothing.is
@@ -36,7 +36,7 @@ pub take_next-requires : goal.take_next-requires
 take_next-requires c =
     let l = lent c.args.ps.now c.args.ts.now c.args.tb.now c.args.pb.now in
     let t = c.args.thread in
-    let n = c.thread_refusal-n in
+    let n = c.check_thread-n in
     let z = c.if-n-ne0.false in
     let x = c.next_of-next in
     record {
@@ -50,7 +50,7 @@ pub returns : goal.returns
 returns c =
     let l = lent c.args.ps.now c.args.ts.now c.args.tb.now c.args.pb.now in
     let t = c.args.thread in
-    let n = c.thread_refusal-n in
+    let n = c.check_thread-n in
     let x = c.next_of-next in
     let w = c.take_next in
     take-made l t n.result n.ensures

@@ -1,4 +1,4 @@
--- `action_refusal` meets its contract, a row for each return. Assumes nothing.
+-- `check_action` meets its contract, a row for each return. Assumes nothing.
 use mathlib.Core.Path.{sym, ◌∙◌}
 use borrow.Author.Tests.{not-false}
 use Rattle.sound.proofs.Facts.{processes-long}
@@ -6,7 +6,7 @@ use Rattle.sound.specs.Lent.{lent}
 use Rattle.view.proofs.Live.{no-process}
 use Rattle.actions.specs.Given.{new_action}
 use Rattle.actions.proofs.Actions.{action-fault, action-bad, action-gone, action-none}
-use Rattle.actions.proofs.action_refusal.Goals as goal
+use Rattle.actions.proofs.check_action.Goals as goal
 
 pub returns-then-not-sound : goal.returns-then-not-sound
 returns-then-not-sound c =

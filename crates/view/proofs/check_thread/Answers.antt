@@ -1,4 +1,4 @@
--- `thread_refusal` meets its contract: the one row. Assumes nothing.
+-- `check_thread` meets its contract: the one row. Assumes nothing.
 use mathlib.Core.Path.{sym, ◌∙◌}
 use mathlib.Core.List.{[], ◌∷◌}
 use Rattle.rules.specs.Refusals.{esrch, no_thread_live}
@@ -7,7 +7,7 @@ use Rattle.sound.specs.Lent.{view_of, lent}
 use Rattle.answers.proofs.Endings.{rows-fault}
 use Rattle.answers.proofs.Rows.{rows_at, rows_none}
 use Rattle.view.proofs.Live.{no-thread}
-use Rattle.view.proofs.thread_refusal.Goals as goal
+use Rattle.view.proofs.check_thread.Goals as goal
 
 pub returns-then-not-sound : goal.returns-then-not-sound
 returns-then-not-sound c =

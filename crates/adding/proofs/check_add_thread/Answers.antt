@@ -1,10 +1,10 @@
--- `add_thread_refusal` meets its contract: the rows in order. Assumes nothing.
+-- `check_add_thread` meets its contract: the rows in order. Assumes nothing.
 use mathlib.Core.Path.{sym, ◌∙◌}
 use Rattle.sound.specs.Lent.{lent}
 use Rattle.sound.proofs.Facts.{threads-long}
 use Rattle.adding.proofs.ThreadRows.{thread-fault, thread-bad, thread-gone, thread-there, thread-full}
 use Rattle.adding.proofs.ThreadRows.{thread-accepted}
-use Rattle.adding.proofs.add_thread_refusal.Goals as goal
+use Rattle.adding.proofs.check_add_thread.Goals as goal
 
 pub returns-then-not-sound : goal.returns-then-not-sound
 returns-then-not-sound c =

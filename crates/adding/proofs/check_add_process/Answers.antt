@@ -1,9 +1,9 @@
--- `add_process_refusal` meets its contract: the rows in order. Assumes nothing.
+-- `check_add_process` meets its contract: the rows in order. Assumes nothing.
 use mathlib.Core.Path.{sym, ◌∙◌}
 use Rattle.sound.specs.Lent.{lent}
 use Rattle.sound.proofs.Facts.{processes-long, threads-long}
 use Rattle.adding.proofs.ProcessRows.{process-fault, process-bad, process-there, process-full, process-accepted}
-use Rattle.adding.proofs.add_process_refusal.Goals as goal
+use Rattle.adding.proofs.check_add_process.Goals as goal
 
 pub returns-then-not-sound : goal.returns-then-not-sound
 returns-then-not-sound c =

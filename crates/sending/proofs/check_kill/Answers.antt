@@ -1,4 +1,4 @@
--- `kill_refusal` meets its contract, a return for each row. Assumes nothing.
+-- `check_kill` meets its contract, a return for each row. Assumes nothing.
 use mathlib.Core.Path.{sym, ◌∙◌}
 use mathlib.Core.Bool.{not}
 use borrow.Author.Tests.{not-false}
@@ -11,7 +11,7 @@ use Rattle.sound.specs.Lent.{decoded, view_of, lent}
 use Rattle.sound.proofs.Facts.{processes-long}
 use Rattle.sending.proofs.Refused.{nobody-read, may_read, kill-fault, kill-over, kill-nobody, kill-barred}
 use Rattle.sending.proofs.Refused.{kill-passes}
-use Rattle.sending.proofs.kill_refusal.Goals as goal
+use Rattle.sending.proofs.check_kill.Goals as goal
 
 pub returns-then-not-sound : goal.returns-then-not-sound
 returns-then-not-sound c =

@@ -1,4 +1,4 @@
--- `process_refusal` meets its contract: the one row. Assumes nothing.
+-- `check_process` meets its contract: the one row. Assumes nothing.
 use mathlib.Core.Path.{sym, ◌∙◌}
 use mathlib.Core.List.{[], ◌∷◌}
 use Rattle.rules.specs.Refusals.{esrch, no_process_live}
@@ -7,7 +7,7 @@ use Rattle.sound.specs.Lent.{view_of, lent}
 use Rattle.answers.proofs.Endings.{rows-fault}
 use Rattle.answers.proofs.Rows.{rows_at, rows_none}
 use Rattle.view.proofs.Live.{no-process}
-use Rattle.view.proofs.process_refusal.Goals as goal
+use Rattle.view.proofs.check_process.Goals as goal
 
 pub returns-then-not-sound : goal.returns-then-not-sound
 returns-then-not-sound c =
