@@ -2,37 +2,29 @@
 #![tactic(auto)]
 
 ghost use Rattle.std.specs.Prelude.{◌≡◌};
+ghost use Rattle.types.specs.Answers.{given, refused_by};
 ghost use Rattle.rules.specs.Types as call;
 ghost use Rattle.rules.specs.Actions.{stored};
 ghost use Rattle.rules.specs.Refusals.{unstorable, bad_action};
 ghost use Rattle.sound.specs.Lent.{lent};
 ghost use Rattle.answers.specs.Step.{refusal_on, stepped};
-ghost use Rattle.actions.specs.Given.{new_action};
 
-use limits::{EFAULT, EINVAL, ESRCH, SIGKILL, SIGNALS, SIGSTOP};
+use limits::{SIGKILL, SIGNALS, SIGSTOP};
 use sigset::SigSet;
-use types::{Action, Answer, Reply};
-
-// A new action, or none: then the call enquires.
-#[derive(Clone, Copy)]
-pub enum GivenAction {
-    NoAction,
-    Action(Action),
-}
+use types::{Action, Answer, Errno, Reply};
 
 // No new action is stored for KILL and STOP, and none with an unknown flag.
-fn is_unstorable(signal: u32, new: GivenAction) -> bool
-    ensures { result ≡ unstorable signal (new_action new) }
+fn is_unstorable(signal: u32, new: Option<Action>) -> bool
+    ensures { result ≡ unstorable signal (given new) }
 {
     match new {
-        GivenAction::NoAction => false,
-        GivenAction::Action(a) => ((signal == SIGKILL) | (signal == SIGSTOP))
-            | !decide::are_flags_known(a.flags),
+        None => false,
+        Some(a) => ((signal == SIGKILL) | (signal == SIGSTOP)) | !decide::are_flags_known(a.flags),
     }
 }
 
-fn is_bad_action(signal: u32, new: GivenAction) -> bool
-    ensures { result ≡ bad_action signal (new_action new) }
+fn is_bad_action(signal: u32, new: Option<Action>) -> bool
+    ensures { result ≡ bad_action signal (given new) }
 {
     (SIGNALS < signal) | ((signal == 0) | is_unstorable(signal, new))
 }
@@ -55,23 +47,23 @@ fn check_action(
     pb: &[u8],
     process: u32,
     signal: u32,
-    new: GivenAction,
-) -> u32
-    ensures { result ≡ refusal_on (call.sigaction process signal (new_action new)) (lent ps.now ts.now tb.now pb.now) }
+    new: Option<Action>,
+) -> Result<(), Errno>
+    ensures { refused_by result ≡ refusal_on (call.sigaction process signal (given new)) (lent ps.now ts.now tb.now pb.now) }
 {
     if !sound::sound(ps, ts, tb, pb) {
-        return EFAULT;
+        return Err(Errno::EFAULT);
     }
     if is_bad_action(signal, new) {
-        return EINVAL;
+        return Err(Errno::EINVAL);
     }
     if !view::is_process(ps, process) {
-        return ESRCH;
+        return Err(Errno::ESRCH);
     }
-    0
+    Ok(())
 }
 
-// Answers the action of a signal and, where a new one is given, stores it.
+// Answers the action of a signal and, where a new one is given, stores it; without one it enquires.
 pub fn sigaction(
     ps: &mut [u64],
     ts: &mut [u64],
@@ -79,21 +71,15 @@ pub fn sigaction(
     pb: &mut [u8],
     process: u32,
     signal: u32,
-    new: GivenAction,
+    new: Option<Action>,
 ) -> Answer
-    ensures { stepped (call.sigaction process signal (new_action new)) result
+    ensures { stepped (call.sigaction process signal (given new)) result
         (lent ps.old ts.old tb.old pb.old) (lent ps.new ts.new tb.new pb.new) }
 {
-    let n = check_action(ps, ts, tb, pb, process, signal, new);
-    if n != 0 {
-        return Answer::Refused(n);
-    }
+    check_action(ps, ts, tb, pb, process, signal, new)?;
     let old = view::action_of(ps, process, signal);
-    match new {
-        GivenAction::NoAction => Answer::Accepted(Reply::OldAction(old)),
-        GivenAction::Action(a) => {
-            effects::store_action(ps, ts, tb, pb, process, signal, stored_of(a));
-            Answer::Accepted(Reply::OldAction(old))
-        }
+    if let Some(a) = new {
+        effects::store_action(ps, ts, tb, pb, process, signal, stored_of(a));
     }
+    Ok(Reply::OldAction(old))
 }
