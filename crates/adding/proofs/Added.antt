@@ -29,10 +29,10 @@ use Rattle.view.specs.Named.{thread_named}
 use Rattle.types.specs.declared.NewProcess.{NewProcess}
 use Rattle.types.specs.declared.Reply.TheVariants.{Done}
 use Rattle.types.specs.Answers.{Answer}
-use Rattle.types.specs.Answers.{Refused, Accepted}
+use Rattle.types.specs.Answers.{Accepted}
 use Rattle.answers.specs.Step.{refusal_on, step_on}
 use Rattle.view.proofs.Live.{owner-known}
-use Rattle.answers.proofs.Endings.{accepted-long, accepted-rows, accepted-tables-sound, refused-ends, accepted-ends}
+use Rattle.answers.proofs.Endings.{accepted-long, accepted-rows, accepted-tables-sound, accepted-ends}
 
 -- ---- a process
 
@@ -65,9 +65,6 @@ module _ (l : Lent) (new : NewProcess) (n : ℕ) (r : n ≡ refusal_on (add_proc
   abbrev Ends : Answer → Lent → Type 0
   Ends a m = (m, a) ≡ step_on (add_process new) l
 
-  pub process-refused : (n ≡ 0 → ⊥) → Ends (Refused n) l
-  process-refused = refused-ends (add_process new) l n r
-
   module _ (ps' ts' : List ℕ) (given : SigSet) (g : given ≡ maskable new.mask)
       (p : processes_of ps' ≡ fill is_free_process (added_process new) (processes_of l.processes))
       (t : threads_of ts' ≡ fill is_free_thread (thread_of new.thread new.id given) (threads_of l.threads)) where
@@ -92,10 +89,6 @@ module _ (l : Lent) (new : NewProcess) (n : ℕ) (r : n ≡ refusal_on (add_proc
 -- ---- a thread
 
 module _ (l : Lent) (creator id n : ℕ) (r : n ≡ refusal_on (add_thread creator id) l) where
-  pub thread-refused : (n ≡ 0 → ⊥)
-      → (l, Refused n) ≡ step_on (add_thread creator id) l
-  thread-refused = refused-ends (add_thread creator id) l n r
-
   module _ (z : n ≡ 0) where
     off : All Off (rows (view_of l) (add_thread creator id))
     off = accepted-rows (add_thread creator id) l (sym r ∙ z)

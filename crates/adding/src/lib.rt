@@ -2,32 +2,38 @@
 #![tactic(auto)]
 
 ghost use Rattle.std.specs.Prelude.{◌≡◌};
+ghost use Rattle.types.specs.Answers.{refused_by};
 ghost use Rattle.rules.specs.Types as call;
 ghost use Rattle.sound.specs.Lent.{lent};
 ghost use Rattle.answers.specs.Step.{refusal_on, stepped};
 
-use limits::{EAGAIN, EEXIST, EFAULT, EINVAL, ESRCH};
 use sigset::SigSet;
-use types::{Answer, NewProcess, Reply};
+use types::{Answer, Errno, NewProcess, Reply};
 
-fn check_add_process(ps: &[u64], ts: &[u64], tb: &[u8], pb: &[u8], new: NewProcess) -> u32
-    ensures { result ≡ refusal_on (call.add_process new) (lent ps.now ts.now tb.now pb.now) }
+fn check_add_process(
+    ps: &[u64],
+    ts: &[u64],
+    tb: &[u8],
+    pb: &[u8],
+    new: NewProcess,
+) -> Result<(), Errno>
+    ensures { refused_by result ≡ refusal_on (call.add_process new) (lent ps.now ts.now tb.now pb.now) }
 {
     let id = new.id;
     let thread = new.thread;
     if !sound::sound(ps, ts, tb, pb) {
-        return EFAULT;
+        return Err(Errno::EFAULT);
     }
     if !decide::is_id(id as u64) | !decide::is_id(thread as u64) {
-        return EINVAL;
+        return Err(Errno::EINVAL);
     }
     if view::is_process(ps, id) | view::is_thread(ts, thread) {
-        return EEXIST;
+        return Err(Errno::EEXIST);
     }
     if !view::has_process_place(ps) | !view::has_thread_place(ts) {
-        return EAGAIN;
+        return Err(Errno::EAGAIN);
     }
-    0
+    Ok(())
 }
 
 // Adds a process, running, with its first thread.
@@ -41,35 +47,39 @@ pub fn add_process(
     ensures { stepped (call.add_process new) result (lent ps.old ts.old tb.old pb.old)
         (lent ps.new ts.new tb.new pb.new) }
 {
-    let n = check_add_process(ps, ts, tb, pb, new);
-    if n != 0 {
-        return Answer::Refused(n);
-    }
+    check_add_process(ps, ts, tb, pb, new)?;
     effects::new_process(ps, new);
     let mask = new.mask;
     effects::new_thread(ts, new.thread, new.id, SigSet::maskable(mask));
-    Answer::Accepted(Reply::Done)
+    Ok(Reply::Done)
 }
 
-fn check_add_thread(ps: &[u64], ts: &[u64], tb: &[u8], pb: &[u8], creator: u32, id: u32) -> u32
-    ensures { result ≡ refusal_on (call.add_thread creator id) (lent ps.now ts.now tb.now pb.now) }
+fn check_add_thread(
+    ps: &[u64],
+    ts: &[u64],
+    tb: &[u8],
+    pb: &[u8],
+    creator: u32,
+    id: u32,
+) -> Result<(), Errno>
+    ensures { refused_by result ≡ refusal_on (call.add_thread creator id) (lent ps.now ts.now tb.now pb.now) }
 {
     if !sound::sound(ps, ts, tb, pb) {
-        return EFAULT;
+        return Err(Errno::EFAULT);
     }
     if !decide::is_id(id as u64) {
-        return EINVAL;
+        return Err(Errno::EINVAL);
     }
     if !view::is_thread(ts, creator) {
-        return ESRCH;
+        return Err(Errno::ESRCH);
     }
     if view::is_thread(ts, id) {
-        return EEXIST;
+        return Err(Errno::EEXIST);
     }
     if !view::has_thread_place(ts) {
-        return EAGAIN;
+        return Err(Errno::EAGAIN);
     }
-    0
+    Ok(())
 }
 
 // Adds a thread to its creator's process, with its creator's mask.
@@ -84,12 +94,9 @@ pub fn add_thread(
     ensures { stepped (call.add_thread creator id) result (lent ps.old ts.old tb.old pb.old)
         (lent ps.new ts.new tb.new pb.new) }
 {
-    let n = check_add_thread(ps, ts, tb, pb, creator, id);
-    if n != 0 {
-        return Answer::Refused(n);
-    }
+    check_add_thread(ps, ts, tb, pb, creator, id)?;
     let process = view::process_of(ts, creator);
     let mask = view::mask_of(ts, creator);
     effects::new_thread(ts, id, process, mask);
-    Answer::Accepted(Reply::Done)
+    Ok(Reply::Done)
 }

@@ -6,8 +6,8 @@ ghost use Rattle.rules.specs.Types as call;
 ghost use Rattle.sound.specs.Lent.{lengths_are, lent};
 ghost use Rattle.answers.specs.Step.{stepped};
 
-use limits::{BUFFER_BYTES, EFAULT, PROCESS_TABLE, THREAD_TABLE};
-use types::{Answer, Reply};
+use limits::{BUFFER_BYTES, PROCESS_TABLE, THREAD_TABLE};
+use types::{Answer, Errno, Reply};
 
 pub fn lengths_are(ps: &[u64], ts: &[u64], tb: &[u8], pb: &[u8]) -> bool
     ensures { result ≡ lengths_are (lent ps.now ts.now tb.now pb.now) }
@@ -22,8 +22,8 @@ pub fn clear(ps: &mut [u64], ts: &mut [u64], tb: &mut [u8], pb: &mut [u8]) -> An
         (lent ps.new ts.new tb.new pb.new) }
 {
     if !lengths_are(ps, ts, tb, pb) {
-        return Answer::Refused(EFAULT);
+        return Err(Errno::EFAULT);
     }
     effects::forget(ps, ts, tb, pb);
-    Answer::Accepted(Reply::Done)
+    Ok(Reply::Done)
 }

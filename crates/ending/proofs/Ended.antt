@@ -22,9 +22,9 @@ use Rattle.effects.specs.Changes.{Ready, Changed}
 use Rattle.effects.proofs.Makes.{ready-as, made_as}
 use Rattle.view.specs.Named.{thread_named}
 use Rattle.types.specs.declared.Reply.TheVariants.{Done}
-use Rattle.types.specs.Answers.{Refused, Accepted}
+use Rattle.types.specs.Answers.{Accepted}
 use Rattle.answers.specs.Step.{refusal_on, rows_on, step_on}
-use Rattle.answers.proofs.Endings.{rows-given, refused-ends, accepted-ends}
+use Rattle.answers.proofs.Endings.{rows-given, accepted-ends}
 use Rattle.answers.proofs.Rows.{live-process, live-thread}
 use Rattle.view.proofs.Live.{owner-is}
 use Rattle.ending.specs.Others.{is_other}
@@ -33,13 +33,9 @@ use Rattle.ending.proofs.Others.{others-are}
 -- ---- a process
 
 module _ (l : Lent) (id n : ℕ) (r : n ≡ rows_on (esrch (no_process_live (view_of l) id) ∷ []) l) where
-  process-number : n ≡ refusal_on (end_process id) l
+  pub process-number : n ≡ refusal_on (end_process id) l
   unfolding rows is_clear
   process-number = r ∙ sym (rows-given (end_process id) l refl)
-
-  pub process-kept : (n ≡ 0 → ⊥)
-      → (l, Refused n) ≡ step_on (end_process id) l
-  process-kept = refused-ends (end_process id) l n process-number
 
   module _ (z : n ≡ 0) where
     pub process-can-end : Ready (remove_process id ∷ []) l
@@ -102,13 +98,9 @@ module _ (l : Lent) (e : sound_tables l ≡ true) (thread : ℕ) (live : live_th
     process-removed k d = made_as d (removal false k)
 
 module _ (l : Lent) (id n : ℕ) (r : n ≡ rows_on (esrch (no_thread_live (view_of l) id) ∷ []) l) where
-  thread-number : n ≡ refusal_on (end_thread id) l
+  pub thread-number : n ≡ refusal_on (end_thread id) l
   unfolding rows is_clear
   thread-number = r ∙ sym (rows-given (end_thread id) l refl)
-
-  pub thread-kept : (n ≡ 0 → ⊥)
-      → (l, Refused n) ≡ step_on (end_thread id) l
-  thread-kept = refused-ends (end_thread id) l n thread-number
 
   module _ (z : n ≡ 0) where
     pub thread-can-end : WithThread id l

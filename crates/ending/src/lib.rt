@@ -22,12 +22,9 @@ pub fn end_process(ps: &mut [u64], ts: &mut [u64], tb: &mut [u8], pb: &mut [u8],
     ensures { stepped (call.end_process id) result (lent ps.old ts.old tb.old pb.old)
         (lent ps.new ts.new tb.new pb.new) }
 {
-    let n = view::check_process(ps, ts, tb, pb, id);
-    if n != 0 {
-        return Answer::Refused(n);
-    }
+    view::check_process(ps, ts, tb, pb, id)?;
     effects::remove_process(ps, ts, tb, pb, id);
-    Answer::Accepted(Reply::Done)
+    Ok(Reply::Done)
 }
 
 // Is the thread in a place one of the process, and another one?
@@ -75,10 +72,7 @@ pub fn end_thread(ps: &mut [u64], ts: &mut [u64], tb: &mut [u8], pb: &mut [u8], 
     ensures { stepped (call.end_thread id) result (lent ps.old ts.old tb.old pb.old)
         (lent ps.new ts.new tb.new pb.new) }
 {
-    let n = view::check_thread(ps, ts, tb, pb, id);
-    if n != 0 {
-        return Answer::Refused(n);
-    }
+    view::check_thread(ps, ts, tb, pb, id)?;
     remove(ps, ts, tb, pb, id);
-    Answer::Accepted(Reply::Done)
+    Ok(Reply::Done)
 }

@@ -1,38 +1,43 @@
 -- `add_thread` meets its contract: refused, or the thread is in its place. Assumes nothing.
+use mathlib.Core.Path.{ap}
+use Rattle.types.specs.Answers.{refused_by}
+use Rattle.rules.specs.Types.{add_thread}
+use Rattle.answers.proofs.Endings.{turned-away}
 use native.Mathlib.Omega.{arith}
 use Rattle.siginfo.proofs.Numbers.{bytes-each}
 use Rattle.sound.specs.Lent.{lent}
-use Rattle.adding.proofs.Added.{thread-refused, creator-owned, creator-found, thread-room, thread-added}
+use Rattle.adding.proofs.Added.{creator-owned, creator-found, thread-room, thread-added}
 use borrow.Author.Rules.{rules}
 use Rattle.adding.proofs.add_thread.Goals as goal
 
-pub returns-then-n-ne0 : goal.returns-then-n-ne0
-returns-then-n-ne0 c =
-    thread-refused (lent c.args.ps.now c.args.ts.now c.args.tb.now c.args.pb.now)
-    c.args.creator c.args.id c.check_add_thread-n.result c.check_add_thread-n.ensures c.if-n-ne0.true
+pub returns-in_err-check_add_thread : goal.returns-in_err-check_add_thread
+returns-in_err-check_add_thread c =
+    let l = lent c.args.ps.now c.args.ts.now c.args.tb.now c.args.pb.now in
+    turned-away (add_thread c.args.creator c.args.id) l c.check_add_thread.result c.check_add_thread.ensures c.from_residual.result
+    c.in_err-check_add_thread.field-0.0 c.in_err-check_add_thread.was c.from_residual.ensures.1
 
 pub process_of-process-requires : goal.process_of-process-requires
 process_of-process-requires c =
     let both = creator-owned (lent c.args.ps.now c.args.ts.now c.args.tb.now c.args.pb.now)
-    c.args.creator c.args.id c.check_add_thread-n.result c.check_add_thread-n.ensures c.if-n-ne0.false in
+    c.args.creator c.args.id (refused_by c.check_add_thread.result) c.check_add_thread.ensures (ap refused_by c.in_ok-check_add_thread.was) in
     record { ts_len = both.0; ts_value = both.1.0; thread_value = both.1.1 }
 
 pub mask_of-mask-requires : goal.mask_of-mask-requires
 mask_of-mask-requires c =
     let both = creator-found (lent c.args.ps.now c.args.ts.now c.args.tb.now c.args.pb.now)
-    c.args.creator c.args.id c.check_add_thread-n.result c.check_add_thread-n.ensures c.if-n-ne0.false in
+    c.args.creator c.args.id (refused_by c.check_add_thread.result) c.check_add_thread.ensures (ap refused_by c.in_ok-check_add_thread.was) in
     record { ts_len = both.0; ts_value = both.1 }
 
 pub new_thread-requires : goal.new_thread-requires
 new_thread-requires c =
     let both = thread-room (lent c.args.ps.now c.args.ts.now c.args.tb.now c.args.pb.now)
-    c.args.creator c.args.id c.check_add_thread-n.result c.check_add_thread-n.ensures c.if-n-ne0.false in
+    c.args.creator c.args.id (refused_by c.check_add_thread.result) c.check_add_thread.ensures (ap refused_by c.in_ok-check_add_thread.was) in
     record { ts_len = both.0; ts_value = both.1 }
 
 pub returns : goal.returns
 returns c =
     thread-added (lent c.args.ps.now c.args.ts.now c.args.tb.now c.args.pb.now)
-    c.args.creator c.args.id c.check_add_thread-n.result c.check_add_thread-n.ensures c.if-n-ne0.false
+    c.args.creator c.args.id (refused_by c.check_add_thread.result) c.check_add_thread.ensures (ap refused_by c.in_ok-check_add_thread.was)
     c.new_thread.new.ts c.process_of-process.result c.mask_of-mask.result c.process_of-process.ensures
     c.mask_of-mask.ensures
     c.new_thread.ensures (search rules)
