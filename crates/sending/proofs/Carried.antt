@@ -1,7 +1,9 @@
 -- The changes of a send, one after the other, as code makes them. Assumes nothing.
 use Prim.Native.Nat.{ℕ}
 use mathlib.Core.Path.{◌≡◌, refl, sym, ap, ap₂, subst, ◌∙◌}
-use mathlib.Core.Bool.{Bool, true, false, ◌||◌, cond}
+use mathlib.Core.Bool.{Bool, true, false, ◌||◌, cond, true≢false}
+use Rattle.std.specs.Prelude.{Result, Ok, Err, IsErrAnd, Option, Some, None, is_some, unwrap_or}
+use Rattle.std.proofs.lemmas.Result.{err_from_is_err_and}
 use mathlib.Core.List.{List, [], ◌∷◌, ◌++◌}
 use lib.Dec.{eqb}
 use borrow.Author.Tests.{eqb-true}
@@ -10,6 +12,8 @@ use Rattle.limits.specs.Limits.{SIGCONT, SIGSTOP}
 use Rattle.lists.proofs.Bools.{split, or-fst-false, or-snd-false, cond-true, cond-false}
 use Rattle.sigset.specs.declared.SigSet.{SigSet}
 use Rattle.types.specs.declared.Siginfo.{Siginfo}
+use Rattle.types.specs.declared.Errno.{Errno}
+use Rattle.types.specs.Answers.{number, refused_by}
 use Rattle.rules.specs.Signals.{stop_signal}
 use Rattle.rules.specs.View.{View, Change, remove_process, set_stopped, set_mark, append, discard, target_queue}
 use Rattle.rules.specs.View.{queue_of}
@@ -22,11 +26,10 @@ use Rattle.effects.specs.Changes.{Ready}
 use Rattle.effects.proofs.Makes.{ready-part}
 use Rattle.sending.specs.Generations.{generation_of}
 use Rattle.sending.specs.JobControl.{controls, discarded_by}
-use Rattle.sending.specs.Decisions.{send_call, Decided}
+use Rattle.sending.specs.Decisions.{send_call, value_of, call_of, Decided}
 use Rattle.sending.specs.declared.Generation as declared
 use Rattle.sending.specs.declared.Generation.TheVariants as cases
-use Rattle.sending.specs.declared.Decision as decided
-use Rattle.sending.specs.declared.Decision.TheVariants as decisions
+use Rattle.sending.specs.declared.Request.{Request}
 
 -- ---- job control, by the signal
 
@@ -126,16 +129,30 @@ module _ (v : View) (by to t s value : ℕ) where
   send-answers true f e = ap (λ x. Sent (send_answer x)) e
   send-answers false f e = ap (λ x. Sent (send_answer x)) e
 
-module _ (l : Lent) (queued : Bool) (by to t s value : ℕ) (d : decided.Decision)
-    (h : Decided l queued by to t s value d) where
-  pub when-refused : (n : ℕ) → d ≡ decisions.Refused n
-      → (n ≡ refusal_on (send_call queued by to t s value) l) × (n ≡ 0 → ⊥)
-  unfolding Decided
-  when-refused n e = subst (Decided l queued by to t s value) e h
+-- a plain send has no value
+pub plain-nought : (o : Option ℕ) → is_some o ≡ false → unwrap_or o 0 ≡ 0
+plain-nought None h = refl
+plain-nought (Some v) h = absurd (true≢false h)
 
-  pub when-allowed : (f : declared.Generation) (r : Siginfo) → d ≡ decisions.Allowed f r
-      → (refusal_on (send_call queued by to t s value) l ≡ 0)
-      × ((generation_of f ≡ generation (view_of l) queued (target_queue to t) s)
-      × (r ≡ info_of (view_of l) by to t s value))
+module _ (l : Lent) (x : Request) where
+  -- `?` hands on what refuses a plain send
+  pub refused-first : (z : Result (declared.Generation × Siginfo) Errno) (e : Errno) → IsErrAnd z (λ d. d ≡ e)
+      → number e ≡ refusal_on (call_of x) l → Decided l x z
   unfolding Decided
-  when-allowed f r e = subst (Decided l queued by to t s value) e h
+  refused-first z e g h =
+      let p = err_from_is_err_and z g in
+      subst (Decided l x) (sym (p.1 ∙ ap Err p.2)) h
+
+  pub decided-number : (z : Result (declared.Generation × Siginfo) Errno) → Decided l x z
+      → refused_by z ≡ refusal_on (call_of x) l
+  unfolding Decided
+  decided-number (Err e) h = h
+  decided-number (Ok (f, r)) h = sym h.0
+
+  pub when-allowed : (z : Result (declared.Generation × Siginfo) Errno) → Decided l x z
+      → (y : declared.Generation × Siginfo) → z ≡ Ok y
+      → (refusal_on (call_of x) l ≡ 0)
+      × ((generation_of y.0 ≡ generation (view_of l) (is_some x.value) (target_queue x.to x.thread) x.signal)
+      × (y.1 ≡ info_of (view_of l) x.by x.to x.thread x.signal (value_of x)))
+  unfolding Decided
+  when-allowed z h (f, r) e = subst (Decided l x) e h

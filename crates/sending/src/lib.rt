@@ -1,10 +1,11 @@
 // Sends: kill, without a value, and queue, with one.
 #![tactic(auto)]
 
-ghost use Rattle.std.specs.Prelude.{◌≡◌, true, false, ◌&&◌, leb, ◌≤◌};
+ghost use Rattle.std.specs.Prelude.{◌≡◌, true, ◌&&◌, leb, ◌≤◌, is_some};
 ghost use Rattle.limits.specs.Limits.{signals, record_limit};
 ghost use Rattle.sigset.specs.Set.{set_of};
 ghost use Rattle.rules.specs.Signals.{stop_signal};
+ghost use Rattle.types.specs.Answers.{refused_by};
 ghost use Rattle.rules.specs.Types as call;
 ghost use Rattle.rules.specs.View.{target_queue};
 ghost use Rattle.rules.specs.Sending.{absorbs, generation, info_of, job_control, send_changes, send_answer};
@@ -15,14 +16,13 @@ ghost use Rattle.effects.specs.Changes.{Ready, Changed};
 ghost use Rattle.answers.specs.Step.{refusal_on, stepped};
 ghost use Rattle.sending.specs.Generations.{generation_of};
 ghost use Rattle.sending.specs.JobControl.{controls, discarded_by};
-ghost use Rattle.sending.specs.Decisions.{send_call, Decided};
+ghost use Rattle.sending.specs.Decisions.{value_of, call_of, Decided};
 
 use limits::{
-    EAGAIN, EFAULT, EINVAL, EPERM, ESRCH, RECORD_LIMIT, SI_QUEUE, SIGCONT, SIGKILL, SIGNALS,
-    SIGSTOP, SIGTSTP, SIGTTIN, SIGTTOU,
+    RECORD_LIMIT, SI_QUEUE, SIGCONT, SIGKILL, SIGNALS, SIGSTOP, SIGTSTP, SIGTTIN, SIGTTOU,
 };
 use sigset::SigSet;
-use types::{Answer, Reply, Sent, Siginfo};
+use types::{Answer, Errno, Reply, Sent, Siginfo};
 
 // What the generation of a signal comes to.
 #[derive(Clone, Copy)]
@@ -36,96 +36,72 @@ enum Generation {
     Keeping,
 }
 
-// A send is refused with an error number, or allowed, with what its generation comes to and its record.
+// What is sent: from a process to a process or, where it is not 0, to a thread of it. A plain one has no value.
 #[derive(Clone, Copy)]
-enum Decision {
-    Refused(u32),
-    Allowed(Generation, Siginfo),
+struct Request {
+    by: u32,
+    to: u32,
+    thread: u32,
+    signal: u32,
+    value: Option<u64>,
 }
 
 // ---- what is decided before anything changes
 
 // Is the send absorbed: a standard signal that is pending in the queue, or a plain send whose mark is set there?
-fn is_absorbed(
-    ps: &[u64],
-    ts: &[u64],
-    tb: &[u8],
-    pb: &[u8],
-    queued: bool,
-    process: u32,
-    thread: u32,
-    signal: u32,
-) -> bool
-    requires with_queue { WithQueue (target_queue process thread) (lent ps.now ts.now tb.now pb.now) }
-    requires le_signal { (1 ≤ signal) × (signal ≤ signals) }
-    ensures { result ≡ absorbs (view_of (lent ps.now ts.now tb.now pb.now)) queued (target_queue process thread)
-        signal }
+fn is_absorbed(ps: &[u64], ts: &[u64], tb: &[u8], pb: &[u8], s: Request) -> bool
+    requires with_queue { WithQueue (target_queue s.to s.thread) (lent ps.now ts.now tb.now pb.now) }
+    requires le_signal { (1 ≤ s.signal) × (s.signal ≤ signals) }
+    ensures { result ≡ absorbs (view_of (lent ps.now ts.now tb.now pb.now)) (is_some s.value)
+        (target_queue s.to s.thread) s.signal }
 {
-    let pending = view::pending_of(ps, ts, tb, pb, process, thread);
-    let marks = view::marks_of(ps, ts, tb, pb, process, thread);
-    let again = decide::is_standard(signal) & SigSet::has(pending, signal);
-    again | (!queued & SigSet::has(marks, signal))
+    let pending = view::pending_of(ps, ts, tb, pb, s.to, s.thread);
+    let marks = view::marks_of(ps, ts, tb, pb, s.to, s.thread);
+    let again = decide::is_standard(s.signal) & SigSet::has(pending, s.signal);
+    again | (s.value.is_none() & SigSet::has(marks, s.signal))
 }
 
-fn generation_of(
-    ps: &[u64],
-    ts: &[u64],
-    tb: &[u8],
-    pb: &[u8],
-    queued: bool,
-    process: u32,
-    thread: u32,
-    signal: u32,
-) -> Generation
-    requires with_queue { WithQueue (target_queue process thread) (lent ps.now ts.now tb.now pb.now) }
-    requires signal_le_signals { signal ≤ signals }
-    ensures { generation_of result
-        ≡ generation (view_of (lent ps.now ts.now tb.now pb.now)) queued (target_queue process thread) signal }
+fn generation_of(ps: &[u64], ts: &[u64], tb: &[u8], pb: &[u8], s: Request) -> Generation
+    requires with_queue { WithQueue (target_queue s.to s.thread) (lent ps.now ts.now tb.now pb.now) }
+    requires signal_le_signals { s.signal ≤ signals }
+    ensures { generation_of result ≡ generation (view_of (lent ps.now ts.now tb.now pb.now)) (is_some s.value)
+        (target_queue s.to s.thread) s.signal }
 {
-    if signal == 0 {
+    if s.signal == 0 {
         return Generation::Testing;
     }
-    if signal == SIGKILL {
+    if s.signal == SIGKILL {
         return Generation::Killing;
     }
-    if signal == SIGSTOP {
+    if s.signal == SIGSTOP {
         return Generation::Stopping;
     }
-    if decide::is_ignored(view::action_of(ps, process, signal), signal) {
+    if decide::is_ignored(view::action_of(ps, s.to, s.signal), s.signal) {
         return Generation::Dropping;
     }
-    if is_absorbed(ps, ts, tb, pb, queued, process, thread, signal) {
+    if is_absorbed(ps, ts, tb, pb, s) {
         return Generation::Absorbing;
     }
-    if queued {
+    if s.value.is_some() {
         return Generation::Keeping;
     }
     Generation::Marking
 }
 
-// The record of a queued send.
-fn info(
-    ps: &[u64],
-    ts: &[u64],
-    tb: &[u8],
-    pb: &[u8],
-    by: u32,
-    to: u32,
-    thread: u32,
-    signal: u32,
-    value: u64,
-) -> Siginfo
-    requires { WithProcess by (lent ps.now ts.now tb.now pb.now) }
-    ensures { result ≡ info_of (view_of (lent ps.now ts.now tb.now pb.now)) by to thread signal value }
+// The record of a send; a plain one keeps none.
+fn info(ps: &[u64], ts: &[u64], tb: &[u8], pb: &[u8], s: Request) -> Siginfo
+    requires { WithProcess s.by (lent ps.now ts.now tb.now pb.now) }
+    ensures { result ≡ info_of (view_of (lent ps.now ts.now tb.now pb.now)) s.by s.to s.thread s.signal
+        (value_of s) }
 {
     Siginfo {
-        process: to,
-        thread: thread,
-        signal: signal,
+        process: s.to,
+        thread: s.thread,
+        signal: s.signal,
         code: SI_QUEUE,
-        sender: by,
-        uid: view::real_of(ps, by),
-        value: value,
+        sender: s.by,
+        uid: view::real_of(ps, s.by),
+        value: s.value.unwrap_or(0),
     }
 }
 
@@ -233,32 +209,24 @@ fn is_bad_target(ps: &[u64], ts: &[u64], tb: &[u8], pb: &[u8], to: u32, thread: 
     view::process_of(ts, thread) != to
 }
 
-// A queued send is refused for all of this too.
-fn check_kill(
-    ps: &[u64],
-    ts: &[u64],
-    tb: &[u8],
-    pb: &[u8],
-    by: u32,
-    to: u32,
-    thread: u32,
-    signal: u32,
-) -> u32
-    ensures { result ≡ refusal_on (call.kill by to thread signal) (lent ps.now ts.now tb.now pb.now) }
+// What refuses a plain send; a queued one is refused for all of this too.
+fn check_kill(ps: &[u64], ts: &[u64], tb: &[u8], pb: &[u8], s: Request) -> Result<(), Errno>
+    ensures { refused_by result
+        ≡ refusal_on (call.kill s.by s.to s.thread s.signal) (lent ps.now ts.now tb.now pb.now) }
 {
     if !sound::sound(ps, ts, tb, pb) {
-        return EFAULT;
+        return Err(Errno::EFAULT);
     }
-    if SIGNALS < signal {
-        return EINVAL;
+    if SIGNALS < s.signal {
+        return Err(Errno::EINVAL);
     }
-    if !view::is_process(ps, by) | is_bad_target(ps, ts, tb, pb, to, thread) {
-        return ESRCH;
+    if !view::is_process(ps, s.by) | is_bad_target(ps, ts, tb, pb, s.to, s.thread) {
+        return Err(Errno::ESRCH);
     }
-    if !view::may_signal(ps, by, to, signal) {
-        return EPERM;
+    if !view::may_signal(ps, s.by, s.to, s.signal) {
+        return Err(Errno::EPERM);
     }
-    0
+    Ok(())
 }
 
 // Is the send kept, and has the process all the records that it may have? The buffers are counted
@@ -274,59 +242,33 @@ fn has_no_room(ps: &[u64], ts: &[u64], tb: &[u8], pb: &[u8], f: Generation, to: 
     }
 }
 
-// All is decided before anything changes.
+// All is decided before anything changes: what the generation comes to, and the record.
 fn judge(
     ps: &[u64],
     ts: &[u64],
     tb: &[u8],
     pb: &[u8],
-    queued: bool,
-    by: u32,
-    to: u32,
-    thread: u32,
-    signal: u32,
-    value: u64,
-) -> Decision
-    ensures { Decided (lent ps.now ts.now tb.now pb.now) queued by to thread signal value result }
+    s: Request,
+) -> Result<(Generation, Siginfo), Errno>
+    ensures { Decided (lent ps.now ts.now tb.now pb.now) s result }
 {
-    let n = check_kill(ps, ts, tb, pb, by, to, thread, signal);
-    if n != 0 {
-        return Decision::Refused(n);
+    check_kill(ps, ts, tb, pb, s)?;
+    let f = generation_of(ps, ts, tb, pb, s);
+    if has_no_room(ps, ts, tb, pb, f, s.to) {
+        return Err(Errno::EAGAIN);
     }
-    let f = generation_of(ps, ts, tb, pb, queued, to, thread, signal);
-    if has_no_room(ps, ts, tb, pb, f, to) {
-        return Decision::Refused(EAGAIN);
-    }
-    Decision::Allowed(f, info(ps, ts, tb, pb, by, to, thread, signal, value))
+    Ok((f, info(ps, ts, tb, pb, s)))
 }
 
 // ---- the calls
 
-// One send, plain or queued; a plain one has no value.
-fn send(
-    ps: &mut [u64],
-    ts: &mut [u64],
-    tb: &mut [u8],
-    pb: &mut [u8],
-    queued: bool,
-    by: u32,
-    to: u32,
-    thread: u32,
-    signal: u32,
-    value: u64,
-) -> Answer
-    requires { queued ≡ false → value ≡ 0 }
-    ensures { stepped (send_call queued by to thread signal value) result
+fn send(ps: &mut [u64], ts: &mut [u64], tb: &mut [u8], pb: &mut [u8], s: Request) -> Answer
+    ensures { stepped (call_of s) result
         (lent ps.old ts.old tb.old pb.old) (lent ps.new ts.new tb.new pb.new) }
 {
-    let decision = judge(ps, ts, tb, pb, queued, by, to, thread, signal, value);
-    match decision {
-        Decision::Refused(n) => Answer::Refused(n),
-        Decision::Allowed(f, r) => {
-            generate(ps, ts, tb, pb, f, r);
-            Answer::Accepted(Reply::Sent(sent(f)))
-        }
-    }
+    let (f, r) = judge(ps, ts, tb, pb, s)?;
+    generate(ps, ts, tb, pb, f, r);
+    Ok(Reply::Sent(sent(f)))
 }
 
 // Sends a signal without a value, to a process or, where it is not 0, to one of its threads.
@@ -343,7 +285,14 @@ pub fn kill(
     ensures { stepped (call.kill by to thread signal) result (lent ps.old ts.old tb.old pb.old)
         (lent ps.new ts.new tb.new pb.new) }
 {
-    send(ps, ts, tb, pb, false, by, to, thread, signal, 0)
+    let s = Request {
+        by,
+        to,
+        thread,
+        signal,
+        value: None,
+    };
+    send(ps, ts, tb, pb, s)
 }
 
 // Sends a signal with a value.
@@ -361,5 +310,12 @@ pub fn sigqueue(
     ensures { stepped (call.sigqueue by to thread signal value) result
         (lent ps.old ts.old tb.old pb.old) (lent ps.new ts.new tb.new pb.new) }
 {
-    send(ps, ts, tb, pb, true, by, to, thread, signal, value)
+    let s = Request {
+        by,
+        to,
+        thread,
+        signal,
+        value: Some(value),
+    };
+    send(ps, ts, tb, pb, s)
 }

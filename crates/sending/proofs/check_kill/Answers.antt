@@ -15,15 +15,15 @@ use Rattle.sending.proofs.check_kill.Goals as goal
 
 pub returns-then-not-sound : goal.returns-then-not-sound
 returns-then-not-sound c =
-    kill-fault (lent c.args.ps.now c.args.ts.now c.args.tb.now c.args.pb.now) c.args.by c.args.to
-    c.args.thread c.args.signal
+    kill-fault (lent c.args.ps.now c.args.ts.now c.args.tb.now c.args.pb.now) c.args.s.by c.args.s.to
+    c.args.s.thread c.args.s.signal
     (sym c.sound.ensures ∙ c.if-not-sound.true)
 
-pub returns-then-signal-gt-SIGNALS : goal.returns-then-signal-gt-SIGNALS
-returns-then-signal-gt-SIGNALS c =
-    kill-over (lent c.args.ps.now c.args.ts.now c.args.tb.now c.args.pb.now) c.args.by c.args.to
-    c.args.thread c.args.signal
-    (sym c.sound.ensures ∙ c.if-not-sound.false) (omega (arith, c.if-signal-gt-SIGNALS.true))
+pub returns-then-s-gt-SIGNALS : goal.returns-then-s-gt-SIGNALS
+returns-then-s-gt-SIGNALS c =
+    kill-over (lent c.args.ps.now c.args.ts.now c.args.tb.now c.args.pb.now) c.args.s.by c.args.s.to
+    c.args.s.thread c.args.s.signal
+    (sym c.sound.ensures ∙ c.if-not-sound.false) (omega (arith, c.if-s-gt-SIGNALS.true))
 
 pub is_process-requires : goal.is_process-requires
 is_process-requires c =
@@ -39,12 +39,12 @@ returns-then-is_process-is_bad_target c =
     let i = c.is_process in
     let b = c.is_bad_target in
     let l = lent c.args.ps.now c.args.ts.now c.args.tb.now c.args.pb.now in
-    let by = c.args.by in
-    let to = c.args.to in
-    let t = c.args.thread in
-    let s = c.args.signal in
+    let by = c.args.s.by in
+    let to = c.args.s.to in
+    let t = c.args.s.thread in
+    let s = c.args.s.signal in
     kill-nobody l by to t s (sym c.sound.ensures ∙ c.if-not-sound.false)
-    (omega (arith, c.if-signal-gt-SIGNALS.false))
+    (omega (arith, c.if-s-gt-SIGNALS.false))
     (sym (nobody-read l by to t s i.result b.result i.ensures b.ensures) ∙ c.if-is_process-is_bad_target.true)
 
 pub may_signal-requires : goal.may_signal-requires
@@ -53,8 +53,8 @@ may_signal-requires c =
     let i = c.is_process in
     let b = c.is_bad_target in
     let l = lent c.args.ps.now c.args.ts.now c.args.tb.now c.args.pb.now in
-    let to = c.args.to in
-    let t = c.args.thread in
+    let to = c.args.s.to in
+    let t = c.args.s.thread in
     record {
       ps_len = processes-long l
           (sym c.sound.ensures ∙ c.if-not-sound.false);
@@ -70,12 +70,12 @@ returns-then-not-may_signal c =
     let b = c.is_bad_target in
     let m = c.may_signal in
     let l = lent c.args.ps.now c.args.ts.now c.args.tb.now c.args.pb.now in
-    let by = c.args.by in
-    let to = c.args.to in
-    let t = c.args.thread in
-    let s = c.args.signal in
+    let by = c.args.s.by in
+    let to = c.args.s.to in
+    let t = c.args.s.thread in
+    let s = c.args.s.signal in
     kill-barred l by to t s (sym c.sound.ensures ∙ c.if-not-sound.false)
-    (omega (arith, c.if-signal-gt-SIGNALS.false))
+    (omega (arith, c.if-s-gt-SIGNALS.false))
     (sym (nobody-read l by to t s i.result b.result i.ensures b.ensures) ∙ c.if-is_process-is_bad_target.false)
     (sym (may_read l by to t s m.result m.ensures) ∙ c.if-not-may_signal.true-raw)
 
@@ -85,11 +85,11 @@ returns c =
     let b = c.is_bad_target in
     let m = c.may_signal in
     let l = lent c.args.ps.now c.args.ts.now c.args.tb.now c.args.pb.now in
-    let by = c.args.by in
-    let to = c.args.to in
-    let t = c.args.thread in
-    let s = c.args.signal in
+    let by = c.args.s.by in
+    let to = c.args.s.to in
+    let t = c.args.s.thread in
+    let s = c.args.s.signal in
     kill-passes l by to t s (sym c.sound.ensures ∙ c.if-not-sound.false)
-    (omega (arith, c.if-signal-gt-SIGNALS.false))
+    (omega (arith, c.if-s-gt-SIGNALS.false))
     (sym (nobody-read l by to t s i.result b.result i.ensures b.ensures) ∙ c.if-is_process-is_bad_target.false)
     (sym (may_read l by to t s m.result m.ensures) ∙ c.if-not-may_signal.false-raw)

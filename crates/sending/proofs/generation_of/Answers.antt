@@ -1,4 +1,5 @@
 -- `generation_of` meets its contract, a return for each generation. Assumes nothing.
+use Rattle.std.specs.Prelude.{is_some}
 use mathlib.Core.Path.{sym, ◌∙◌}
 use native.Mathlib.Omega.{arith}
 use Rattle.rules.specs.View.{target_queue, live_process}
@@ -11,95 +12,95 @@ use Rattle.sending.proofs.Decided.{is-testing, is-killing, is-stopping, is-dropp
 use Rattle.sending.proofs.Decided.{is-marking, ignored-read}
 use Rattle.sending.proofs.generation_of.Goals as goal
 
-pub returns-then-signal-eq0 : goal.returns-then-signal-eq0
+pub returns-then-s-eq0 : goal.returns-then-s-eq0
 unfolding generation_of
-returns-then-signal-eq0 c =
+returns-then-s-eq0 c =
     let v = view_of (lent c.args.ps.now c.args.ts.now c.args.tb.now c.args.pb.now) in
-    let q = target_queue c.args.process c.args.thread in
-    is-testing v c.args.queued q c.args.signal c.if-signal-eq0.true
+    let q = target_queue c.args.s.to c.args.s.thread in
+    is-testing v (is_some c.args.s.value) q c.args.s.signal c.if-s-eq0.true
 
-pub returns-then-signal-eq-SIGKILL : goal.returns-then-signal-eq-SIGKILL
+pub returns-then-s-eq-SIGKILL : goal.returns-then-s-eq-SIGKILL
 unfolding generation_of
-returns-then-signal-eq-SIGKILL c =
+returns-then-s-eq-SIGKILL c =
     let v = view_of (lent c.args.ps.now c.args.ts.now c.args.tb.now c.args.pb.now) in
-    let q = target_queue c.args.process c.args.thread in
-    is-killing v c.args.queued q c.args.signal c.if-signal-eq0.false c.if-signal-eq-SIGKILL.true
+    let q = target_queue c.args.s.to c.args.s.thread in
+    is-killing v (is_some c.args.s.value) q c.args.s.signal c.if-s-eq0.false c.if-s-eq-SIGKILL.true
 
-pub returns-then-signal-eq-SIGSTOP : goal.returns-then-signal-eq-SIGSTOP
+pub returns-then-s-eq-SIGSTOP : goal.returns-then-s-eq-SIGSTOP
 unfolding generation_of
-returns-then-signal-eq-SIGSTOP c =
+returns-then-s-eq-SIGSTOP c =
     let v = view_of (lent c.args.ps.now c.args.ts.now c.args.tb.now c.args.pb.now) in
-    let q = target_queue c.args.process c.args.thread in
-    is-stopping v c.args.queued q c.args.signal c.if-signal-eq0.false c.if-signal-eq-SIGKILL.false
-    c.if-signal-eq-SIGSTOP.true
+    let q = target_queue c.args.s.to c.args.s.thread in
+    is-stopping v (is_some c.args.s.value) q c.args.s.signal c.if-s-eq0.false c.if-s-eq-SIGKILL.false
+    c.if-s-eq-SIGSTOP.true
 
 pub action_of-requires : goal.action_of-requires
 unfolding live_process view decoded
 action_of-requires c =
     let l = lent c.args.ps.now c.args.ts.now c.args.tb.now c.args.pb.now in
     let v = view_of l in
-    let p = c.args.process in
-    let t = c.args.thread in
+    let p = c.args.s.to in
+    let t = c.args.s.thread in
     record {
       ps_len = processes-long l c.requires.with_queue.sound;
       ps_value = target-process v p t (queue-target v p t c.requires.with_queue.live);
-      le_signal = (omega (arith, c.if-signal-eq0.false), c.requires.signal_le_signals);
+      le_signal = (omega (arith, c.if-s-eq0.false), c.requires.signal_le_signals);
     }
 
 pub returns-then-is_ignored : goal.returns-then-is_ignored
 unfolding generation_of
 returns-then-is_ignored c =
     let l = lent c.args.ps.now c.args.ts.now c.args.tb.now c.args.pb.now in
-    let p = c.args.process in
-    let s = c.args.signal in
+    let p = c.args.s.to in
+    let s = c.args.s.signal in
     let i =
     ignored-read l p s c.action_of.result c.is_ignored.result c.action_of.ensures
     c.is_ignored.ensures in
-    is-dropping (view_of l) c.args.queued (target_queue p c.args.thread) s
-    c.if-signal-eq0.false c.if-signal-eq-SIGKILL.false c.if-signal-eq-SIGSTOP.false (sym i ∙ c.if-is_ignored.true)
+    is-dropping (view_of l) (is_some c.args.s.value) (target_queue p c.args.s.thread) s
+    c.if-s-eq0.false c.if-s-eq-SIGKILL.false c.if-s-eq-SIGSTOP.false (sym i ∙ c.if-is_ignored.true)
 
 pub is_absorbed-requires : goal.is_absorbed-requires
 is_absorbed-requires c =
     record {
       with_queue = c.requires.with_queue;
-      le_signal = (omega (arith, c.if-signal-eq0.false), c.requires.signal_le_signals);
+      le_signal = (omega (arith, c.if-s-eq0.false), c.requires.signal_le_signals);
     }
 
 pub returns-then-is_absorbed : goal.returns-then-is_absorbed
 unfolding generation_of
 returns-then-is_absorbed c =
     let l = lent c.args.ps.now c.args.ts.now c.args.tb.now c.args.pb.now in
-    let p = c.args.process in
-    let s = c.args.signal in
+    let p = c.args.s.to in
+    let s = c.args.s.signal in
     let i =
     ignored-read l p s c.action_of.result c.is_ignored.result c.action_of.ensures
     c.is_ignored.ensures in
-    is-absorbing (view_of l) c.args.queued (target_queue p c.args.thread) s
-    c.if-signal-eq0.false c.if-signal-eq-SIGKILL.false c.if-signal-eq-SIGSTOP.false (sym i ∙ c.if-is_ignored.false)
+    is-absorbing (view_of l) (is_some c.args.s.value) (target_queue p c.args.s.thread) s
+    c.if-s-eq0.false c.if-s-eq-SIGKILL.false c.if-s-eq-SIGSTOP.false (sym i ∙ c.if-is_ignored.false)
     (sym c.is_absorbed.ensures ∙ c.if-is_absorbed.true)
 
-pub returns-then-queued : goal.returns-then-queued
+pub returns-then-is_some : goal.returns-then-is_some
 unfolding generation_of
-returns-then-queued c =
+returns-then-is_some c =
     let l = lent c.args.ps.now c.args.ts.now c.args.tb.now c.args.pb.now in
-    let p = c.args.process in
-    let s = c.args.signal in
+    let p = c.args.s.to in
+    let s = c.args.s.signal in
     let i =
     ignored-read l p s c.action_of.result c.is_ignored.result c.action_of.ensures
     c.is_ignored.ensures in
-    is-keeping (view_of l) c.args.queued (target_queue p c.args.thread) s
-    c.if-signal-eq0.false c.if-signal-eq-SIGKILL.false c.if-signal-eq-SIGSTOP.false (sym i ∙ c.if-is_ignored.false)
-    (sym c.is_absorbed.ensures ∙ c.if-is_absorbed.false) c.if-queued.true
+    is-keeping (view_of l) (is_some c.args.s.value) (target_queue p c.args.s.thread) s
+    c.if-s-eq0.false c.if-s-eq-SIGKILL.false c.if-s-eq-SIGSTOP.false (sym i ∙ c.if-is_ignored.false)
+    (sym c.is_absorbed.ensures ∙ c.if-is_absorbed.false) (sym c.is_some.ensures ∙ c.if-is_some.true)
 
 pub returns : goal.returns
 unfolding generation_of
 returns c =
     let l = lent c.args.ps.now c.args.ts.now c.args.tb.now c.args.pb.now in
-    let p = c.args.process in
-    let s = c.args.signal in
+    let p = c.args.s.to in
+    let s = c.args.s.signal in
     let i =
     ignored-read l p s c.action_of.result c.is_ignored.result c.action_of.ensures
     c.is_ignored.ensures in
-    is-marking (view_of l) c.args.queued (target_queue p c.args.thread) s
-    c.if-signal-eq0.false c.if-signal-eq-SIGKILL.false c.if-signal-eq-SIGSTOP.false (sym i ∙ c.if-is_ignored.false)
-    (sym c.is_absorbed.ensures ∙ c.if-is_absorbed.false) c.if-queued.false
+    is-marking (view_of l) (is_some c.args.s.value) (target_queue p c.args.s.thread) s
+    c.if-s-eq0.false c.if-s-eq-SIGKILL.false c.if-s-eq-SIGSTOP.false (sym i ∙ c.if-is_ignored.false)
+    (sym c.is_absorbed.ensures ∙ c.if-is_absorbed.false) (sym c.is_some.ensures ∙ c.if-is_some.false)

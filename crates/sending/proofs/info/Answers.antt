@@ -1,4 +1,5 @@
 -- `info` meets its contract. Assumes nothing.
+use Rattle.sending.specs.Decisions.{value_of}
 use Rattle.rules.specs.View.{live_process}
 use Rattle.rules.specs.Store.{view}
 use Rattle.sound.specs.Lent.{decoded, lent}
@@ -13,11 +14,12 @@ real_of-requires c =
     record {
       ps_len = processes-long l c.requires.sound;
       ps_value = c.requires.live;
-      process_value = sender-fits l c.requires.sound c.args.by;
+      process_value = sender-fits l c.requires.sound c.args.s.by;
     }
 
 pub returns : goal.returns
 returns c =
-    info-read (lent c.args.ps.now c.args.ts.now c.args.tb.now c.args.pb.now) c.args.by c.args.to
-    c.args.thread c.args.signal c.args.value
-    c.real_of.result c.real_of.ensures
+    rw c.unwrap_or.ensures
+    (info-read (lent c.args.ps.now c.args.ts.now c.args.tb.now c.args.pb.now) c.args.s.by c.args.s.to
+    c.args.s.thread c.args.s.signal (value_of c.args.s)
+    c.real_of.result c.real_of.ensures)
