@@ -1,14 +1,18 @@
 -- Laws of a search: the index of the first that passes, or the length. Assumes nothing.
 use Prim.Native.Nat.{ℕ, zero, suc, ◌≤◌, ◌<◌, zero-le, suc-le-suc}
 use mathlib.Core.Path.{◌≡◌, refl, sym, ap, subst, fun_ext, ◌∙◌}
-use mathlib.Core.Bool.{Bool, true, false}
+use mathlib.Core.Bool.{Bool, true, false, cond}
 use mathlib.Core.List.{List, [], ◌∷◌, map}
 use mathlib.Core.Option
 use native.Mathlib.Nat.{not-suc-le-zero, le_of_suc-le-suc}
+use native.Mathlib.Numerals.{one-add}
 use native.Mathlib.Omega.{arith}
 use borrow.Author.Tests.{lt-ltb, le-ltb}
 use lib.Dec.{ltb}
 use lib.ListN.{length, get_or}
+use Rattle.std.specs.Prelude.{Some, None, position}
+use Rattle.std.specs.List.{position_or_len}
+use Rattle.std.proofs.lemmas.List.Recursion.{is_position_or_len}
 use Rattle.lists.specs.Lists.{any, find, first}
 use Rattle.lists.proofs.Bools.{split, or-fst-false, or-snd-false}
 use Rattle.lists.proofs.Lists.{find-yes, find-no}
@@ -55,6 +59,35 @@ module _ {A : Type 0} (p : A → Bool) where
       split (any p xs)
       (λ e. lt-ltb (find p xs) (length xs) (find-any p xs e) ∙ sym e)
       (λ e. le-ltb (find p xs) (length xs) (omega (arith, find_absent xs e)) ∙ sym e)
+
+  -- ---- the search of std: the index of the first that passes, if something passes
+
+  find-len : (xs : List A) → find p xs ≡ position_or_len p xs
+  unfolding find
+  find-len xs = is_position_or_len (find p) p refl (λ x ys. ap (cond (p x) 0) (sym (one-add (find p ys)))) xs
+
+  pub position-is : (xs : List A) → position p xs ≡ cond (any p xs) (Some (find p xs)) None
+  position-is xs =
+      ap (λ n. cond (ltb n (length xs)) (Some n) None) (sym (find-len xs))
+      ∙ ap (λ b. cond b (Some (find p xs)) None) (find-within xs)
+
+  pub position-found : (xs : List A) → any p xs ≡ true → position p xs ≡ Some (find p xs)
+  position-found xs e = position-is xs ∙ ap (λ b. cond b (Some (find p xs)) None) e
+
+  position-absent : (xs : List A) → any p xs ≡ false → position p xs ≡ None
+  position-absent xs e = position-is xs ∙ ap (λ b. cond b (Some (find p xs)) None) e
+
+  pub any-some : (xs : List A) (i : ℕ) → position p xs ≡ Some i → any p xs ≡ true
+  any-some xs i h = split (any p xs) (λ e. e) (λ e. let n = position-absent xs e in cc)
+
+  pub find-some : (xs : List A) (i : ℕ) → position p xs ≡ Some i → find p xs ≡ i
+  find-some xs i h = let f = position-found xs (any-some xs i h) in cc
+
+  pub some-inside : (xs : List A) (i : ℕ) → position p xs ≡ Some i → i < length xs
+  some-inside xs i h = let l = find-any p xs (any-some xs i h) in omega (arith, find-some xs i h)
+
+  pub any-none : (xs : List A) → position p xs ≡ None → any p xs ≡ false
+  any-none xs h = split (any p xs) (λ e. let f = position-found xs e in cc) (λ e. e)
 
 module _ {A : Type 0} (p q : A → Bool) where
   pub find-alike : (xs : List A) → ((x : A) → p x ≡ q x) → find p xs ≡ find q xs
