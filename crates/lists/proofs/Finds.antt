@@ -10,7 +10,7 @@ use native.Mathlib.Omega.{arith}
 use borrow.Author.Tests.{lt-ltb, le-ltb}
 use lib.Dec.{ltb}
 use lib.ListN.{length, get_or, drop, length-map}
-use Rattle.std.specs.Prelude.{Some, None, position}
+use Rattle.std.specs.Prelude.{Some, None, is_some, position}
 use Rattle.std.specs.List.{position_or_len}
 use Rattle.std.proofs.lemmas.List.Recursion.{is_position_or_len}
 use Rattle.lists.specs.Lists.{any, find, first}
@@ -89,6 +89,12 @@ module _ {A : Type 0} (p : A → Bool) where
 
   pub any-none : (xs : List A) → position p xs ≡ None → any p xs ≡ false
   any-none xs h = split (any p xs) (λ e. let f = position-found xs e in cc) (λ e. e)
+
+  pub is-some : (xs : List A) → is_some (position p xs) ≡ any p xs
+  is-some xs =
+      split (any p xs)
+      (λ e. ap is_some (position-found xs e) ∙ sym e)
+      (λ e. ap is_some (position-absent xs e) ∙ sym e)
 
   -- the end of a search that has passed the first i
   pub position-here : (d : A) (xs : List A) (i : ℕ) → i < length xs → find p xs ≡ i + find p (drop i xs)
