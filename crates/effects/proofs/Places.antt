@@ -1,11 +1,9 @@
 -- A change of the one place that passes a test is a store there. Assumes nothing.
-use Prim.Native.Nat.{ℕ, ◌≤◌, ◌<◌}
+use Prim.Native.Nat.{ℕ, ◌≤◌}
 use mathlib.Core.Path.{◌≡◌, sym, ap, ◌∙◌}
 use mathlib.Core.Bool.{Bool, true, false, cond}
 use mathlib.Core.List.{List, map, map-id}
-use native.Mathlib.Omega.{arith}
 use lib.ListN.{set}
-use Rattle.limits.specs.Limits.{process_places, thread_places}
 use Rattle.lists.specs.Lists.{any, count, find, change, replace_first, All}
 use Rattle.lists.proofs.Bools.{cond-true, cond-false}
 use Rattle.lists.proofs.Lists.{All-imp, count_map}
@@ -21,7 +19,7 @@ use Rattle.rules.proofs.Marks.{place_where, where_below, where-passes}
 use Rattle.queue.specs.Queue.{slots_of}
 use Rattle.tables.specs.Tables.{processes_of, threads_of, held_processes, held_threads, process_at, thread_at}
 use Rattle.sound.specs.Lent.{Lent, decoded, view_of, sound_tables}
-use Rattle.sound.proofs.Facts.{one-process, one-thread, process-found, thread-found}
+use Rattle.sound.proofs.Facts.{one-process, one-thread}
 
 -- the marks change where the test passes
 abbrev pub marks_where : {A : Type 0} → (A → Bool) → (SigSet → SigSet) → List (Place A) → List (Place A)
@@ -86,15 +84,6 @@ module _ (l : Lent) where
   with_all p t r q = λ i. record { processes = p i; threads = t i; thread_buffer = r i; process_buffer = q i }
 
 -- ---- the place of a live process or thread in sound tables
-
-module _ (l : Lent) where
-  pub process-inside : (n place : ℕ) → live_process (view_of l) n ≡ true
-      → place ≡ find (is_process n) (held_processes l.processes) → place < process_places
-  process-inside n place live here = omega (arith, process-found l n live)
-
-  pub thread-inside : (n place : ℕ) → live_thread (view_of l) n ≡ true
-      → place ≡ find (is_thread n) (held_threads l.threads) → place < thread_places
-  thread-inside n place live here = omega (arith, thread-found l n live)
 
 module _ (l : Lent) (e : sound_tables l ≡ true) where
   module _ (n : ℕ) (live : live_process (view_of l) n ≡ true) where

@@ -2,7 +2,7 @@
 -- the store. Assumes nothing.
 use Prim.Native.Nat.{ℕ}
 use mathlib.Core.Path.{◌≡◌, refl, sym, ap, ap₂, subst, fun_ext, ◌∙◌}
-use mathlib.Core.Bool.{Bool, true, false, not, ◌&&◌, cond, and-true}
+use mathlib.Core.Bool.{Bool, true, false, not, ◌&&◌, and-true}
 use mathlib.Core.List.{List, map}
 use lib.Dec.{eqb}
 use lib.ListN.{set}
@@ -31,8 +31,7 @@ use Rattle.sound.specs.Lent.{Lent, lent, decoded, view_of, sound_tables}
 use Rattle.sound.proofs.Facts.{store-sound}
 use Rattle.effects.specs.declared.Marking.{Marking}
 use Rattle.effects.specs.declared.Marking.TheVariants.{Adding, Removing}
-use Rattle.effects.specs.Effects.{marked_by, with_marking, with_marking_of}
-use Rattle.effects.proofs.Fitted.{mark-queue, unmark-queue}
+use Rattle.effects.specs.Effects.{marked_by, with_marking, with_marking_of, marking}
 use Rattle.effects.proofs.Places.{marks_where, with_marks, marked-place, unmarked-places, with_all}
 
 -- ---- a sound store
@@ -95,16 +94,12 @@ module _ (st : Store) (e : sound st ≡ true) (h : SigSet → SigSet) where
 
 -- ---- the tables: one queue, the process's own where the thread is 0
 
--- the marks of the queue change
-abbrev marking : Marking → Queue → Queue → SigSet → SigSet
-marking how q q' m = cond (same_queue q' q) (marked_by how m) m
-
 module _ (l : Lent) (e : sound_tables l ≡ true) (n t : ℕ) (live : live_queue (view_of l) (target_queue n t) ≡ true)
     (how : Marking) where
   abbrev st : Store
   st = decoded l
 
-  process-store : t ≡ 0 → (ps' : List ℕ)
+  pub process-store : t ≡ 0 → (ps' : List ℕ)
       → processes_of ps' ≡ set (processes_of l.processes) (find (is_process n) (held_processes l.processes))
       (with_marking how (process_at l.processes (find (is_process n) (held_processes l.processes))))
       → decoded (lent ps' l.threads l.thread_buffer l.process_buffer)
@@ -120,7 +115,7 @@ module _ (l : Lent) (e : sound_tables l ≡ true) (n t : ℕ) (live : live_queue
       (k ∙ sym (process-marks-set st s (marked_by how) n x)) (sym (thread-marks-kept st s (marked_by how) n x)) refl
       refl)
 
-  thread-store : eqb t 0 ≡ false → (ts' : List ℕ)
+  pub thread-store : eqb t 0 ≡ false → (ts' : List ℕ)
       → threads_of ts' ≡ set (threads_of l.threads) (find (is_thread t) (held_threads l.threads))
       (with_marking how (thread_at l.threads (find (is_thread t) (held_threads l.threads))))
       → decoded (lent l.processes ts' l.thread_buffer l.process_buffer)
@@ -136,51 +131,16 @@ module _ (l : Lent) (e : sound_tables l ≡ true) (n t : ℕ) (live : live_queue
       (sym (process-marks-kept st s (marked_by how) q x o))
       (k ∙ sym (thread-marks-set st s (marked_by how) q x o)) refl refl
 
--- o is the signal alone
-module _ (l : Lent) (e : sound_tables l ≡ true) (n t s : ℕ) (o : SigSet) (alone : o ≡ of_signal s) where
-  abbrev process_to : Marking → List ℕ → Type 0
-  process_to how ps' =
-      processes_of ps' ≡ set (processes_of l.processes) (find (is_process n) (held_processes l.processes))
-      (with_marking how (process_at l.processes (find (is_process n) (held_processes l.processes))))
+-- ---- a signal marked or unmarked in a queue
 
-  abbrev thread_to : Marking → List ℕ → Type 0
-  thread_to how ts' =
-      threads_of ts' ≡ set (threads_of l.threads) (find (is_thread t) (held_threads l.threads))
-      (with_marking how (thread_at l.threads (find (is_thread t) (held_threads l.threads))))
+module _ (q : Queue) (s : ℕ) (o : SigSet) (alone : o ≡ of_signal s) (st st' : Store) where
+  pub mark-set : st' ≡ on_marks (marking (Adding o) q) st → st' ≡ apply (set_mark q s) st
+  unfolding apply marked_by
+  mark-set e = e ∙ ap (λ (u : SigSet). on_marks (marking (Adding u) q) st) alone
 
-  module _ (f : fits (view_of l) (set_mark (target_queue n t) s) ≡ true) where
-    pub set-process : t ≡ 0 → (ps' : List ℕ) → process_to (Adding o) ps'
-        → decoded (lent ps' l.threads l.thread_buffer l.process_buffer)
-        ≡ apply (set_mark (target_queue n t) s) (decoded l)
-    unfolding apply marked_by
-    set-process z ps' k =
-        process-store l e n t (mark-queue (view_of l) (target_queue n t) s f) (Adding (of_signal s)) z ps'
-        (subst (λ (u : SigSet). process_to (Adding u) ps') alone k)
-
-    pub set-thread : eqb t 0 ≡ false → (ts' : List ℕ) → thread_to (Adding o) ts'
-        → decoded (lent l.processes ts' l.thread_buffer l.process_buffer)
-        ≡ apply (set_mark (target_queue n t) s) (decoded l)
-    unfolding apply marked_by
-    set-thread z ts' k =
-        thread-store l e n t (mark-queue (view_of l) (target_queue n t) s f) (Adding (of_signal s)) z ts'
-        (subst (λ (u : SigSet). thread_to (Adding u) ts') alone k)
-
-  module _ (f : fits (view_of l) (clear_mark (target_queue n t) s) ≡ true) where
-    pub clear-process : t ≡ 0 → (ps' : List ℕ) → process_to (Removing o) ps'
-        → decoded (lent ps' l.threads l.thread_buffer l.process_buffer)
-        ≡ apply (clear_mark (target_queue n t) s) (decoded l)
-    unfolding apply marked_by
-    clear-process z ps' k =
-        process-store l e n t (unmark-queue (view_of l) (target_queue n t) s f) (Removing (of_signal s)) z ps'
-        (subst (λ (u : SigSet). process_to (Removing u) ps') alone k)
-
-    pub clear-thread : eqb t 0 ≡ false → (ts' : List ℕ) → thread_to (Removing o) ts'
-        → decoded (lent l.processes ts' l.thread_buffer l.process_buffer)
-        ≡ apply (clear_mark (target_queue n t) s) (decoded l)
-    unfolding apply marked_by
-    clear-thread z ts' k =
-        thread-store l e n t (unmark-queue (view_of l) (target_queue n t) s f) (Removing (of_signal s)) z ts'
-        (subst (λ (u : SigSet). thread_to (Removing u) ts') alone k)
+  pub mark-cleared : st' ≡ on_marks (marking (Removing o) q) st → st' ≡ apply (clear_mark q s) st
+  unfolding apply marked_by
+  mark-cleared e = e ∙ ap (λ (u : SigSet). on_marks (marking (Removing u) q) st) alone
 
 -- ---- the tables: all queues of a process
 

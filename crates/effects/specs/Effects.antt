@@ -2,7 +2,8 @@
 use Rattle.std.specs.Prelude.{ℕ, cond, eqb}
 use Rattle.sigset.specs.declared.SigSet.{SigSet}
 use Rattle.sigset.specs.Set.{union, without}
-use Rattle.rules.specs.Types.{Thread}
+use Rattle.rules.specs.Types.{Thread, Queue}
+use Rattle.rules.specs.View.{same_queue}
 use Rattle.rules.specs.Store.{Place}
 use Rattle.effects.specs.declared.Marking.{Marking}
 use Rattle.effects.specs.declared.Marking.TheVariants.{Adding, Removing}
@@ -18,6 +19,10 @@ with_marking how x = record { holds = x.holds; marks = marked_by how x.marks }
 -- where it is a thread of the process
 unfoldable pub with_marking_of : (process : ℕ) → Marking → Place Thread → Place Thread
 with_marking_of p how x = cond (eqb x.holds.process p) (with_marking how x) x
+
+-- the marks of the queue q changed, and of no other
+abbrev pub marking : Marking → (q : Queue) → Queue → SigSet → SigSet
+marking how q q' m = cond (same_queue q' q) (marked_by how m) m
 
 -- a thread with these fields
 abbrev pub thread_of : (id process : ℕ) → SigSet → Thread

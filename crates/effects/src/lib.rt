@@ -4,19 +4,21 @@
 #![tactic(auto)]
 
 ghost use Rattle.std.specs.Prelude.{◌≡◌, true, [], ◌∷◌, map, length, set};
+ghost use Rattle.std.specs.Int.{from_bool};
 ghost use Rattle.limits.specs.Limits.{thread_table, process_table};
 ghost use Rattle.lists.specs.Lists.{any, find};
 ghost use Rattle.rules.specs.View.{is_process, is_thread, belongs_to, target_queue, forget, remove_process};
 ghost use Rattle.rules.specs.View.{remove_thread};
 ghost use Rattle.rules.specs.View.{set_stopped, set_action, set_mask, set_mark, clear_mark, append, drop_oldest};
 ghost use Rattle.rules.specs.View.{discard};
-ghost use Rattle.rules.specs.Store.{free_thread, is_free_process, is_free_thread, vacate, fill, apply};
+ghost use Rattle.rules.specs.Store.{free_thread, is_free_process, is_free_thread, vacate, fill, apply, on_marks};
 ghost use Rattle.rules.specs.Actions.{store_changes};
 ghost use Rattle.rules.specs.Adding.{added_process};
 ghost use Rattle.tables.specs.Tables.{processes_of, threads_of, held_processes, held_threads, process_at, thread_at};
-ghost use Rattle.sound.specs.Lent.{decoded, lengths_are, lent};
+ghost use Rattle.tables.specs.Tables.{LiveProcess, LiveThread};
+ghost use Rattle.sound.specs.Lent.{decoded, lengths_are, lent, WithQueue};
 ghost use Rattle.effects.specs.Changes.{Ready, Changed};
-ghost use Rattle.effects.specs.Effects.{marked_by, with_marking, with_marking_of, thread_of};
+ghost use Rattle.effects.specs.Effects.{marked_by, with_marking, with_marking_of, marking, thread_of};
 
 use limits::{
     PROCESS_MARKS, PROCESS_STOPPED, THREAD_MARKS, THREAD_MASK, THREAD_PLACES, THREAD_PROCESS,
@@ -45,26 +47,24 @@ fn marked(m: SigSet, how: Marking) -> SigSet
 
 // The marks of a live process.
 fn change_process_marks(ps: &mut [u64], process: u32, how: Marking)
-    requires ps_len { length ps.old ≡ process_table }
-    requires ps_value { any (is_process process) (held_processes ps.old) ≡ true }
+    requires { LiveProcess process ps.old }
     ensures { processes_of ps.new
         ≡ set (processes_of ps.old) (find (is_process process) (held_processes ps.old))
         (with_marking how (process_at ps.old (find (is_process process) (held_processes ps.old)))) }
 {
-    let place = tables::find_process(ps, process as u64);
+    let place = tables::live_process(ps, process);
     let m = marked(SigSet(tables::field_at(ps, place, PROCESS_MARKS)), how);
     tables::put_field(ps, place, PROCESS_MARKS, m.0);
 }
 
 // The marks of a live thread.
 fn change_thread_marks(ts: &mut [u64], thread: u32, how: Marking)
-    requires ts_len { length ts.old ≡ thread_table }
-    requires ts_value { any (is_thread thread) (held_threads ts.old) ≡ true }
+    requires { LiveThread thread ts.old }
     ensures { threads_of ts.new
         ≡ set (threads_of ts.old) (find (is_thread thread) (held_threads ts.old))
         (with_marking how (thread_at ts.old (find (is_thread thread) (held_threads ts.old)))) }
 {
-    let place = tables::find_thread(ts, thread as u64);
+    let place = tables::live_thread(ts, thread);
     let m = marked(
         SigSet(tables::thread_field_at(ts, place, THREAD_MARKS)),
         how,
@@ -77,17 +77,36 @@ fn change_threads_marks(ts: &mut [u64], process: u32, how: Marking)
     requires { length ts.old ≡ thread_table }
     ensures { threads_of ts.new ≡ map (with_marking_of process how) (threads_of ts.old) }
 {
-    let mut i = 0;
-    while i < THREAD_PLACES {
+    for i in 0..THREAD_PLACES {
         if tables::thread_field_at(ts, i, THREAD_PROCESS) == process as u64 {
             let m = marked(SigSet(tables::thread_field_at(ts, i, THREAD_MARKS)), how);
             tables::put_thread_field(ts, i, THREAD_MARKS, m.0);
         }
-        i += 1;
     }
 }
 
-// A signal becomes pending in a queue without a value; the process's own where the thread is 0.
+// The marks of one queue, the process's own where the thread is 0.
+fn change_marks(
+    ps: &mut [u64],
+    ts: &mut [u64],
+    tb: &[u8],
+    pb: &[u8],
+    process: u32,
+    thread: u32,
+    how: Marking,
+)
+    requires { WithQueue (target_queue process thread) (lent ps.old ts.old tb.now pb.now) }
+    ensures { decoded (lent ps.new ts.new tb.now pb.now)
+        ≡ on_marks (marking how (target_queue process thread)) (decoded (lent ps.old ts.old tb.now pb.now)) }
+{
+    if thread == 0 {
+        change_process_marks(ps, process, how);
+    } else {
+        change_thread_marks(ts, thread, how);
+    }
+}
+
+// A signal becomes pending in a queue without a value.
 pub fn set_mark(
     ps: &mut [u64],
     ts: &mut [u64],
@@ -103,11 +122,7 @@ pub fn set_mark(
         (lent ps.old ts.old tb.now pb.now) (lent ps.new ts.new tb.now pb.now) }
 {
     let how = Marking::Adding(SigSet::of_signal(signal));
-    if thread == 0 {
-        change_process_marks(ps, process, how);
-    } else {
-        change_thread_marks(ts, thread, how);
-    }
+    change_marks(ps, ts, tb, pb, process, thread, how);
 }
 
 // The mark of a signal in a queue goes.
@@ -126,11 +141,7 @@ pub fn clear_mark(
         (lent ps.old ts.old tb.now pb.now) (lent ps.new ts.new tb.now pb.now) }
 {
     let how = Marking::Removing(SigSet::of_signal(signal));
-    if thread == 0 {
-        change_process_marks(ps, process, how);
-    } else {
-        change_thread_marks(ts, thread, how);
-    }
+    change_marks(ps, ts, tb, pb, process, thread, how);
 }
 
 // ---- records
@@ -193,14 +204,14 @@ pub fn discard(
 
 // ---- fields
 
-// 1 stops a process, 0 lets it run.
-pub fn set_stopped(ps: &mut [u64], ts: &[u64], tb: &[u8], pb: &[u8], process: u32, stopped: u64)
-    requires { Ready (set_stopped process stopped ∷ []) (lent ps.old ts.now tb.now pb.now) }
-    ensures { Changed (set_stopped process stopped ∷ []) (lent ps.old ts.now tb.now pb.now)
+// A process stops, or runs again.
+pub fn set_stopped(ps: &mut [u64], ts: &[u64], tb: &[u8], pb: &[u8], process: u32, stopped: bool)
+    requires { Ready (set_stopped process (from_bool stopped) ∷ []) (lent ps.old ts.now tb.now pb.now) }
+    ensures { Changed (set_stopped process (from_bool stopped) ∷ []) (lent ps.old ts.now tb.now pb.now)
         (lent ps.new ts.now tb.now pb.now) }
 {
-    let place = tables::find_process(ps, process as u64);
-    tables::put_field(ps, place, PROCESS_STOPPED, stopped);
+    let place = tables::live_process(ps, process);
+    tables::put_field(ps, place, PROCESS_STOPPED, stopped as u64);
 }
 
 // The action of a signal.
@@ -217,7 +228,7 @@ pub fn set_action(
     ensures { Changed (set_action process signal a ∷ []) (lent ps.old ts.now tb.now pb.now)
         (lent ps.new ts.now tb.now pb.now) }
 {
-    let place = tables::find_process(ps, process as u64);
+    let place = tables::live_process(ps, process);
     tables::put_action(ps, place, signal, a);
 }
 
@@ -249,7 +260,7 @@ pub fn set_mask(ps: &[u64], ts: &mut [u64], tb: &[u8], pb: &[u8], thread: u32, m
     ensures { Changed (set_mask thread mask ∷ []) (lent ps.now ts.old tb.now pb.now)
         (lent ps.now ts.new tb.now pb.now) }
 {
-    let place = tables::find_thread(ts, thread as u64);
+    let place = tables::live_thread(ts, thread);
     tables::put_thread_field(ts, place, THREAD_MASK, mask.0);
 }
 
@@ -262,7 +273,7 @@ pub fn new_process(ps: &mut [u64], new: NewProcess)
     ensures { processes_of ps.new
         ≡ fill is_free_process (added_process new) (processes_of ps.old) }
 {
-    let place = tables::free_process(ps);
+    let place = tables::free_process(ps).unwrap();
     tables::fill_process(ps, place, new);
 }
 
@@ -273,7 +284,7 @@ pub fn new_thread(ts: &mut [u64], id: u32, process: u32, mask: SigSet)
     ensures { threads_of ts.new
         ≡ fill is_free_thread (thread_of id process mask) (threads_of ts.old) }
 {
-    let place = tables::free_thread(ts);
+    let place = tables::free_thread(ts).unwrap();
     tables::fill_thread(ts, place, id, process, mask);
 }
 
@@ -283,12 +294,10 @@ fn vacate_threads(ts: &mut [u64], process: u32)
     ensures { threads_of ts.new
         ≡ vacate free_thread (belongs_to process) (threads_of ts.old) }
 {
-    let mut i = 0;
-    while i < THREAD_PLACES {
+    for i in 0..THREAD_PLACES {
         if (process != 0) & (tables::thread_field_at(ts, i, THREAD_PROCESS) == process as u64) {
             tables::clear_thread(ts, i);
         }
-        i += 1;
     }
 }
 
@@ -298,7 +307,7 @@ pub fn remove_process(ps: &mut [u64], ts: &mut [u64], tb: &mut [u8], pb: &mut [u
     ensures { Changed (remove_process process ∷ []) (lent ps.old ts.old tb.old pb.old)
         (lent ps.new ts.new tb.new pb.new) }
 {
-    let place = tables::find_process(ps, process as u64);
+    let place = tables::live_process(ps, process);
     tables::clear_process(ps, place);
     vacate_threads(ts, process);
     queue::discard(tb, Discarded::OfProcess(process));
@@ -311,7 +320,7 @@ pub fn remove_thread(ps: &[u64], ts: &mut [u64], tb: &mut [u8], pb: &mut [u8], t
     ensures { Changed (remove_thread thread ∷ []) (lent ps.now ts.old tb.old pb.old)
         (lent ps.now ts.new tb.new pb.new) }
 {
-    let place = tables::find_thread(ts, thread as u64);
+    let place = tables::live_thread(ts, thread);
     tables::clear_thread(ts, place);
     queue::discard(tb, Discarded::OfThread(thread));
     queue::discard(pb, Discarded::OfThread(thread));

@@ -4,16 +4,18 @@ use mathlib.Core.Bool.{Bool, ◌&&◌}
 use mathlib.Core.List.{List, [], ◌∷◌, ◌++◌, map, append-nil, append_assoc}
 use Prim.Native.Nat.{ℕ, zero, suc, ◌+◌, ◌*◌, ◌≤◌, ◌<◌}
 use native.Mathlib.Nat.{zero-mul, suc-mul, add_comm, add_assoc, add-zero, zero-add, add-suc, not-suc-le-zero}
-use native.Mathlib.Nat.{le_of_suc-le-suc}
+use native.Mathlib.Nat.{le_of_suc-le-suc, le_of_eq}
 use native.Mathlib.Omega.{arith}
 use native.Mathlib.Numerals.{add-one, add-two, add-three}
 use lib.ListN.{length, get_or, take, drop, set, replicate, take-append-drop, length-drop, length-append}
 use lib.ListN.{drop_of_length-le, replicate-append-replicate}
 use lib.Seq.{get_or-set_same, set-set, take-set-le, drop-set-add, take-set-lt, drop-set-lt, drop-drop, take-take}
-use lib.Seq.{get_or-take, get_or-drop, sets, sets-eq, length-take-le, take_at, drop_at}
+use lib.Seq.{get_or-take, get_or-drop, take_all, sets, sets-eq, length-take-le, take_at, drop_at}
 use Rattle.lists.specs.Lists.{all, All}
 use Rattle.lists.specs.Rows.{row, rows, flat}
 use Rattle.lists.proofs.Lists.{all_append}
+use borrow.Rule.Slice.PartMut.{put_mid}
+use Rattle.std.proofs.lemmas.Slice.{put_mid-paste}
 
 -- ---- a word of a row is a word of the table
 
@@ -309,3 +311,11 @@ module _ (ws : List ℕ) (from n : ℕ) (h : from + n ≤ length ws) where
 
   pub part_at : (i : ℕ) → i < n → get_or (take n (drop from ws)) i 0 ≡ get_or ws (from + i) 0
   part_at i k = get_or-take n (drop from ws) i 0 k ∙ get_or-drop from ws i 0
+
+-- a part of a list overwritten
+pub part-sets : {A : Type 0} (l vs ys : List A) (i k : ℕ) → ys ≡ vs → length vs ≡ k → i + k ≤ length l
+    → put_mid i k l ys ≡ sets l i vs
+part-sets l vs ys i k e n h =
+    put_mid-paste i k l ys vs k e refl (sym n)
+    ∙ ap₂ (λ x m. take i l ++ x ++ drop (i + m) l) (take_all k vs (le_of_eq n)) (sym n)
+    ∙ sym (sets-eq vs l i (omega arith))

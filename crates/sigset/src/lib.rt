@@ -7,7 +7,7 @@ ghost use Rattle.sigset.specs.Set.{has, union, without, intersect, maskable, of_
 use limits::{SIGKILL, SIGNALS, SIGSTOP};
 
 #[repr(C)]
-#[derive(Clone, Copy)]
+#[derive(Clone, Copy, PartialEq, Eq, Debug)]
 pub struct SigSet(pub u64);
 
 impl SigSet {

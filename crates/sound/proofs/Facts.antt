@@ -6,12 +6,11 @@ use Prim.Native.Nat.{ℕ, ◌≤◌, ◌<◌}
 use lib.Dec.{eqb}
 use lib.ListN.{length}
 use borrow.Author.Tests.{eqb-true, eq-eqb}
-use Rattle.limits.specs.Limits.{process_places, process_table, thread_places, thread_table, buffer_records}
+use Rattle.limits.specs.Limits.{process_table, thread_table, buffer_records}
 use Rattle.limits.specs.Limits.{buffer_bytes}
 use Rattle.limits.specs.Limits.{record_limit}
 use Rattle.lists.specs.Lists.{any, count, find}
 use Rattle.lists.proofs.Bools.{and-fst, and-snd, and_both}
-use Rattle.lists.proofs.Finds.{any-inside}
 use Rattle.rules.specs.View.{is_process, is_thread, live_process, live_thread, the_process, the_thread}
 use Rattle.rules.specs.Store.{queued_in, view}
 use Rattle.rules.specs.Sound.{sound}
@@ -19,8 +18,7 @@ use Rattle.rules.proofs.Facts as rule
 use Rattle.rules.proofs.Marks.{the-process, the-thread}
 use Rattle.rules.proofs.Room as rooms
 use Rattle.queue.specs.Queue.{records_of, is_laid}
-use Rattle.tables.specs.Tables.{held_processes, held_threads, process_at, thread_at}
-use Rattle.tables.proofs.Words.{length-held_processes, length-held_threads}
+use Rattle.tables.specs.Tables.{held_processes, held_threads, process_at, thread_at, LiveProcess, LiveThread}
 use Rattle.sound.specs.Lent.{Lent, decoded, view_of, lengths_are, sound_tables}
 
 -- ---- lengths
@@ -127,17 +125,12 @@ module _ (l : Lent) where
   unfolding live_thread view decoded
   thread-listed n live = live
 
-  pub process-found : (n : ℕ) → live_process (view_of l) n ≡ true
-      → find (is_process n) (held_processes l.processes) < process_places
-  unfolding live_process view decoded
-  process-found n live =
-      any-inside (is_process n) (held_processes l.processes) process_places (length-held_processes l.processes) live
+  pub process-present : sound_tables l ≡ true → (n : ℕ) → live_process (view_of l) n ≡ true
+      → LiveProcess n l.processes
+  process-present e n live = (processes-long l e, process-listed n live)
 
-  pub thread-found : (n : ℕ) → live_thread (view_of l) n ≡ true
-      → find (is_thread n) (held_threads l.threads) < thread_places
-  unfolding live_thread view decoded
-  thread-found n live =
-      any-inside (is_thread n) (held_threads l.threads) thread_places (length-held_threads l.threads) live
+  pub thread-present : sound_tables l ≡ true → (n : ℕ) → live_thread (view_of l) n ≡ true → LiveThread n l.threads
+  thread-present e n live = (threads-long l e, thread-listed n live)
 
   pub process-there : (n : ℕ)
       → the_process (view_of l) n ≡ (process_at l.processes (find (is_process n) (held_processes l.processes))).holds

@@ -1,9 +1,9 @@
 -- What a read of a place says, what a store says, and where a search ends. Assumes nothing.
 use mathlib.Core.Path.{◌≡◌, refl, sym, ap, ap₂, ◌∙◌}
-use mathlib.Core.Bool.{true, not, ◌&&◌}
+use mathlib.Core.Bool.{Bool, true, not, ◌&&◌}
 use mathlib.Core.List.{List, [], ◌∷◌, map}
 use Prim.Native.Nat.{ℕ, ◌+◌, ◌-◌, ◌*◌, ◌≤◌, ◌<◌}
-use native.Mathlib.Nat.{add_assoc}
+use native.Mathlib.Nat.{add-zero, add_assoc, mul-lt-mul_of_pos_right}
 use native.Mathlib.Omega.{arith}
 use lib.Dec.{eqb}
 use lib.ListN.{length, get_or, take, drop, set, replicate, length-drop, length-replicate, get_or-map}
@@ -14,21 +14,22 @@ use Rattle.limits.specs.Limits.{signals, action_words, thread_places, thread_wor
 use Rattle.lists.specs.Lists.{find}
 use Rattle.lists.specs.Rows.{row, rows, flat}
 use Rattle.lists.proofs.Lists.{Fail, All-any, All-every, All-replicate}
-use Rattle.lists.proofs.Rows.{get_d-row, get_d_rows, rows-sets, rows-put, take-sets-le, drop-sets-add, take-drop-take}
-use Rattle.lists.proofs.Rows.{spell_from, take-spell_from, sets_from, sets-at, set-again, sets-whole, flat-replicate}
-use Rattle.lists.proofs.Finds.{find_absent, find-alike}
+use Rattle.lists.proofs.Rows.{length-rows, rows-map, get_d-row, get_d_rows, rows-sets, rows-put, take-sets-le, drop-sets-add, take-drop-take}
+use Rattle.lists.proofs.Rows.{spell_from, take-spell_from, sets_from, sets-at, set-again, flat-replicate}
+use Rattle.lists.proofs.Finds.{find-alike, position-map, position-alike, position-absent}
+use Rattle.std.specs.Prelude.{None, position}
 use Rattle.sigset.specs.declared.SigSet.{SigSet}
 use Rattle.types.specs.declared.Action.{Action}
 use Rattle.types.specs.declared.NewProcess.{NewProcess}
 use Rattle.types.specs.Values.{default_action}
-use Rattle.rules.specs.Types.{Process, Thread, no_process, no_thread}
-use Rattle.rules.specs.View.{is_process, is_thread, action_of}
+use Rattle.rules.specs.Types.{Process, Thread}
+use Rattle.rules.specs.View.{is_thread, action_of}
 use Rattle.rules.specs.Adding.{added_process}
 use Rattle.rules.specs.Store.{Place, held, free_process, free_thread}
 use Rattle.tables.specs.Tables.{action_from, action_to, head_to, headed, process_from, process_to, thread_from}
 use Rattle.tables.specs.Tables.{thread_to, processes_of, process_words_of, threads_of, thread_words_of, process_at}
-use Rattle.tables.specs.Tables.{thread_at, held_processes, held_threads, with_field, with_thread_field, has_process_id}
-use Rattle.tables.specs.Tables.{has_thread_id, acted, placed, thread_placed}
+use Rattle.tables.specs.Tables.{thread_at, held_processes, held_threads, with_field, with_thread_field}
+use Rattle.tables.specs.Tables.{has_thread_id, ids_of, has_id, has_live_id, acted, placed, thread_placed}
 use Rattle.tables.proofs.Words.{ActionsLong, free-process-words, free-thread-words, words-forth}
 use Rattle.tables.proofs.Words.{thread-words-forth, process-from, thread-from, head-from, length-process-row}
 use Rattle.tables.proofs.Words.{length-thread-row, thread-row, zero-process, zero-thread, thread-back}
@@ -178,7 +179,7 @@ module _ (ws : List ℕ) (long : length ws ≡ thread_table) (place : ℕ) (h : 
 
 -- ---- every place cleared
 
-pub processes-cleared : (ws after : List ℕ) → length ws ≡ process_table → after ≡ sets ws 0 (replicate process_table 0)
+pub processes-cleared : (ws after : List ℕ) → length ws ≡ process_table → after ≡ replicate (length ws) 0
     → processes_of after ≡ replicate process_places free_process
 unfolding process_words_of
 processes-cleared ws after long e =
@@ -186,11 +187,11 @@ processes-cleared ws after long e =
     let z : flat process_to xs ≡ replicate process_table 0 =
     flat-replicate process_to free_process process_words 0 free-process-words process_places in
     ap processes_of
-    (e ∙ sets-whole (replicate process_table 0) ws (long ∙ sym (length-replicate {A = ℕ} process_table 0)) ∙ sym z)
+    (e ∙ ap (λ n. replicate n 0) long ∙ sym z)
     ∙ words-forth xs (length-replicate process_places free_process)
     (All-replicate ActionsLong free_process (length-replicate signals default_action) process_places)
 
-pub threads-cleared : (ws after : List ℕ) → length ws ≡ thread_table → after ≡ sets ws 0 (replicate thread_table 0)
+pub threads-cleared : (ws after : List ℕ) → length ws ≡ thread_table → after ≡ replicate (length ws) 0
     → threads_of after ≡ replicate thread_places free_thread
 unfolding thread_words_of
 threads-cleared ws after long e =
@@ -198,7 +199,7 @@ threads-cleared ws after long e =
     let z : flat thread_to xs ≡ replicate thread_table 0 =
     flat-replicate thread_to free_thread thread_words 0 free-thread-words thread_places in
     ap threads_of
-    (e ∙ sets-whole (replicate thread_table 0) ws (long ∙ sym (length-replicate {A = ℕ} thread_table 0)) ∙ sym z)
+    (e ∙ ap (λ n. replicate n 0) long ∙ sym z)
     ∙ thread-words-forth xs (length-replicate thread_places free_thread)
 
 -- ---- a free place filled, one field after the other
@@ -255,38 +256,54 @@ thread-filled xs x₀ x₁ x₂ x₃ place id process mask h e₀ e₁ e₂ e₃
     (set-again free_thread (with_thread_field thread_id id) xs x₀ x₁ place _ h e₀ e₁) e₂) e₃
     ∙ ap (set xs place) (thread-fields id process mask)
 
--- ---- searches
+-- ---- a search by id
 
--- the test of a place, by the word w that is read of it
-pub process-test : (ws : List ℕ) (i id w : ℕ) → w ≡ get_or (head_to (process_at ws i)) process_id 0
-    → has_process_id id (get_or (held_processes ws) i no_process) ≡ eqb w id
-unfolding has_process_id head_to
-process-test ws i id w e =
-    ap (λ (p : Process). eqb p.id id) (held_at (processes_of ws) i free_process) ∙ ap (λ k. eqb k id) (sym e)
+-- the first word of a place is in the table
+pub in_table : (i places width : ℕ) → i < places → 1 ≤ width → i * width < places * width
+in_table i places width h w = mul-lt-mul_of_pos_right h w
 
-pub thread-test : (ws : List ℕ) (i id w : ℕ) → w ≡ get_or (thread_to (thread_at ws i)) thread_id 0
-    → has_thread_id id (get_or (held_threads ws) i no_thread) ≡ eqb w id
-unfolding has_thread_id thread_to
-thread-test ws i id w e =
-    ap (λ (t : Thread). eqb t.id id) (held_at (threads_of ws) i free_thread) ∙ ap (λ k. eqb k id) (sym e)
+module _ (width places : ℕ) (ws : List ℕ) where
+  pub length-ids_of : length (ids_of width places ws) ≡ places
+  length-ids_of = length-rows (λ l. get_or l 0 0) width places ws
+
+  pub id-at : (i : ℕ) → i < places → 1 ≤ width → get_or (ids_of width places ws) i 0 ≡ get_or ws (i * width) 0
+  id-at i h w =
+      get_d_rows (λ l. get_or l 0 0) width places ws i 0 h ∙ get_d-row width ws i 0 w
+      ∙ ap (λ (k : ℕ). get_or ws k 0) (add-zero (i * width))
+
+module _ (p : Process → Bool) (q : ℕ → Bool) (same : (x : Process) → p x ≡ q x.id) where
+  -- a search through the ids finds what a search through the processes finds
+  pub process-ids : (ws : List ℕ) → position q (ids_of process_words process_places ws) ≡ position p (held_processes ws)
+  unfolding processes_of process_from headed
+  process-ids ws =
+      ap (position q)
+      (rows-map process_from (λ x. x.holds.id) (λ l. get_or l 0 0)
+      (λ l. sym (get_or-take head_words l 0 0 (omega arith))) process_words process_places ws)
+      ∙ position-map q (λ x. x.holds.id) (processes_of ws)
+      ∙ position-alike (λ x. q x.holds.id) (λ x. p (held x)) (processes_of ws) (λ x. sym (same x.holds))
+      ∙ sym (position-map p held (processes_of ws))
+
+module _ (p : Thread → Bool) (q : ℕ → Bool) (same : (t : Thread) → p t ≡ q t.id) where
+  pub thread-ids : (ws : List ℕ) → position q (ids_of thread_words thread_places ws) ≡ position p (held_threads ws)
+  unfolding threads_of thread_from
+  thread-ids ws =
+      ap (position q)
+      (rows-map thread_from (λ x. x.holds.id) (λ l. get_or l 0 0) (λ l. refl) thread_words thread_places ws)
+      ∙ position-map q (λ x. x.holds.id) (threads_of ws)
+      ∙ position-alike (λ x. q x.holds.id) (λ x. p (held x)) (threads_of ws) (λ x. sym (same x.holds))
+      ∙ sym (position-map p held (threads_of ws))
 
 -- 0 is no id
+module _ (ids : List ℕ) where
+  pub live-id : (n : ℕ) → not (eqb n 0) ≡ true → position (has_live_id n) ids ≡ position (has_id n) ids
+  live-id n e = position-alike (has_live_id n) (has_id n) ids (λ x. ap (λ b. b && eqb x n) e)
 
-module _ (xs : List Process) where
-  pub find-live : (n : ℕ) → not (eqb n 0) ≡ true → find (is_process n) xs ≡ find (has_process_id n) xs
-  unfolding is_process has_process_id
-  find-live n e = find-alike (is_process n) (has_process_id n) xs (λ p. ap (λ b. b && eqb p.id n) e)
+  pub no-id : position (has_live_id 0) ids ≡ None
+  no-id =
+      position-absent (has_live_id 0) ids
+      (All-any (has_live_id 0) ids (All-every (Fail (has_live_id 0)) (λ _. refl) ids))
 
-  pub find-zero : find (is_process 0) xs ≡ length xs
-  unfolding is_process
-  find-zero = find_absent (is_process 0) xs (All-any (is_process 0) xs (All-every (Fail (is_process 0)) (λ _. refl) xs))
-
-module _ (xs : List Thread) where
-  pub find-live-thread : (n : ℕ) → not (eqb n 0) ≡ true → find (is_thread n) xs ≡ find (has_thread_id n) xs
-  unfolding is_thread has_thread_id
-  find-live-thread n e = find-alike (is_thread n) (has_thread_id n) xs (λ t. ap (λ b. b && eqb t.id n) e)
-
-  pub find-zero-thread : find (is_thread 0) xs ≡ length xs
-  unfolding is_thread
-  find-zero-thread =
-      find_absent (is_thread 0) xs (All-any (is_thread 0) xs (All-every (Fail (is_thread 0)) (λ _. refl) xs))
+pub find-live-thread : (xs : List Thread) (n : ℕ) → not (eqb n 0) ≡ true
+    → find (is_thread n) xs ≡ find (has_thread_id n) xs
+unfolding is_thread has_thread_id
+find-live-thread xs n e = find-alike (is_thread n) (has_thread_id n) xs (λ t. ap (λ b. b && eqb t.id n) e)

@@ -1,16 +1,18 @@
 -- What the words of the process table and of the thread table say, place by place, and the words of a list of places.
-use Rattle.std.specs.Prelude.{ℕ, List, [], ◌∷◌, ◌++◌, map, Bool, eqb, get_or, take, drop, set}
+use Rattle.std.specs.Prelude.{◌≡◌, ℕ, true, length, List, [], ◌∷◌, ◌++◌, map, Bool, not, ◌&&◌, eqb, get_or, take, drop, set}
 use Rattle.limits.specs.Limits.{process_places, thread_places, signals, process_id, process_real, process_effective}
 use Rattle.limits.specs.Limits.{process_saved, process_session, process_stopped, process_marks, head_words}
 use Rattle.limits.specs.Limits.{action_handler}
 use Rattle.limits.specs.Limits.{action_flags, action_mask, action_words, thread_id, thread_process, thread_mask}
 use Rattle.limits.specs.Limits.{thread_marks}
-use Rattle.limits.specs.Limits.{thread_words, process_words}
+use Rattle.limits.specs.Limits.{thread_words, process_words, process_table, thread_table}
+use Rattle.lists.specs.Lists.{any}
 use Rattle.lists.specs.Rows.{rows, flat}
 use Rattle.sigset.specs.declared.SigSet.{SigSet}
 use Rattle.sigset.specs.Set.{bits, empty}
 use Rattle.types.specs.declared.Action.{Action}
 use Rattle.rules.specs.Types.{Process, Thread}
+use Rattle.rules.specs.View.{is_process, is_thread}
 use Rattle.rules.specs.Store.{Place, held, free_process, free_thread, with_action}
 
 -- ---- the words of one place
@@ -101,6 +103,17 @@ process_at ws place = get_or (processes_of ws) place free_process
 abbrev pub thread_at : List ℕ → ℕ → Place Thread
 thread_at ws place = get_or (threads_of ws) place free_thread
 
+-- the ids of a table, the first words of its places
+abbrev pub ids_of : (width places : ℕ) → List ℕ → List ℕ
+ids_of width places ws = rows (λ l. get_or l 0 0) width places ws
+
+-- the process is in the table, and has a place there
+abbrev pub LiveProcess : ℕ → List ℕ → Type 0
+LiveProcess process ws = (length ws ≡ process_table) × (any (is_process process) (held_processes ws) ≡ true)
+
+abbrev pub LiveThread : ℕ → List ℕ → Type 0
+LiveThread thread ws = (length ws ≡ thread_table) × (any (is_thread thread) (held_threads ws) ≡ true)
+
 -- ---- one word of a place changed: at a named offset this computes to the record with that field changed
 
 unfoldable pub with_field : ℕ → ℕ → Place Process → Place Process
@@ -111,9 +124,13 @@ with_thread_field k v x = thread_from (set (thread_to x) k v)
 
 -- ---- what is searched for
 
--- the place has this id; a free one has 0
-unfoldable pub has_process_id : ℕ → Process → Bool
-has_process_id n p = eqb p.id n
+-- the id is n; a free place has 0
+abbrev pub has_id : ℕ → ℕ → Bool
+has_id n id = eqb id n
+
+-- the id is n, and 0 is no id
+abbrev pub has_live_id : ℕ → ℕ → Bool
+has_live_id n id = not (eqb n 0) && eqb id n
 
 unfoldable pub has_thread_id : ℕ → Thread → Bool
 has_thread_id n t = eqb t.id n

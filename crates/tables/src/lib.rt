@@ -1,7 +1,8 @@
 // The process table and the thread table as words: a place found by id, read, written, filled and cleared.
+// Functions in pairs are a line each, over what is common: a table as a parameter would be longer than the line.
 #![tactic(auto)]
 
-ghost use Rattle.std.specs.Prelude.{◌≡◌, ◌+◌, ◌-◌, ◌*◌, ◌≤◌, ◌<◌, length, get_or, set, replicate};
+ghost use Rattle.std.specs.Prelude.{◌≡◌, ◌+◌, ◌-◌, ◌*◌, ◌≤◌, ◌<◌, length, get_or, set, replicate, position};
 ghost use Rattle.std.proofs.lemmas.List.Edits.{sets};
 ghost use Rattle.limits.specs.Limits.{process_places, process_table, thread_places, thread_table, signals};
 ghost use Rattle.limits.specs.Limits.{process_words};
@@ -11,14 +12,15 @@ ghost use Rattle.rules.specs.View.{is_process, is_thread, action_of};
 ghost use Rattle.rules.specs.Store.{free_process, free_thread, is_free_process, is_free_thread};
 ghost use Rattle.rules.specs.Adding.{added_process};
 ghost use Rattle.tables.specs.Tables.{processes_of, threads_of, held_processes, held_threads, process_at, thread_at};
-ghost use Rattle.tables.specs.Tables.{head_to, thread_to, with_field, with_thread_field, has_process_id, has_thread_id};
+ghost use Rattle.tables.specs.Tables.{ids_of, LiveProcess, LiveThread};
+ghost use Rattle.tables.specs.Tables.{head_to, thread_to, with_field, with_thread_field, has_id, has_live_id};
+ghost use Rattle.tables.specs.Tables.{has_thread_id};
 ghost use Rattle.tables.specs.Tables.{placed, acted, thread_placed};
 
 use limits::{
     ACTION_FLAGS, ACTION_HANDLER, ACTION_MASK, ACTION_WORDS, HEAD_WORDS, PROCESS_EFFECTIVE,
-    PROCESS_ID, PROCESS_PLACES, PROCESS_REAL, PROCESS_SAVED, PROCESS_SESSION, PROCESS_TABLE,
-    PROCESS_WORDS, THREAD_ID, THREAD_MASK, THREAD_PLACES, THREAD_PROCESS, THREAD_TABLE,
-    THREAD_WORDS,
+    PROCESS_ID, PROCESS_PLACES, PROCESS_REAL, PROCESS_SAVED, PROCESS_SESSION, PROCESS_WORDS,
+    THREAD_ID, THREAD_MASK, THREAD_PLACES, THREAD_PROCESS, THREAD_WORDS,
 };
 use sigset::SigSet;
 use types::{Action, NewProcess};
@@ -92,69 +94,82 @@ pub fn put_action(ps: &mut [u64], place: usize, signal: u32, a: Action)
 
 // ---- places by id
 
-// The lowest place that has this id, or the number of places.
-fn process_place(ps: &[u64], id: u64) -> usize
-    requires { length ps.now ≡ process_table }
-    ensures { result ≡ find (has_process_id id) (held_processes ps.now) }
+// The lowest place of a table that has this id, its first word.
+fn place_of(ws: &[u64], width: usize, places: usize, id: u64) -> Option<usize>
+    requires { (length ws.now ≡ places * width) × (1 ≤ width) }
+    ensures { result ≡ position (has_id id) (ids_of width places ws.now) }
 {
-    let mut i = 0;
-    while i < PROCESS_PLACES {
-        if field_at(ps, i, PROCESS_ID) == id {
-            return i;
+    for i in 0..places {
+        if ws[i * width] == id {
+            return Some(i);
         }
-        i += 1;
     }
-    i
+    None
 }
 
-pub fn thread_place(ts: &[u64], id: u64) -> usize
-    requires { length ts.now ≡ thread_table }
-    ensures { result ≡ find (has_thread_id id) (held_threads ts.now) }
-{
-    let mut i = 0;
-    while i < THREAD_PLACES {
-        if thread_field_at(ts, i, THREAD_ID) == id {
-            return i;
-        }
-        i += 1;
-    }
-    i
-}
-
-// The place of a live process, or the number of places.
-pub fn find_process(ps: &[u64], id: u64) -> usize
-    requires { length ps.now ≡ process_table }
-    ensures { result ≡ find (is_process id) (held_processes ps.now) }
+// The same of an id that is live: 0 is none.
+fn live_place(ws: &[u64], width: usize, places: usize, id: u64) -> Option<usize>
+    requires { (length ws.now ≡ places * width) × (1 ≤ width) }
+    ensures { result ≡ position (has_live_id id) (ids_of width places ws.now) }
 {
     if id == 0 {
-        return PROCESS_PLACES;
+        return None;
     }
-    process_place(ps, id)
+    place_of(ws, width, places, id)
 }
 
-pub fn find_thread(ts: &[u64], id: u64) -> usize
+pub fn thread_place(ts: &[u64], id: u64) -> Option<usize>
     requires { length ts.now ≡ thread_table }
-    ensures { result ≡ find (is_thread id) (held_threads ts.now) }
+    ensures { result ≡ position (has_thread_id id) (held_threads ts.now) }
 {
-    if id == 0 {
-        return THREAD_PLACES;
-    }
-    thread_place(ts, id)
+    place_of(ts, THREAD_WORDS, THREAD_PLACES, id)
 }
 
-// The lowest free place, or the number of places.
-pub fn free_process(ps: &[u64]) -> usize
+// The place of the process with this id, if it is live.
+pub fn find_process(ps: &[u64], id: u64) -> Option<usize>
     requires { length ps.now ≡ process_table }
-    ensures { result ≡ find is_free_process (held_processes ps.now) }
+    ensures { result ≡ position (is_process id) (held_processes ps.now) }
 {
-    process_place(ps, 0)
+    live_place(ps, PROCESS_WORDS, PROCESS_PLACES, id)
 }
 
-pub fn free_thread(ts: &[u64]) -> usize
+pub fn find_thread(ts: &[u64], id: u64) -> Option<usize>
     requires { length ts.now ≡ thread_table }
-    ensures { result ≡ find is_free_thread (held_threads ts.now) }
+    ensures { result ≡ position (is_thread id) (held_threads ts.now) }
 {
-    thread_place(ts, 0)
+    live_place(ts, THREAD_WORDS, THREAD_PLACES, id)
+}
+
+// The place of a process that is live.
+pub fn live_process(ps: &[u64], process: u32) -> usize
+    requires { LiveProcess process ps.now }
+    ensures inside { result < process_places }
+    ensures place { result ≡ find (is_process process) (held_processes ps.now) }
+{
+    find_process(ps, process as u64).unwrap()
+}
+
+pub fn live_thread(ts: &[u64], thread: u32) -> usize
+    requires { LiveThread thread ts.now }
+    ensures inside { result < thread_places }
+    ensures place { result ≡ find (is_thread thread) (held_threads ts.now) }
+{
+    find_thread(ts, thread as u64).unwrap()
+}
+
+// The lowest free place.
+pub fn free_process(ps: &[u64]) -> Option<usize>
+    requires { length ps.now ≡ process_table }
+    ensures { result ≡ position is_free_process (held_processes ps.now) }
+{
+    place_of(ps, PROCESS_WORDS, PROCESS_PLACES, 0)
+}
+
+pub fn free_thread(ts: &[u64]) -> Option<usize>
+    requires { length ts.now ≡ thread_table }
+    ensures { result ≡ position is_free_thread (held_threads ts.now) }
+{
+    place_of(ts, THREAD_WORDS, THREAD_PLACES, 0)
 }
 
 // ---- a place cleared and filled
@@ -164,11 +179,7 @@ fn clear(ws: &mut [u64], from: usize, n: usize)
     requires { from + n ≤ length ws.old }
     ensures { ws.new ≡ sets ws.old from (replicate n 0) }
 {
-    let mut i = 0;
-    while i < n {
-        ws[from + i] = 0;
-        i += 1;
-    }
+    ws[from..from + n].fill(0);
 }
 
 pub fn clear_process(ps: &mut [u64], place: usize)
@@ -190,14 +201,14 @@ pub fn clear_processes(ps: &mut [u64])
     requires { length ps.old ≡ process_table }
     ensures { processes_of ps.new ≡ replicate process_places free_process }
 {
-    clear(ps, 0, PROCESS_TABLE);
+    ps.fill(0);
 }
 
 pub fn clear_threads(ts: &mut [u64])
     requires { length ts.old ≡ thread_table }
     ensures { threads_of ts.new ≡ replicate thread_places free_thread }
 {
-    clear(ts, 0, THREAD_TABLE);
+    ts.fill(0);
 }
 
 // A new process into a place, whatever it held.

@@ -1,22 +1,20 @@
 -- The words of a row of records and back: lengths, the round trip, and each loop's turn. Assumes nothing.
 use mathlib.Core.Path.{◌≡◌, refl, sym, ap, ◌∙◌}
-use mathlib.Core.Bool.{true, ◌&&◌}
+use mathlib.Core.Bool.{false, not, ◌&&◌}
 use mathlib.Core.List.{List, [], ◌∷◌, ◌++◌, append-nil}
 use Prim.Native.Nat.{ℕ, ◌+◌, ◌*◌, ◌<◌}
 use native.Mathlib.Numerals.{add-one}
 use native.Mathlib.Omega.{arith}
 use lib.Dec.{eqb}
+use Rattle.std.proofs.Common.{rules}
 use lib.ListN.{length, get_or, take}
 use lib.Seq.{sets, take-suc, take_all, length-take-le}
-use borrow.Author.Tests.{eqb-true}
 use Rattle.limits.specs.Limits.{thread_places, thread_words, thread_table}
 use Rattle.lists.specs.Rows.{flat}
-use Rattle.lists.proofs.Bools.{and-fst, and-snd}
 use Rattle.lists.proofs.Lists.{All-every}
 use Rattle.lists.proofs.Rows.{length-rows, get_d_rows, length-flat, rows-flat, flat_append, sets-append, sets-at}
 use Rattle.lists.proofs.Rows.{sets-whole, sets_from, spell_from, take-spell_from}
-use Rattle.sigset.specs.Set.{bits}
-use Rattle.threads.specs.Records.{no_thread, record_to, record_from, words_of, records_of, with_record, same_record}
+use Rattle.threads.specs.Records.{no_thread, record_to, record_from, words_of, records_of, with_record}
 use Rattle.threads.specs.declared.Thread.{Thread}
 
 -- ---- one record
@@ -92,17 +90,8 @@ pub records-long : (ws : List ℕ) → length (records_of thread_places ws) ≡ 
 unfolding records_of
 records-long ws = length-rows record_from thread_words thread_places ws
 
-pub same-is : (t u : Thread) → same_record t u ≡ true → t ≡ u
-unfolding same_record
-same-is t u e =
-    let n = eqb t.id u.id in
-    let p = eqb t.process u.process in
-    let m = eqb t.mask.0 u.mask.0 in
-    let k = eqb t.marks.0 u.marks.0 in
-    let e₁ = and-fst (n && p && m) k e in
-    let e₂ = and-fst (n && p) m e₁ in
-    let a = eqb-true t.id u.id (and-fst n p e₂) in
-    let b = eqb-true t.process u.process (and-snd n p e₂) in
-    let c = eqb-true t.mask.0 u.mask.0 (and-snd (n && p) m e₁) in
-    let d = eqb-true t.marks.0 u.marks.0 (and-snd (n && p && m) k e) in
-    λ i. record { id = a i; process = b i; mask = bits (c i); marks = bits (d i) }
+-- records whose fields are equal are the same
+pub same-is : (t u : Thread)
+    → not (eqb t.id u.id && (eqb t.process u.process && (eqb t.mask.0 u.mask.0 && eqb t.marks.0 u.marks.0))) ≡ false
+    → t ≡ u
+same-is t u e = search rules

@@ -1,5 +1,5 @@
 -- A row of thread records: searched by id, one mask changed, and its words.
-use Rattle.std.specs.Prelude.{ℕ, ◌*◌, Bool, ◌&&◌, List, [], ◌∷◌, eqb, get_or, set}
+use Rattle.std.specs.Prelude.{ℕ, ◌*◌, Bool, List, [], ◌∷◌, eqb, get_or, set}
 use Rattle.std.proofs.lemmas.List.Edits.{sets}
 use Rattle.limits.specs.Limits.{thread_id, thread_process, thread_mask, thread_marks, thread_words}
 use Rattle.lists.specs.Lists.{find}
@@ -15,7 +15,7 @@ no_thread = record { id = 0; process = 0; mask = empty; marks = empty }
 abbrev pub with_mask : SigSet → Thread → Thread
 with_mask m t = record { id = t.id; process = t.process; mask = m; marks = t.marks }
 
-unfoldable pub has_id : ℕ → Thread → Bool
+abbrev pub has_id : ℕ → Thread → Bool
 has_id n t = eqb t.id n
 
 -- the first record with that id has another mask; where none has it, `set` past the end changes nothing
@@ -38,12 +38,6 @@ record_from l =
 -- the words of a table with those of one record changed
 unfoldable pub with_record : (i : ℕ) → Thread → List ℕ → List ℕ
 with_record i t ws = sets ws (i * thread_words) (record_to t)
-
--- two records are the same in every field
-unfoldable pub same_record : Thread → Thread → Bool
-same_record t u =
-    eqb t.id u.id && eqb t.process u.process && eqb t.mask.0 u.mask.0
-    && eqb t.marks.0 u.marks.0
 
 -- a row of records as words, and n rows of words as records
 unfoldable pub words_of : List Thread → List ℕ

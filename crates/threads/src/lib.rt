@@ -1,18 +1,17 @@
 // The thread table as a host lends it: a row of thread records.
 #![tactic(auto)]
 
-ghost use Rattle.std.specs.Prelude.{◌≡◌, ◌<◌, length, get_or, set};
+ghost use Rattle.std.specs.Prelude.{◌≡◌, ◌<◌, length, get_or, set, position};
 ghost use Rattle.limits.specs.Limits.{thread_places, thread_table};
-ghost use Rattle.lists.specs.Lists.{find};
 ghost use Rattle.threads.specs.Records.{no_thread, with_mask, has_id, with_mask_at, words_of, records_of};
-ghost use Rattle.threads.specs.Records.{with_record, same_record};
+ghost use Rattle.threads.specs.Records.{with_record};
 
-use limits::{THREAD_ID, THREAD_MARKS, THREAD_MASK, THREAD_PLACES, THREAD_PROCESS, THREAD_WORDS};
+use limits::{THREAD_ID, THREAD_MARKS, THREAD_MASK, THREAD_PROCESS, THREAD_WORDS};
 use sigset::SigSet;
 
 // One record, as document 01 names its fields; all are words of 64 bits, so a C host has the same struct.
 #[repr(C)]
-#[derive(Clone, Copy)]
+#[derive(Clone, Copy, PartialEq, Eq, Debug)]
 pub struct Thread {
     pub id: u64,
     // the id of its process
@@ -21,18 +20,11 @@ pub struct Thread {
     pub marks: SigSet,
 }
 
-// The first place whose record has that id, or the length.
-pub fn find_thread(ts: &[Thread], id: u64) -> usize
-    ensures { result ≡ find (has_id id) ts.now }
+// The first place whose record has that id.
+pub fn find_thread(ts: &[Thread], id: u64) -> Option<usize>
+    ensures { result ≡ position (has_id id) ts.now }
 {
-    let mut i = 0;
-    while i < ts.len() {
-        if ts[i].id == id {
-            return i;
-        }
-        i += 1;
-    }
-    i
+    ts.iter().position(|t| t.id == id)
 }
 
 // The mask of the record at place i becomes m, in place; where it is m already, nothing is written.
@@ -40,7 +32,7 @@ pub fn set_mask(ts: &mut [Thread], i: usize, m: SigSet)
     requires { i < length ts.old }
     ensures { ts.new ≡ set ts.old i (with_mask m (get_or ts.old i no_thread)) }
 {
-    if ts[i].mask.0 != m.0 {
+    if ts[i].mask != m {
         ts[i].mask = m;
     }
 }
@@ -49,8 +41,7 @@ pub fn set_mask(ts: &mut [Thread], i: usize, m: SigSet)
 pub fn put_mask(ts: &mut [Thread], id: u64, m: SigSet)
     ensures { ts.new ≡ with_mask_at id m ts.old }
 {
-    let i = find_thread(ts, id);
-    if i < ts.len() {
+    if let Some(i) = find_thread(ts, id) {
         set_mask(ts, i, m);
     }
 }
@@ -62,12 +53,10 @@ fn put_record(ws: &mut [u64], i: usize, t: Thread)
     requires { (length ws.old ≡ thread_table) × (i < thread_places) }
     ensures { ws.new ≡ with_record i t ws.old }
 {
-    let mask = t.mask;
-    let marks = t.marks;
     ws[i * THREAD_WORDS + THREAD_ID] = t.id;
     ws[i * THREAD_WORDS + THREAD_PROCESS] = t.process;
-    ws[i * THREAD_WORDS + THREAD_MASK] = mask.0;
-    ws[i * THREAD_WORDS + THREAD_MARKS] = marks.0;
+    ws[i * THREAD_WORDS + THREAD_MASK] = t.mask.0;
+    ws[i * THREAD_WORDS + THREAD_MARKS] = t.marks.0;
 }
 
 // The record at place i of the words.
@@ -83,22 +72,13 @@ fn record_at(ws: &[u64], i: usize) -> Thread
     }
 }
 
-// The two records are the same.
-fn same(t: Thread, u: Thread) -> bool
-    ensures { result ≡ same_record t u }
-{
-    (t.id == u.id) & (t.process == u.process) & (t.mask.0 == u.mask.0) & (t.marks.0 == u.marks.0)
-}
-
 // The words become those of the records.
 pub fn load_words(ts: &[Thread], ws: &mut [u64])
     requires { (length ts.now ≡ thread_places) × (length ws.old ≡ thread_table) }
     ensures { ws.new ≡ words_of ts.now }
 {
-    let mut i = 0;
-    while i < THREAD_PLACES {
-        put_record(ws, i, ts[i]);
-        i += 1;
+    for (i, t) in ts.iter().enumerate() {
+        put_record(ws, i, *t);
     }
 }
 
@@ -107,12 +87,10 @@ pub fn store_words(ts: &mut [Thread], ws: &[u64])
     requires { (length ts.old ≡ thread_places) × (length ws.now ≡ thread_table) }
     ensures { ts.new ≡ records_of thread_places ws.now }
 {
-    let mut i = 0;
-    while i < THREAD_PLACES {
+    for (i, t) in ts.iter_mut().enumerate() {
         let u = record_at(ws, i);
-        if !same(ts[i], u) {
-            ts[i] = u;
+        if *t != u {
+            *t = u;
         }
-        i += 1;
     }
 }

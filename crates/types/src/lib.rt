@@ -7,7 +7,7 @@ use limits::{EAGAIN, EEXIST, EFAULT, EINVAL, EPERM, ESRCH, SIG_DFL};
 use sigset::SigSet;
 
 // What a process does about a signal: a handler number (0 default, 1 ignore), flags, and a mask.
-#[derive(Clone, Copy)]
+#[derive(Clone, Copy, PartialEq, Eq, Debug)]
 pub struct Action {
     pub handler: u64,
     pub flags: u64,
@@ -24,7 +24,7 @@ impl Action {
 }
 
 // A pending signal with a value: document 01's record.
-#[derive(Clone, Copy)]
+#[derive(Clone, Copy, PartialEq, Eq, Debug)]
 pub struct Siginfo {
     pub process: u32,
     // 0 in the process buffer
@@ -38,7 +38,7 @@ pub struct Siginfo {
 }
 
 // A process to add: its ids, its first thread and that thread's mask.
-#[derive(Clone, Copy)]
+#[derive(Clone, Copy, PartialEq, Eq, Debug)]
 pub struct NewProcess {
     pub id: u32,
     // user ids

@@ -1,17 +1,16 @@
 -- A live id is found, and the fields of the place that is found are those of whom it names. Assumes nothing.
-use Prim.Native.Nat.{ℕ, ◌≤◌, ◌<◌}
+use Prim.Native.Nat.{ℕ, ◌≤◌}
 use mathlib.Core.Path.{◌≡◌, sym, ap, subst, ◌∙◌}
-use mathlib.Core.Bool.{Bool, true, ◌&&◌, ◌||◌}
+use mathlib.Core.Bool.{true, ◌&&◌, ◌||◌}
 use mathlib.Core.List.{List}
-use lib.Dec.{eqb, leb, ltb}
-use lib.ListN.{length, get_or}
+use lib.Dec.{eqb, leb}
+use lib.ListN.{get_or}
 use borrow.Author.Tests.{leb-true}
-use Rattle.limits.specs.Limits.{SIGCONT, process_places, thread_places, largest_id, largest_user, process_stopped}
+use Rattle.limits.specs.Limits.{SIGCONT, largest_id, largest_user, process_stopped}
 use Rattle.limits.specs.Limits.{process_real, process_effective, process_saved, process_session, thread_process}
 use Rattle.limits.specs.Limits.{thread_mask}
-use Rattle.lists.specs.Lists.{any, find}
+use Rattle.lists.specs.Lists.{find}
 use Rattle.lists.proofs.Bools.{and-snd}
-use Rattle.lists.proofs.Finds.{any-inside, find-within}
 use Rattle.sigset.specs.Set.{bits}
 use Rattle.types.specs.declared.Action.{Action}
 use Rattle.rules.specs.Types.{Process, Thread}
@@ -22,7 +21,6 @@ use Rattle.rules.specs.Sending.{may_signal}
 use Rattle.rules.proofs.Marks.{first-held}
 use Rattle.tables.specs.Tables.{processes_of, threads_of, held_processes, held_threads, process_at, thread_at, head_to}
 use Rattle.tables.specs.Tables.{thread_to}
-use Rattle.tables.proofs.Words.{length-held_processes, length-held_threads}
 use Rattle.view.specs.Named.{process_named, thread_named}
 
 -- ---- what fits 32 bits
@@ -36,17 +34,7 @@ pub user-fits : (r n : ℕ) → r ≡ n → good_user n ≡ true → r ≤ large
 unfolding good_user
 user-fits r n e g = subst (λ (k : ℕ). k ≤ largest_user) (sym e) (leb-true n largest_user g)
 
--- what a search tells
-pub found : {A : Type 0} (p : A → Bool) (xs : List A) (n place : ℕ) → length xs ≡ n → place ≡ find p xs
-    → ltb place n ≡ any p xs
-found p xs n place e h = ap (λ (k : ℕ). ltb k n) h ∙ ap (ltb (find p xs)) (sym e) ∙ find-within p xs
-
 module _ (ps : List ℕ) (n place : ℕ) (e : place ≡ find (is_process n) (held_processes ps)) where
-  pub process-place : any (is_process n) (held_processes ps) ≡ true → place < process_places
-  process-place l =
-      subst (λ (k : ℕ). k < process_places) (sym e)
-      (any-inside (is_process n) (held_processes ps) process_places (length-held_processes ps) l)
-
   pub process-there : (process_at ps place).holds ≡ process_named ps n
   process-there = ap (λ (k : ℕ). (process_at ps k).holds) e
       ∙ sym (first-held free_process (is_process n) (processes_of ps))
@@ -78,11 +66,6 @@ module _ (ps : List ℕ) (n place : ℕ) (e : place ≡ find (is_process n) (hel
   action-read s a h = h ∙ ap (λ (p : Process). action_of p s) process-there
 
 module _ (ts : List ℕ) (n place : ℕ) (e : place ≡ find (is_thread n) (held_threads ts)) where
-  pub thread-place : any (is_thread n) (held_threads ts) ≡ true → place < thread_places
-  thread-place l =
-      subst (λ (k : ℕ). k < thread_places) (sym e)
-      (any-inside (is_thread n) (held_threads ts) thread_places (length-held_threads ts) l)
-
   pub thread-there : (thread_at ts place).holds ≡ thread_named ts n
   thread-there = ap (λ (k : ℕ). (thread_at ts k).holds) e ∙ sym (first-held free_thread (is_thread n) (threads_of ts))
 

@@ -2,8 +2,6 @@
 use Prim.Native.Nat.{ℕ}
 use mathlib.Core.Path.{◌≡◌, refl, sym, ap, ap₂, ◌∙◌}
 use mathlib.Core.Bool.{Bool, true, not, ◌||◌}
-use lib.ListN.{length}
-use Rattle.limits.specs.Limits.{thread_table}
 use Rattle.lists.specs.Lists.{any}
 use Rattle.sigset.specs.declared.SigSet.{SigSet}
 use Rattle.sigset.specs.Set.{Signal, has, set_of, union}
@@ -19,9 +17,9 @@ use Rattle.rules.specs.Fitting.{live_queue}
 use Rattle.rules.proofs.Facts.{process-id, owner-live}
 use Rattle.rules.proofs.Marks.{the-thread-id}
 use Rattle.rules.proofs.Queues.{shared-live, own-live}
-use Rattle.tables.specs.Tables.{held_processes, held_threads}
+use Rattle.tables.specs.Tables.{held_processes, held_threads, LiveProcess, LiveThread}
 use Rattle.sound.specs.Lent.{Lent, decoded, view_of, sound_tables}
-use Rattle.sound.proofs.Facts.{store-sound, threads-long, process-listed, thread-listed}
+use Rattle.sound.proofs.Facts.{store-sound, process-present, thread-present}
 use Rattle.view.specs.Named.{process_named, thread_named}
 
 -- ---- by each table alone
@@ -66,17 +64,16 @@ module _ (l : Lent) (e : sound_tables l ≡ true) (t : ℕ) (live : live_thread 
       ∙ process-id (decoded l) (store-sound l e) _ (owner-live (decoded l) (store-sound l e) t live)
 
   -- what asking for its process takes
-  pub owner-known : (length l.threads ≡ thread_table)
-      × ((any (is_thread t) (held_threads l.threads) ≡ true) × (good_id (thread_named l.threads t).process ≡ true))
-  owner-known = (threads-long l e, (thread-listed l t live, owner-good))
+  pub owner-known : LiveThread t l.threads × (good_id (thread_named l.threads t).process ≡ true)
+  owner-known = (thread-present l e t live, owner-good)
 
   module _ (p : ℕ) (o : p ≡ (thread_named l.threads t).process) where
     pub process-is-live : live_process (view_of l) p ≡ true
     process-is-live =
         ap (live_process (view_of l)) (sym (owner-is l t p o)) ∙ owner-live (decoded l) (store-sound l e) t live
 
-    pub process-held : any (is_process p) (held_processes l.processes) ≡ true
-    process-held = process-listed l p process-is-live
+    pub owner-present : LiveProcess p l.processes
+    owner-present = process-present l e p process-is-live
 
     pub own-queue : live_queue (view_of l) (target_queue p t) ≡ true
     own-queue = own-live (view_of l) p process-is-live t live (owner-is l t p o)

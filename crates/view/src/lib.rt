@@ -13,14 +13,14 @@ ghost use Rattle.rules.specs.Sound.{good_id, good_user};
 ghost use Rattle.rules.specs.Sending.{may_signal};
 ghost use Rattle.rules.specs.Refusals.{esrch, no_process_live, no_thread_live};
 ghost use Rattle.queue.specs.Queue.{records_of, signals_in};
-ghost use Rattle.tables.specs.Tables.{held_processes, held_threads};
+ghost use Rattle.tables.specs.Tables.{held_processes, held_threads, LiveProcess, LiveThread};
 ghost use Rattle.sound.specs.Lent.{view_of, WithQueue, lent};
 ghost use Rattle.answers.specs.Step.{rows_on};
 ghost use Rattle.view.specs.Named.{process_named, thread_named};
 
 use limits::{
-    PROCESS_EFFECTIVE, PROCESS_MARKS, PROCESS_PLACES, PROCESS_REAL, PROCESS_SAVED, PROCESS_SESSION,
-    PROCESS_STOPPED, SIGCONT, THREAD_MARKS, THREAD_MASK, THREAD_PLACES, THREAD_PROCESS,
+    PROCESS_EFFECTIVE, PROCESS_MARKS, PROCESS_REAL, PROCESS_SAVED, PROCESS_SESSION, PROCESS_STOPPED,
+    SIGCONT, THREAD_MARKS, THREAD_MASK, THREAD_PROCESS,
 };
 use sigset::SigSet;
 use types::{Action, Errno};
@@ -31,14 +31,14 @@ pub fn is_process(ps: &[u64], id: u32) -> bool
     requires { length ps.now ≡ process_table }
     ensures { result ≡ any (is_process id) (held_processes ps.now) }
 {
-    tables::find_process(ps, id as u64) < PROCESS_PLACES
+    tables::find_process(ps, id as u64).is_some()
 }
 
 pub fn is_thread(ts: &[u64], id: u32) -> bool
     requires { length ts.now ≡ thread_table }
     ensures { result ≡ any (is_thread id) (held_threads ts.now) }
 {
-    tables::find_thread(ts, id as u64) < THREAD_PLACES
+    tables::find_thread(ts, id as u64).is_some()
 }
 
 // Is there a place for one process more?
@@ -46,77 +46,71 @@ pub fn has_process_place(ps: &[u64]) -> bool
     requires { length ps.now ≡ process_table }
     ensures { result ≡ any is_free_process (held_processes ps.now) }
 {
-    tables::free_process(ps) < PROCESS_PLACES
+    tables::free_process(ps).is_some()
 }
 
 pub fn has_thread_place(ts: &[u64]) -> bool
     requires { length ts.now ≡ thread_table }
     ensures { result ≡ any is_free_thread (held_threads ts.now) }
 {
-    tables::free_thread(ts) < THREAD_PLACES
+    tables::free_thread(ts).is_some()
 }
 
 // ---- a live thread
 
 pub fn process_of(ts: &[u64], thread: u32) -> u32
-    requires ts_len { length ts.now ≡ thread_table }
-    requires ts_value { any (is_thread thread) (held_threads ts.now) ≡ true }
-    requires thread_value { good_id (thread_named ts.now thread).process ≡ true }
+    requires live { LiveThread thread ts.now }
+    requires good { good_id (thread_named ts.now thread).process ≡ true }
     ensures { result ≡ (thread_named ts.now thread).process }
 {
-    let place = tables::find_thread(ts, thread as u64);
+    let place = tables::live_thread(ts, thread);
     tables::thread_field_at(ts, place, THREAD_PROCESS) as u32
 }
 
 pub fn mask_of(ts: &[u64], thread: u32) -> SigSet
-    requires ts_len { length ts.now ≡ thread_table }
-    requires ts_value { any (is_thread thread) (held_threads ts.now) ≡ true }
+    requires { LiveThread thread ts.now }
     ensures { result ≡ (thread_named ts.now thread).mask }
 {
-    let place = tables::find_thread(ts, thread as u64);
+    let place = tables::live_thread(ts, thread);
     SigSet(tables::thread_field_at(ts, place, THREAD_MASK))
 }
 
 // ---- a live process
 
 pub fn is_stopped(ps: &[u64], process: u32) -> bool
-    requires ps_len { length ps.now ≡ process_table }
-    requires ps_value { any (is_process process) (held_processes ps.now) ≡ true }
+    requires { LiveProcess process ps.now }
     ensures { result ≡ not (eqb (process_named ps.now process).stopped 0) }
 {
-    let place = tables::find_process(ps, process as u64);
+    let place = tables::live_process(ps, process);
     tables::field_at(ps, place, PROCESS_STOPPED) != 0
 }
 
 pub fn real_of(ps: &[u64], process: u32) -> u32
-    requires ps_len { length ps.now ≡ process_table }
-    requires ps_value { any (is_process process) (held_processes ps.now) ≡ true }
-    requires process_value { good_user (process_named ps.now process).real ≡ true }
+    requires live { LiveProcess process ps.now }
+    requires good { good_user (process_named ps.now process).real ≡ true }
     ensures { result ≡ (process_named ps.now process).real }
 {
-    let place = tables::find_process(ps, process as u64);
+    let place = tables::live_process(ps, process);
     tables::field_at(ps, place, PROCESS_REAL) as u32
 }
 
 pub fn action_of(ps: &[u64], process: u32, signal: u32) -> Action
-    requires ps_len { length ps.now ≡ process_table }
-    requires ps_value { any (is_process process) (held_processes ps.now) ≡ true }
+    requires live { LiveProcess process ps.now }
     requires le_signal { (1 ≤ signal) × (signal ≤ signals) }
     ensures { result ≡ action_of (process_named ps.now process) signal }
 {
-    let place = tables::find_process(ps, process as u64);
+    let place = tables::live_process(ps, process);
     tables::action_at(ps, place, signal)
 }
 
 // May one process signal another?
 pub fn may_signal(ps: &[u64], by: u32, to: u32, signal: u32) -> bool
-    requires ps_len { length ps.now ≡ process_table }
-    requires ps_value { any (is_process by) (held_processes ps.now) ≡ true }
-    requires ps_value_2 { any (is_process to) (held_processes ps.now) ≡ true }
+    requires sender { LiveProcess by ps.now }
+    requires target { LiveProcess to ps.now }
     ensures { result ≡ may_signal (process_named ps.now by) (process_named ps.now to) signal }
 {
-    let sender = tables::find_process(ps, by as u64);
-    let target = tables::find_process(ps, to as u64);
+    let sender = tables::live_process(ps, by);
+    let target = tables::live_process(ps, to);
     let real = tables::field_at(ps, sender, PROCESS_REAL);
     let effective = tables::field_at(ps, sender, PROCESS_EFFECTIVE);
     let target_real = tables::field_at(ps, target, PROCESS_REAL);
@@ -137,10 +131,10 @@ pub fn marks_of(ps: &[u64], ts: &[u64], tb: &[u8], pb: &[u8], process: u32, thre
     ensures { result ≡ set_of ((view_of (lent ps.now ts.now tb.now pb.now)).marks (target_queue process thread)) }
 {
     if thread == 0 {
-        let place = tables::find_process(ps, process as u64);
+        let place = tables::live_process(ps, process);
         return SigSet(tables::field_at(ps, place, PROCESS_MARKS));
     }
-    let place = tables::find_thread(ts, thread as u64);
+    let place = tables::live_thread(ts, thread);
     SigSet(tables::thread_field_at(ts, place, THREAD_MARKS))
 }
 

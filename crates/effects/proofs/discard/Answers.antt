@@ -1,7 +1,7 @@
 -- `discard` meets its contract: both buffers, the marks of the process and those of its threads. Assumes nothing.
 use borrow.Author.Rules.{rules}
 use Rattle.sound.specs.Lent.{view_of, lent}
-use Rattle.sound.proofs.Facts.{processes-long, threads-long, thread-buffer-laid, process-buffer-laid, process-listed}
+use Rattle.sound.proofs.Facts.{threads-long, thread-buffer-laid, process-buffer-laid, process-present}
 use Rattle.effects.proofs.Makes.{fits_one, makes}
 use Rattle.effects.proofs.Fitted.{discard-live}
 use Rattle.effects.proofs.Queues.{discard-store}
@@ -19,10 +19,7 @@ pub change_process_marks-requires : goal.change_process_marks-requires
 change_process_marks-requires c =
     let l = lent c.args.ps.now c.args.ts.now c.args.tb.now c.args.pb.now in
     let live = discard-live (view_of l) c.args.process c.args.signals (fits_one c.requires) in
-    record {
-      ps_len = processes-long l c.requires.sound;
-      ps_value = process-listed l c.args.process live;
-    }
+    process-present l c.requires.sound c.args.process live
 
 pub change_threads_marks-requires : goal.change_threads_marks-requires
 change_threads_marks-requires c =

@@ -1,16 +1,17 @@
 -- `remove_process` meets its contract: its place, those of its threads and both buffers. Assumes nothing.
 use borrow.Author.Rules.{rules}
 use Rattle.sound.specs.Lent.{lent, view_of}
-use Rattle.sound.proofs.Facts.{processes-long, threads-long, thread-buffer-laid, process-buffer-laid}
+use Rattle.sound.proofs.Facts.{processes-long, threads-long, thread-buffer-laid, process-buffer-laid, process-present}
 use Rattle.effects.proofs.Makes.{fits_one, makes}
 use Rattle.effects.proofs.Fitted.{ended-live}
-use Rattle.effects.proofs.Places.{process-inside}
 use Rattle.effects.proofs.Removed.{process-removed}
 use Rattle.effects.proofs.remove_process.Goals as goal
 
-pub find_process-place-requires : goal.find_process-place-requires
-find_process-place-requires c =
-    processes-long (lent c.args.ps.now c.args.ts.now c.args.tb.now c.args.pb.now) c.requires.sound
+pub live_process-place-requires : goal.live_process-place-requires
+live_process-place-requires c =
+    let l = lent c.args.ps.now c.args.ts.now c.args.tb.now c.args.pb.now in
+    let n = c.args.process in
+    process-present l c.requires.sound n (ended-live (view_of l) n (fits_one c.requires))
 
 pub clear_process-requires : goal.clear_process-requires
 clear_process-requires c =
@@ -18,8 +19,7 @@ clear_process-requires c =
     let n = c.args.process in
     let live = ended-live (view_of l) n (fits_one c.requires) in (
       processes-long l c.requires.sound,
-      process-inside l n c.find_process-place.result live
-          c.find_process-place.ensures,
+      c.live_process-place.ensures.inside,
     )
 
 pub vacate_threads-requires : goal.vacate_threads-requires
@@ -43,6 +43,6 @@ returns c =
     let tb' = c.discard.new.b in
     let pb' = c.discard-2.new.b in
     makes c.requires (search rules) (search rules) (search rules) (search rules)
-    (process-removed l c.requires.sound n c.find_process-place.result (lent ps' ts' tb' pb') (fits_one c.requires)
-    c.find_process-place.ensures
+    (process-removed l c.requires.sound n c.live_process-place.result (lent ps' ts' tb' pb') (fits_one c.requires)
+    c.live_process-place.ensures.place
     c.clear_process.ensures c.vacate_threads.ensures c.discard.ensures c.discard-2.ensures)

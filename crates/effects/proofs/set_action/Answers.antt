@@ -2,16 +2,17 @@
 use mathlib.Core.Path.{refl}
 use borrow.Author.Rules.{rules}
 use Rattle.sound.specs.Lent.{view_of, lent}
-use Rattle.sound.proofs.Facts.{processes-long}
+use Rattle.sound.proofs.Facts.{processes-long, process-present}
 use Rattle.effects.proofs.Makes.{fits_one, makes}
 use Rattle.effects.proofs.Fitted.{action-live, action-signal}
-use Rattle.effects.proofs.Places.{process-inside}
 use Rattle.effects.proofs.Fields.{action-store}
 use Rattle.effects.proofs.set_action.Goals as goal
 
-pub find_process-place-requires : goal.find_process-place-requires
-find_process-place-requires c =
-    processes-long (lent c.args.ps.now c.args.ts.now c.args.tb.now c.args.pb.now) c.requires.sound
+pub live_process-place-requires : goal.live_process-place-requires
+live_process-place-requires c =
+    let l = lent c.args.ps.now c.args.ts.now c.args.tb.now c.args.pb.now in
+    let n = c.args.process in
+    process-present l c.requires.sound n (action-live (view_of l) n c.args.signal c.args.a (fits_one c.requires))
 
 pub put_action-requires : goal.put_action-requires
 put_action-requires c =
@@ -21,7 +22,7 @@ put_action-requires c =
     let live = action-live v n c.args.signal c.args.a (fits_one c.requires) in
     let signal = action-signal v n c.args.signal c.args.a (fits_one c.requires) in (
       processes-long l c.requires.sound,
-      (process-inside l n c.find_process-place.result live c.find_process-place.ensures, (signal.low, signal.high)),
+      (c.live_process-place.ensures.inside, (signal.low, signal.high)),
     )
 
 pub returns : goal.returns
@@ -32,5 +33,5 @@ returns c =
     let ps' = c.put_action.new.ps in
     let live = action-live (view_of l) n s c.args.a (fits_one c.requires) in
     makes c.requires (search rules) refl refl refl
-    (action-store l c.requires.sound n c.find_process-place.result live c.find_process-place.ensures ps' s c.args.a
+    (action-store l c.requires.sound n c.live_process-place.result live c.live_process-place.ensures.place ps' s c.args.a
     c.put_action.ensures)

@@ -1,7 +1,9 @@
--- `free_process` meets its contract: a free place has the id 0. Assumes nothing.
-use Rattle.tables.specs.Tables.{has_process_id}
+-- `free_process` meets its contract. Assumes nothing.
+use Rattle.std.proofs.Common.{◌∙◌, refl}
+use Rattle.rules.specs.Store.{is_free_process}
+use Rattle.tables.specs.Tables.{has_id}
+use Rattle.tables.proofs.Places.{process-ids}
 use Rattle.tables.proofs.free_process.Goals as goal
 
 pub returns : goal.returns
-unfolding has_process_id
-returns c = c.process_place.ensures
+returns c = c.place_of.ensures ∙ process-ids is_free_process (has_id 0) (λ _. refl) c.args.ps.now

@@ -1,7 +1,9 @@
--- `free_thread` meets its contract: a free place has the id 0. Assumes nothing.
-use Rattle.tables.specs.Tables.{has_thread_id}
+-- `free_thread` meets its contract. Assumes nothing.
+use Rattle.std.proofs.Common.{◌∙◌, refl}
+use Rattle.rules.specs.Store.{is_free_thread}
+use Rattle.tables.specs.Tables.{has_id}
+use Rattle.tables.proofs.Places.{thread-ids}
 use Rattle.tables.proofs.free_thread.Goals as goal
 
 pub returns : goal.returns
-unfolding has_thread_id
-returns c = c.thread_place.ensures
+returns c = c.place_of.ensures ∙ thread-ids is_free_thread (has_id 0) (λ _. refl) c.args.ts.now
