@@ -136,7 +136,7 @@ fn zero_from(b: &[u8], from: usize) -> bool
     requires { (length b.now ≡ buffer_bytes) × (from ≤ buffer_records) }
     ensures { result ≡ all is_zero (drop from (slots_of b.now)) }
 {
-    zeros::bytes_zero(b, from * RECORD_BYTES, BUFFER_BYTES - from * RECORD_BYTES)
+    zeros::all_zero(&b[from * RECORD_BYTES..])
 }
 
 // Is the buffer laid out? Any bytes of any length are answered.
