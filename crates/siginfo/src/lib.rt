@@ -5,7 +5,7 @@ ghost use Rattle.std.specs.Prelude.{◌≡◌, ◌+◌, ◌*◌, ◌≤◌, ◌<
 ghost use Rattle.std.proofs.lemmas.List.Edits.{sets};
 ghost use Rattle.limits.specs.Limits.{record_bytes};
 ghost use Rattle.lists.specs.Rows.{row};
-ghost use Rattle.siginfo.specs.Bytes.{u32_bytes, u64_bytes, le, encode, siginfo_of, bytes_of};
+ghost use Rattle.siginfo.specs.Bytes.{siginfo_of, bytes_of};
 
 use limits::{
     RECORD_BYTES, RECORD_CODE, RECORD_PROCESS, RECORD_SENDER, RECORD_SIGNAL, RECORD_THREAD,
@@ -18,7 +18,9 @@ fn part<const N: usize>(b: &[u8], at: usize) -> [u8; N]
     requires { at + N ≤ length b.now }
     ensures { result ≡ take N (drop at b.now) }
 {
-    *b[at..].first_chunk().unwrap()
+    let mut bytes = [0; N];
+    bytes.copy_from_slice(&b[at..at + N]);
+    bytes
 }
 
 fn put<const N: usize>(b: &mut [u8], at: usize, bytes: [u8; N])
