@@ -178,7 +178,8 @@ fn process_ok(ps: &[u64], hints: &[u16], notes: &mut [u64], place: usize) -> boo
         (ignored_by (process_at ps.now place).holds).0 (process_at ps.now place) }
 {
     if tables::field_at(ps, place, PROCESS_ID) == 0 {
-        return zeros::words_zero(ps, place * PROCESS_WORDS, PROCESS_WORDS);
+        let at = place * PROCESS_WORDS;
+        return zeros::all_zero(&ps[at..at + PROCESS_WORDS]);
     }
     let g = gather(ps, place);
     let chosen = g.chosen;

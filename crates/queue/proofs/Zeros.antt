@@ -45,10 +45,10 @@ record-zero l e =
 
 -- the slots from a place on, as code looks at their bytes
 pub slots-zero : (b : List ℕ) (from : ℕ) → length b ≡ buffer_bytes → from ≤ buffer_records
-    → all is_nought (take (buffer_bytes - from * record_bytes) (drop (from * record_bytes) b))
+    → all is_nought (take (length b - from * record_bytes) (drop (from * record_bytes) b))
     ≡ all is_zero (drop from (slots_of b))
 unfolding slots_of slots
 slots-zero b from e h =
     ap (all is_nought)
-    (take_all (buffer_bytes - from * record_bytes) (drop (from * record_bytes) b) (rw length-drop (omega arith)))
+    (take_all (length b - from * record_bytes) (drop (from * record_bytes) b) (rw length-drop (omega arith)))
     ∙ sym (all-rows-from siginfo_of record_bytes is_zero is_nought record-zero buffer_records b from e h)

@@ -6,7 +6,7 @@ ghost use Rattle.limits.specs.Limits.{buffer_records, buffer_bytes};
 ghost use Rattle.lists.specs.Lists.{all, find, count, keep};
 ghost use Rattle.lists.proofs.Loops.{cleared};
 ghost use Rattle.types.specs.Values.{no_siginfo};
-ghost use Rattle.rules.specs.View.{in_queue, target_queue};
+ghost use Rattle.rules.specs.View.{in_queue, queue_of, same_queue, target_queue};
 ghost use Rattle.rules.specs.Store.{in_use, on_slots, of_process};
 ghost use Rattle.rules.specs.Sound.{is_zero};
 ghost use Rattle.queue.specs.Queue.{slots_of, records_of, is_laid, appended, remove_at, is_left, signals_in};
@@ -42,10 +42,17 @@ fn in_use(r: Siginfo) -> bool
     r.process != 0
 }
 
+// Is it of the queue of a process, thread 0, or of one of its threads?
+fn is_of(r: Siginfo, process: u32, thread: u32) -> bool
+    ensures { result ≡ same_queue (target_queue process thread) (queue_of r) }
+{
+    (process == r.process) & (thread == r.thread)
+}
+
 fn in_queue(r: Siginfo, process: u32, thread: u32, signal: u32) -> bool
     ensures { result ≡ in_queue (target_queue process thread) signal r }
 {
-    ((process == r.process) & (thread == r.thread)) & (r.signal == signal)
+    is_of(r, process, thread) & (r.signal == signal)
 }
 
 fn is_left(r: Siginfo, discarded: Discarded) -> bool
@@ -55,8 +62,7 @@ fn is_left(r: Siginfo, discarded: Discarded) -> bool
         Discarded::OfProcess(process) => r.process != process,
         Discarded::OfThread(thread) => r.thread != thread,
         Discarded::OfSignals(process, signals) => {
-            let s = r.signal;
-            let hit = SigSet::has(signals, s);
+            let hit = signals.has(r.signal);
             !((r.process == process) & hit)
         }
     }
@@ -69,14 +75,12 @@ pub fn used(b: &[u8]) -> usize
     requires { length b.now ≡ buffer_bytes }
     ensures { result ≡ length (records_of b.now) }
 {
-    let mut n: usize = 0;
-    while n < BUFFER_RECORDS {
+    for n in 0..BUFFER_RECORDS {
         if !in_use(siginfo::read(b, n)) {
             return n;
         }
-        n += 1;
     }
-    n
+    BUFFER_RECORDS
 }
 
 // The index of the oldest record of a queue and signal, or how many are in use.
@@ -85,14 +89,12 @@ pub fn first_of(b: &[u8], process: u32, thread: u32, signal: u32) -> usize
     ensures { result ≡ find (in_queue (target_queue process thread) signal) (records_of b.now) }
 {
     let n = used(b);
-    let mut i: usize = 0;
-    while i < n {
+    for i in 0..n {
         if in_queue(siginfo::read(b, i), process, thread, signal) {
             return i;
         }
-        i += 1;
     }
-    i
+    n
 }
 
 // The signals that have a record of a queue.
@@ -101,14 +103,12 @@ pub fn signals_of(b: &[u8], process: u32, thread: u32) -> SigSet
     ensures { result ≡ signals_in (target_queue process thread) (records_of b.now) }
 {
     let n = used(b);
-    let mut i: usize = 0;
     let mut set = SigSet::EMPTY;
-    while i < n {
+    for i in 0..n {
         let r = siginfo::read(b, i);
-        if (process == r.process) & (thread == r.thread) {
-            set = SigSet::union(set, SigSet::of_signal(r.signal));
+        if is_of(r, process, thread) {
+            set = set.union(SigSet::of_signal(r.signal));
         }
-        i += 1;
     }
     set
 }
@@ -119,14 +119,12 @@ pub fn count_of(b: &[u8], process: u32) -> usize
     ensures { result ≡ count (of_process process) (records_of b.now) }
 {
     let n = used(b);
-    let mut i: usize = 0;
     let mut k: usize = 0;
-    while i < n {
+    for i in 0..n {
         let r = siginfo::read(b, i);
         if r.process == process {
             k += 1;
         }
-        i += 1;
     }
     k
 }
@@ -136,7 +134,7 @@ fn zero_from(b: &[u8], from: usize) -> bool
     requires { (length b.now ≡ buffer_bytes) × (from ≤ buffer_records) }
     ensures { result ≡ all is_zero (drop from (slots_of b.now)) }
 {
-    zeros::bytes_zero(b, from * RECORD_BYTES, BUFFER_BYTES - from * RECORD_BYTES)
+    zeros::all_zero(&b[from * RECORD_BYTES..])
 }
 
 // Is the buffer laid out? Any bytes of any length are answered.
@@ -157,11 +155,8 @@ fn clear(b: &mut [u8], j: usize, n: usize)
     requires { (length b.old ≡ buffer_bytes) × ((j ≤ n) × (n ≤ buffer_records)) }
     ensures { slots_of b.new ≡ cleared no_siginfo (slots_of b.old) j n }
 {
-    let m = n - j;
-    let mut t: usize = 0;
-    while t < m {
-        siginfo::write(b, j + t, NO_SIGINFO);
-        t += 1;
+    for i in j..n {
+        siginfo::write(b, i, NO_SIGINFO);
     }
 }
 
@@ -189,15 +184,13 @@ pub fn discard(b: &mut [u8], discarded: Discarded)
     ensures { slots_of b.new ≡ on_slots (keep (is_left discarded)) (slots_of b.old) }
 {
     let n = used(b);
-    let mut i: usize = 0;
     let mut j: usize = 0;
-    while i < n {
+    for i in 0..n {
         let r = siginfo::read(b, i);
         if is_left(r, discarded) {
             siginfo::write(b, j, r);
             j += 1;
         }
-        i += 1;
     }
     clear(b, j, n);
 }
@@ -209,11 +202,9 @@ pub fn remove(b: &mut [u8], k: usize)
     ensures { slots_of b.new ≡ on_slots (remove_at k) (slots_of b.old) }
 {
     let n = used(b);
-    let mut i: usize = k;
-    while i + 1 < n {
+    for i in k..n - 1 {
         let r = siginfo::read(b, i + 1);
         siginfo::write(b, i, r);
-        i += 1;
     }
     clear(b, n - 1, n);
 }

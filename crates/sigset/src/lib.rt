@@ -19,61 +19,55 @@ impl SigSet {
     pub fn of_signal(s: u32) -> SigSet
         ensures { result ≡ of_signal s }
     {
-        if s == 0 {
-            return SigSet::EMPTY;
-        }
-        if SIGNALS < s {
+        if s == 0 || SIGNALS < s {
             return SigSet::EMPTY;
         }
         SigSet(1u64 << (s - 1))
     }
 
-    pub fn union(a: SigSet, b: SigSet) -> SigSet
-        ensures { result ≡ union a b }
+    pub fn union(self, other: SigSet) -> SigSet
+        ensures { result ≡ union self other }
     {
-        SigSet(a.0 | b.0)
+        SigSet(self.0 | other.0)
     }
 
-    // The members of a that are not in b.
-    pub fn without(a: SigSet, b: SigSet) -> SigSet
-        ensures { result ≡ without a b }
+    // The members that are not in the other.
+    pub fn without(self, other: SigSet) -> SigSet
+        ensures { result ≡ without self other }
     {
-        SigSet(a.0 & !b.0)
+        SigSet(self.0 & !other.0)
     }
 
-    pub fn intersect(a: SigSet, b: SigSet) -> SigSet
-        ensures { result ≡ intersect a b }
+    pub fn intersect(self, other: SigSet) -> SigSet
+        ensures { result ≡ intersect self other }
     {
-        SigSet(a.0 & b.0)
+        SigSet(self.0 & other.0)
     }
 
-    pub fn has(a: SigSet, s: u32) -> bool
-        ensures { result ≡ has a s }
+    pub fn has(self, s: u32) -> bool
+        ensures { result ≡ has self s }
     {
-        if s == 0 {
+        if s == 0 || SIGNALS < s {
             return false;
         }
-        if SIGNALS < s {
-            return false;
-        }
-        (a.0 >> (s - 1)) % 2 == 1
+        (self.0 >> (s - 1)) % 2 == 1
     }
 
     // The set without KILL and STOP: what a mask may hold of it.
-    pub fn maskable(a: SigSet) -> SigSet
-        ensures { result ≡ maskable a }
+    pub fn maskable(self) -> SigSet
+        ensures { result ≡ maskable self }
     {
-        SigSet::without(a, SigSet::UNMASKABLE)
+        self.without(SigSet::UNMASKABLE)
     }
 
-    // The lowest member, or 0 where there is none.
-    pub fn lowest(a: SigSet) -> u32
-        ensures { result ≡ lowest a }
+    // The lowest member, or 0 where there is none: the C interface says none so.
+    pub fn lowest(self) -> u32
+        ensures { result ≡ lowest self }
     {
-        if a.0 == 0 {
+        if self.0 == 0 {
             return 0;
         }
-        u64::trailing_zeros(a.0) + 1
+        self.0.trailing_zeros() + 1
     }
 }
 
@@ -81,5 +75,5 @@ impl SigSet {
 pub fn rrezhbuta_lowest(set: u64) -> u32
     ensures { result ≡ lowest (bits set) }
 {
-    SigSet::lowest(SigSet(set))
+    SigSet(set).lowest()
 }

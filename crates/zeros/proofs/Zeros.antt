@@ -1,60 +1,31 @@
--- Words, or bytes, put together by `or`: what is put together is zero exactly if each of them is; and parts taken block
--- by block. Assumes nothing.
-use Prim.Native.Nat.{ℕ, ◌+◌, ◌-◌, ◌≤◌, ◌<◌}
-use mathlib.Core.Path.{◌≡◌, sym, ap, ◌∙◌}
-use mathlib.Core.Bool.{Bool, true, false, ◌&&◌, and-true, and-false}
-use mathlib.Core.List.{List, []}
-use native.Mathlib.Omega.{arith}
+-- What is put together by `or` is zero exactly if each part is; and a list taken block by block. Assumes nothing.
+use Rattle.std.proofs.Common.{◌≡◌, ◌∙◌, sym, ap, ℕ, ◌+◌, ◌<◌, Bool, true, false, ◌&&◌, List, length, take, drop, get_or}
+use Rattle.std.proofs.Common.{take-append-drop}
+use Rattle.std.specs.List.{IsSplitAt}
 use lib.Bits.{bit_or}
-use lib.Dec.{eqb}
-use lib.ListN.{length, take, drop, get_or}
-use lib.Seq.{take_all, take-add, drop-drop}
 use Rattle.lists.specs.Lists.{all}
 use Rattle.lists.proofs.Bits.{or-zero}
 use Rattle.lists.proofs.Lists.{all_append}
-use Rattle.lists.proofs.Loops.{all_none, all-next}
-use Rattle.lists.proofs.Rows.{part-long, part_at}
+use Rattle.lists.proofs.Loops.{all-next}
 use Rattle.zeros.specs.Zeros.{is_nought}
 
--- the first i of n words from a place on, put together
-abbrev pub Together : List ℕ → (from n some i : ℕ) → Type 0
-Together ws from n some i = eqb some 0 ≡ all is_nought (take i (take n (drop from ws)))
+pub or_nought : (a b : ℕ) → is_nought (bit_or a b) ≡ (is_nought a && is_nought b)
+unfolding is_nought
+or_nought = or-zero
 
-module _ (ws : List ℕ) (from n : ℕ) where
-  pub together-none : Together ws from n 0 0
-  together-none = sym (all_none is_nought 0 [])
+module _ {A : Type 0} (f : A → Bool) (xs : List A) where
+  -- element i is read
+  pub all-more : (i : ℕ) (x : A) → i < length xs → x ≡ get_or xs i x
+      → all f (take (i + 1) xs) ≡ (all f (take i xs) && f x)
+  all-more i x h e = all-next f x xs i h ∙ ap (λ y. all f (take i xs) && f y) (sym e)
 
-  module _ (some i : ℕ) (h : from + n ≤ length ws) (e : Together ws from n some i) where
-    pub together-more : i < n → Together ws from n (bit_or some (get_or ws (from + i) 0)) (i + 1)
-    unfolding is_nought
-    together-more k =
-        let long = part-long ws from n h in
-        or-zero some (get_or ws (from + i) 0)
-        ∙ ap (λ b. b && eqb (get_or ws (from + i) 0) 0) e
-        ∙ ap (λ w. all is_nought (take i (take n (drop from ws))) && eqb w 0) (sym (part_at ws from n h i k))
-        ∙ sym (all-next is_nought 0 (take n (drop from ws)) i (omega arith))
+  module _ (n : ℕ) (front behind : List A) (cut : IsSplitAt xs n front behind) where
+    parts : all f xs ≡ (all f front && all f behind)
+    parts =
+        rw (cut.1, cut.2) (ap (all f) (sym (take-append-drop n xs)) ∙ all_append f (take n xs) (drop n xs))
 
-    pub together-all : n ≤ i → eqb some 0 ≡ all is_nought (take n (drop from ws))
-    together-all k =
-        let long = part-long ws from n h in e ∙ ap (all is_nought) (take_all i (take n (drop from ws)) (omega arith))
+    pub all-front : true ≡ all f front → all f xs ≡ all f behind
+    all-front e = rw (← e) at parts
 
--- are n words from a place on zero?
-abbrev pub zeroes : List ℕ → (from n : ℕ) → Bool
-zeroes ws from n = all is_nought (take n (drop from ws))
-
-module _ (ws : List ℕ) (from n left k : ℕ) (h : k ≤ left) (e : zeroes ws from n ≡ zeroes ws from left) where
-  -- all but the last k of what is left, then these
-  last : zeroes ws from n ≡ (zeroes ws from (left - k) && zeroes ws (from + (left - k)) k)
-  last =
-      let m : left ≡ left - k + k = omega arith in
-      e
-      ∙ ap (zeroes ws from) m
-      ∙ ap (all is_nought) (take-add (left - k) k (drop from ws))
-      ∙ all_append is_nought (take (left - k) (drop from ws)) (take k (drop (left - k) (drop from ws)))
-      ∙ ap (λ l. zeroes ws from (left - k) && all is_nought (take k l)) (drop-drop (left - k) from ws)
-
-  pub last-zero : zeroes ws (from + (left - k)) k ≡ true → zeroes ws from n ≡ zeroes ws from (left - k)
-  last-zero t = last ∙ ap (λ b. zeroes ws from (left - k) && b) t ∙ and-true (zeroes ws from (left - k))
-
-  pub last-not : zeroes ws (from + (left - k)) k ≡ false → zeroes ws from n ≡ false
-  last-not t = last ∙ ap (λ b. zeroes ws from (left - k) && b) t ∙ and-false (zeroes ws from (left - k))
+    pub not-front : false ≡ all f front → all f xs ≡ false
+    not-front e = rw (← e) at parts

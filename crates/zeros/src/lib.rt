@@ -1,66 +1,110 @@
-// Are the words, or the bytes, of a part all zero? Each loop goes to its end and puts together what it reads,
+// Are the words, or the bytes, of a slice all zero? A block is read to its end and what it holds put together,
 // so that the compiler reads many at once.
 #![tactic(auto)]
 
-ghost use Rattle.std.specs.Prelude.{◌≡◌, ◌+◌, ◌≤◌, length, take, drop};
+ghost use Rattle.std.specs.Prelude.{◌≡◌, ◌&&◌, ◌<◌, ℕ, Bool, true};
+ghost use Rattle.std.proofs.Common.{arith, refl};
 ghost use Rattle.lists.specs.Lists.{all};
-ghost use Rattle.zeros.specs.Zeros.{is_nought};
+ghost use Rattle.zeros.specs.Zeros.{is_nought, zero_is_nought};
+ghost use Rattle.zeros.specs.declared.TheConstants.{BLOCK_WORDS, BLOCK_BYTES};
 
-// A part of a constant length is read best: a long one is taken block by block, from its end.
-const BLOCK_BYTES: usize = 1024;
-
+// A part of a constant length is read best.
 const BLOCK_WORDS: usize = 128;
 
-fn words_part_zero(ws: &[u64], from: usize, n: usize) -> bool
-    requires { from + n ≤ length ws.now }
-    ensures { result ≡ all is_nought (take n (drop from ws.now)) }
-{
-    let mut some: u64 = 0;
-    let mut i = 0;
-    while i < n {
-        some = some | ws[from + i];
-        i += 1;
-    }
-    some == 0
+const BLOCK_BYTES: usize = 1024;
+
+// A word or a byte, and how many make a block.
+pub trait Word: Copy {
+    const ZERO: Self;
+
+    const BLOCK: usize;
+
+    ghost ZERO: { Self };
+
+    ghost BLOCK: { ℕ };
+
+    ghost is_zero: { Self → Bool };
+
+    fn or(self, other: Self) -> Self
+        ensures { is_zero result ≡ (is_zero self && is_zero other) };
+
+    fn is_zero(self) -> bool
+        ensures { result ≡ is_zero self };
+
+    ghost zero_is_zero: { is_zero ZERO ≡ true };
+
+    ghost block_is_some: { 0 < BLOCK };
 }
 
-pub fn words_zero(ws: &[u64], from: usize, n: usize) -> bool
-    requires { from + n ≤ length ws.now }
-    ensures { result ≡ all is_nought (take n (drop from ws.now)) }
+#[tactic(auto, using(crate::proofs::Zeros::or_nought), unfolding(crate::specs::Zeros::is_nought))]
+impl Word for u64 {
+    const ZERO: u64 = 0;
+
+    const BLOCK: usize = BLOCK_WORDS;
+
+    ghost ZERO = { 0 };
+
+    ghost BLOCK = { BLOCK_WORDS };
+
+    ghost is_zero = { is_nought };
+
+    ghost zero_is_zero = { zero_is_nought };
+
+    ghost block_is_some = { Prim.omega arith };
+
+    fn or(self, other: u64) -> u64 {
+        self | other
+    }
+
+    fn is_zero(self) -> bool {
+        self == 0
+    }
+}
+
+#[tactic(auto, using(crate::proofs::Zeros::or_nought), unfolding(crate::specs::Zeros::is_nought))]
+impl Word for u8 {
+    const ZERO: u8 = 0;
+
+    const BLOCK: usize = BLOCK_BYTES;
+
+    ghost ZERO = { 0 };
+
+    ghost BLOCK = { BLOCK_BYTES };
+
+    ghost is_zero = { is_nought };
+
+    ghost zero_is_zero = { zero_is_nought };
+
+    ghost block_is_some = { Prim.omega arith };
+
+    fn or(self, other: u8) -> u8 {
+        self | other
+    }
+
+    fn is_zero(self) -> bool {
+        self == 0
+    }
+}
+
+fn block_zero<T: Word>(ws: &[T]) -> bool
+    ensures { result ≡ all T.is_zero ws.now }
 {
-    let mut left = n;
-    while BLOCK_WORDS <= left {
-        left -= BLOCK_WORDS;
-        if !words_part_zero(ws, from + left, BLOCK_WORDS) {
+    let mut some = T::ZERO;
+    for w in ws {
+        some = some.or(*w);
+    }
+    some.is_zero()
+}
+
+pub fn all_zero<T: Word>(ws: &[T]) -> bool
+    ensures { result ≡ all T.is_zero ws.now }
+{
+    let mut rest = ws;
+    while let Some((block, behind)) = rest.split_at_checked(T::BLOCK) {
+        if !block_zero(block) {
             return false;
         }
+        rest = behind;
     }
-    words_part_zero(ws, from, left)
-}
-
-fn bytes_part_zero(b: &[u8], from: usize, n: usize) -> bool
-    requires { from + n ≤ length b.now }
-    ensures { result ≡ all is_nought (take n (drop from b.now)) }
-{
-    let mut some: u8 = 0;
-    let mut i = 0;
-    while i < n {
-        some = some | b[from + i];
-        i += 1;
-    }
-    some == 0
-}
-
-pub fn bytes_zero(b: &[u8], from: usize, n: usize) -> bool
-    requires { from + n ≤ length b.now }
-    ensures { result ≡ all is_nought (take n (drop from b.now)) }
-{
-    let mut left = n;
-    while BLOCK_BYTES <= left {
-        left -= BLOCK_BYTES;
-        if !bytes_part_zero(b, from + left, BLOCK_BYTES) {
-            return false;
-        }
-    }
-    bytes_part_zero(b, from, left)
+    block_zero(rest)
 }

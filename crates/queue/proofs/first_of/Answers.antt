@@ -1,6 +1,6 @@
 -- `first_of` meets its contract. The invariant: none of the records before i is of the queue and the signal.
 -- Assumes nothing.
-use mathlib.Core.Path.{sym, ◌∙◌}
+use mathlib.Core.Path.{◌≡◌, sym, ◌∙◌}
 use Prim.Native.Nat.{◌<◌}
 use native.Mathlib.Omega.{arith}
 use lib.ListN.{length}
@@ -45,7 +45,10 @@ loop-i-preserved c =
 
 pub returns : goal.returns
 returns c =
-    sym
+    let i = c.loop-i.i in
+    let e : c.used-n.result ≡ i = omega arith in
+    e
+    ∙ sym
     (find-done (in_queue (target_queue c.args.process c.args.thread) c.args.signal) no_siginfo
-    (records_of c.args.b.now) c.loop-i.i
+    (records_of c.args.b.now) i
     (omega (arith, c.loop-i-test.false, c.used-n.ensures)) c.loop-i.invariant.2)

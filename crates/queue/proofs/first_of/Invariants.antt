@@ -1,7 +1,7 @@
 -- `first_of` meets its contract. The invariant: none of the records before i is of the queue and the signal.
 -- Assumes nothing.
 use mathlib.Core.Path.{◌≡◌}
-use Prim.Native.Nat.{◌+◌, ◌-◌, ◌≤◌}
+use Prim.Native.Nat.{◌+◌, ◌≤◌}
 use lib.ListN.{drop}
 use Rattle.limits.specs.Limits.{buffer_records}
 use Rattle.lists.specs.Lists.{find}
@@ -15,6 +15,3 @@ invariant-loop-i l =
     × (l.i ≤ l.n)
     × (find (in_queue (target_queue l.process l.thread) l.signal) (records_of l.b)
     ≡ l.i + find (in_queue (target_queue l.process l.thread) l.signal) (drop l.i (records_of l.b)))
-
-abbrev pub decreases-loop-i : goal.decreases-loop-i
-decreases-loop-i l = l.n - l.i

@@ -6,12 +6,12 @@ use native.Mathlib.Omega.{arith}
 use lib.ListN.{length, get_or}
 use Rattle.sigset.specs.Set.{union}
 use Rattle.types.specs.Values.{no_siginfo}
-use Rattle.rules.specs.View.{same_queue, target_queue}
+use Rattle.rules.specs.View.{target_queue}
 use Rattle.queue.specs.Queue.{records_of}
 use Rattle.queue.proofs.Buffer.{length-records_of, record-read}
 use Rattle.queue.proofs.Signals.{signals-none, signals-here, signals-other, signals-done}
 use Rattle.queue.proofs.signals_of.Goals as goal
-use Rattle.queue.proofs.signals_of.Goals.{then-process-r, else-process-r}
+use Rattle.queue.proofs.signals_of.Goals.{then-is_of, else-is_of}
 
 pub loop-i-init : goal.loop-i-init
 loop-i-init c =
@@ -22,7 +22,6 @@ loop-i-init c =
     )
 
 pub loop-i-preserved : goal.loop-i-preserved
-unfolding same_queue
 loop-i-preserved c =
     let b = c.args.b.now in
     let q = target_queue c.args.process c.args.thread in
@@ -33,11 +32,11 @@ loop-i-preserved c =
     let e : r ≡ get_or rs i no_siginfo = c.read-r.ensures ∙ sym (record-read b i no_siginfo h) in (
       omega arith,
       omega arith,
-      elim c.if-process-r.branch [
-        | then-process-r w ↦
+      elim c.if-is_of.branch [
+        | then-is_of w ↦
             w.set-is ∙ w.union-set.ensures ∙ ap₂ union c.loop-i.invariant.2 w.of_signal.ensures
-            ∙ signals-here rs i h r e q w.if-process-r.true
-        | else-process-r w ↦ w.set-is ∙ c.loop-i.invariant.2 ∙ sym (signals-other rs i h r e q w.if-process-r.false)
+            ∙ signals-here rs i h r e q (sym c.is_of.ensures ∙ w.if-is_of.true)
+        | else-is_of w ↦ w.set-is ∙ c.loop-i.invariant.2 ∙ sym (signals-other rs i h r e q (sym c.is_of.ensures ∙ w.if-is_of.false))
       ],
     )
 

@@ -1,5 +1,5 @@
--- `used` meets its contract. The invariant: the slots before n are in use. Assumes nothing.
-use mathlib.Core.Path.{◌∙◌}
+-- `used` meets its contract. The invariant: the slots before i are in use. Assumes nothing.
+use mathlib.Core.Path.{◌≡◌, ◌∙◌}
 use Prim.Native.Nat.{◌<◌}
 use native.Mathlib.Omega.{arith}
 use lib.ListN.{length}
@@ -18,25 +18,28 @@ loop-n-init c = (omega arith, leading-start in_use no_siginfo (slots_of c.args.b
 pub returns-then-not-in_use : goal.returns-then-not-in_use
 returns-then-not-in_use c =
     let b = c.args.b.now in
-    let n = c.loop-n.n in
-    let h : n < buffer_records = omega (arith, c.loop-n-test.true) in
-    leading-here in_use no_siginfo (slots_of b) n (length (records_of b)) (in-slots b n h) c.loop-n.invariant.1
-    (slot-tested in_use b n c.read.ensures c.in_use.ensures h
+    let i = c.loop-n.n in
+    let h : i < buffer_records = omega (arith, c.loop-n-test.true) in
+    leading-here in_use no_siginfo (slots_of b) i (length (records_of b)) (in-slots b i h) c.loop-n.invariant.1
+    (slot-tested in_use b i c.read.ensures c.in_use.ensures h
     ∙ c.if-not-in_use.true)
 
 pub loop-n-preserved : goal.loop-n-preserved
 loop-n-preserved c =
     let b = c.args.b.now in
-    let n = c.loop-n.n in
-    let h : n < buffer_records = omega (arith, c.loop-n-test.true) in (
+    let i = c.loop-n.n in
+    let h : i < buffer_records = omega (arith, c.loop-n-test.true) in (
       omega arith,
-      leading-more in_use no_siginfo (slots_of b) n (length (records_of b)) (in-slots b n h) c.loop-n.invariant.1
-          (slot-tested in_use b n c.read.ensures c.in_use.ensures h
+      leading-more in_use no_siginfo (slots_of b) i (length (records_of b)) (in-slots b i h) c.loop-n.invariant.1
+          (slot-tested in_use b i c.read.ensures c.in_use.ensures h
           ∙ c.if-not-in_use.false),
     )
 
 pub returns : goal.returns
 returns c =
     let b = c.args.b.now in
-    leading-done in_use no_siginfo (slots_of b) c.loop-n.n (length (records_of b))
-    (omega (arith, length-slots_of b)) c.loop-n.invariant.1
+    let i = c.loop-n.n in
+    let e : buffer_records ≡ i = omega arith in
+    e
+    ∙ leading-done in_use no_siginfo (slots_of b) i (length (records_of b)) (omega (arith, length-slots_of b))
+    c.loop-n.invariant.1

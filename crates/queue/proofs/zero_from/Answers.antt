@@ -6,4 +6,4 @@ use Rattle.queue.proofs.zero_from.Goals as goal
 
 pub returns : goal.returns
 returns c =
-    c.bytes_zero.ensures ∙ slots-zero c.args.b.now c.args.from (omega arith) (omega arith)
+    c.all_zero.ensures ∙ slots-zero c.args.b.now c.args.from (omega arith) (omega arith)

@@ -4,4 +4,4 @@ use Rattle.sigset.proofs.Laws.{and_is}
 use Rattle.sigset.proofs.SigSet.intersect.Goals as goal
 
 pub returns : goal.returns
-returns c = and_is c.args.a c.args.b (omega arith) (omega arith)
+returns c = and_is c.args.self c.args.other (omega arith) (omega arith)

@@ -11,4 +11,4 @@ unfolding maskable
 less a u r e is = e ∙ ap (without a) is
 
 pub returns : goal.returns
-returns c = less c.args.a _ _ c.without.ensures (sym unmaskable-is)
+returns c = less c.args.self _ _ c.without.ensures (sym unmaskable-is)

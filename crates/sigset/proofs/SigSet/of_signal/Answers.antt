@@ -8,12 +8,14 @@ use Rattle.limits.specs.Limits.{signals}
 use Rattle.sigset.specs.Set.{bits}
 use Rattle.sigset.proofs.Laws.{of_none, of_is}
 use Rattle.sigset.proofs.SigSet.of_signal.Goals as goal
+use Rattle.sigset.proofs.SigSet.of_signal.Goals.{then-s-eq0-via-then-s-eq0, then-s-eq0-via-else-s-eq0+then-s-gt-SIGNALS}
 
 pub returns-then-s-eq0 : goal.returns-then-s-eq0
-returns-then-s-eq0 c = sym (of_none c.args.s (λ h. omega arith))
-
-pub returns-then-s-gt-SIGNALS : goal.returns-then-s-gt-SIGNALS
-returns-then-s-gt-SIGNALS c = sym (of_none c.args.s (λ h. omega arith))
+returns-then-s-eq0 c =
+    elim c.then-s-eq0.branch [
+      | then-s-eq0-via-then-s-eq0 w ↦ sym (of_none c.args.s (λ h. omega arith))
+      | then-s-eq0-via-else-s-eq0+then-s-gt-SIGNALS w ↦ sym (of_none c.args.s (λ h. omega arith))
+    ]
 
 pub returns : goal.returns
 returns c =

@@ -4,4 +4,4 @@ use Rattle.sigset.proofs.Laws.{or_is}
 use Rattle.sigset.proofs.SigSet.union.Goals as goal
 
 pub returns : goal.returns
-returns c = or_is c.args.a c.args.b (omega arith) (omega arith)
+returns c = or_is c.args.self c.args.other (omega arith) (omega arith)

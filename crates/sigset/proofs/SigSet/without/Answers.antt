@@ -4,4 +4,4 @@ use Rattle.sigset.proofs.Laws.{and-not-is}
 use Rattle.sigset.proofs.SigSet.without.Goals as goal
 
 pub returns : goal.returns
-returns c = and-not-is c.args.a c.args.b (omega arith) (omega arith)
+returns c = and-not-is c.args.self c.args.other (omega arith) (omega arith)
