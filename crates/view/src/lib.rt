@@ -19,8 +19,8 @@ ghost use Rattle.answers.specs.Step.{rows_on};
 ghost use Rattle.view.specs.Named.{process_named, thread_named};
 
 use limits::{
-    PROCESS_EFFECTIVE, PROCESS_MARKS, PROCESS_REAL, PROCESS_SAVED, PROCESS_SESSION, PROCESS_STOPPED,
-    SIGCONT, THREAD_MARKS, THREAD_MASK, THREAD_PROCESS,
+    PROCESS_EFFECTIVE, PROCESS_MARKS, PROCESS_REAL, PROCESS_SAVED, PROCESS_SESSION,
+    PROCESS_STOPPED, SIGCONT, THREAD_MARKS, THREAD_MASK, THREAD_PROCESS,
 };
 use sigset::SigSet;
 use types::{Action, Errno};
