@@ -175,10 +175,10 @@ pub fn drop_oldest(
         (lent ps.now ts.now tb.old pb.old) (lent ps.now ts.now tb.new pb.new) }
 {
     if thread == 0 {
-        let k = queue::first_of(pb, process, thread, signal);
+        let k = queue::first_of(pb, process, thread, signal).unwrap();
         queue::remove(pb, k);
     } else {
-        let k = queue::first_of(tb, process, thread, signal);
+        let k = queue::first_of(tb, process, thread, signal).unwrap();
         queue::remove(tb, k);
     }
 }

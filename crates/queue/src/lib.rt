@@ -1,9 +1,9 @@
 // A buffer of records: those in use come first, oldest first, and the rest is zero.
 #![tactic(auto)]
 
-ghost use Rattle.std.specs.Prelude.{◌≡◌, true, ◌≤◌, ◌<◌, length, drop, replicate};
+ghost use Rattle.std.specs.Prelude.{◌≡◌, true, ◌≤◌, ◌<◌, length, drop, replicate, position};
 ghost use Rattle.limits.specs.Limits.{buffer_records, buffer_bytes};
-ghost use Rattle.lists.specs.Lists.{all, find, count, keep};
+ghost use Rattle.lists.specs.Lists.{all, count, keep};
 ghost use Rattle.lists.proofs.Loops.{cleared};
 ghost use Rattle.types.specs.Values.{no_siginfo};
 ghost use Rattle.rules.specs.View.{in_queue, queue_of, same_queue, target_queue};
@@ -83,18 +83,17 @@ pub fn used(b: &[u8]) -> usize
     BUFFER_RECORDS
 }
 
-// The index of the oldest record of a queue and signal, or how many are in use.
-pub fn first_of(b: &[u8], process: u32, thread: u32, signal: u32) -> usize
+// The index of the oldest record of a queue and signal.
+pub fn first_of(b: &[u8], process: u32, thread: u32, signal: u32) -> Option<usize>
     requires { length b.now ≡ buffer_bytes }
-    ensures { result ≡ find (in_queue (target_queue process thread) signal) (records_of b.now) }
+    ensures { result ≡ position (in_queue (target_queue process thread) signal) (records_of b.now) }
 {
-    let n = used(b);
-    for i in 0..n {
+    for i in 0..used(b) {
         if in_queue(siginfo::read(b, i), process, thread, signal) {
-            return i;
+            return Some(i);
         }
     }
-    n
+    None
 }
 
 // The signals that have a record of a queue.

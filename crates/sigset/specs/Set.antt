@@ -1,6 +1,7 @@
 -- Signal sets, by membership. Document 01, "Signals and sets": a set is 64 bits; signal s is bit s-1.
 -- Every definition computes on numerals.
 use Rattle.std.specs.Prelude.{Bool, false, not, ◌&&◌, ◌||◌, cond, ℕ, zero, suc, ◌+◌, ◌*◌, ◌/◌, ◌%◌, ◌^◌, ◌≤◌, eqb}
+use Rattle.std.specs.Prelude.{Option, Some, None}
 use Rattle.limits.specs.Limits.{signals, SIGKILL, SIGSTOP}
 use Rattle.sigset.specs.declared.SigSet.{SigSet}
 
@@ -72,3 +73,8 @@ lowest_of p = lowest_in p signals
 -- the lowest member, or 0
 unfoldable pub lowest : SigSet → ℕ
 lowest a = lowest_of (has a)
+
+-- a number as an option: 0 is none
+abbrev pub nonzero : ℕ → Option ℕ
+nonzero zero = None
+nonzero (suc n) = Some (suc n)

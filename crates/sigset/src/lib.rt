@@ -2,7 +2,7 @@
 #![tactic(auto)]
 
 ghost use Rattle.std.specs.Prelude.{◌≡◌};
-ghost use Rattle.sigset.specs.Set.{has, union, without, intersect, maskable, of_signal, lowest, bits};
+ghost use Rattle.sigset.specs.Set.{has, union, without, intersect, maskable, of_signal, lowest, nonzero, bits};
 
 use limits::{SIGKILL, SIGNALS, SIGSTOP};
 
@@ -60,20 +60,19 @@ impl SigSet {
         self.without(SigSet::UNMASKABLE)
     }
 
-    // The lowest member, or 0 where there is none: the C interface says none so.
-    pub fn lowest(self) -> u32
-        ensures { result ≡ lowest self }
+    pub fn lowest(self) -> Option<u32>
+        ensures { result ≡ nonzero (lowest self) }
     {
         if self.0 == 0 {
-            return 0;
+            return None;
         }
-        self.0.trailing_zeros() + 1
+        Some(self.0.trailing_zeros() + 1)
     }
 }
 
-// The same under the name that a host calls; sigset_c is what it links.
+// The lowest member under the name that a host calls, 0 where there is none; sigset_c is what it links.
 pub fn rrezhbuta_lowest(set: u64) -> u32
     ensures { result ≡ lowest (bits set) }
 {
-    SigSet(set).lowest()
+    SigSet(set).lowest().unwrap_or(0)
 }

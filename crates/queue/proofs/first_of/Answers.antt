@@ -4,7 +4,8 @@ use mathlib.Core.Path.{◌≡◌, sym, ◌∙◌}
 use Prim.Native.Nat.{◌<◌}
 use native.Mathlib.Omega.{arith}
 use lib.ListN.{length}
-use Rattle.lists.proofs.Loops.{find_none, find-more, find-here, find-done}
+use Rattle.lists.proofs.Loops.{find_none, find-more}
+use Rattle.lists.proofs.Finds.{position-here, position-nowhere}
 use Rattle.types.specs.Values.{no_siginfo}
 use Rattle.rules.specs.View.{in_queue, target_queue}
 use Rattle.queue.specs.Queue.{records_of}
@@ -25,9 +26,9 @@ returns-then-in_queue c =
     let q = in_queue (target_queue c.args.process c.args.thread) c.args.signal in
     let i = c.loop-i.i in
     let h : i < length (records_of b) =
-    omega (arith, c.loop-i-test.true, c.used-n.ensures) in
+    omega (arith, c.loop-i-test.true, c.used-i-end.ensures) in
     sym
-    (find-here q no_siginfo (records_of b) i h c.loop-i.invariant.2
+    (position-here q no_siginfo (records_of b) i h c.loop-i.invariant.2
     (record-tested q b i c.read.ensures c.in_queue.ensures h ∙ c.if-in_queue.true))
 
 pub loop-i-preserved : goal.loop-i-preserved
@@ -36,7 +37,7 @@ loop-i-preserved c =
     let q = in_queue (target_queue c.args.process c.args.thread) c.args.signal in
     let i = c.loop-i.i in
     let h : i < length (records_of b) =
-    omega (arith, c.loop-i-test.true, c.used-n.ensures) in (
+    omega (arith, c.loop-i-test.true, c.used-i-end.ensures) in (
       omega arith,
       omega arith,
       find-more q no_siginfo (records_of b) i h c.loop-i.invariant.2
@@ -45,10 +46,7 @@ loop-i-preserved c =
 
 pub returns : goal.returns
 returns c =
-    let i = c.loop-i.i in
-    let e : c.used-n.result ≡ i = omega arith in
-    e
-    ∙ sym
-    (find-done (in_queue (target_queue c.args.process c.args.thread) c.args.signal) no_siginfo
-    (records_of c.args.b.now) i
-    (omega (arith, c.loop-i-test.false, c.used-n.ensures)) c.loop-i.invariant.2)
+    sym
+    (position-nowhere (in_queue (target_queue c.args.process c.args.thread) c.args.signal) no_siginfo
+    (records_of c.args.b.now) c.loop-i.i
+    (omega (arith, c.loop-i-test.false, c.used-i-end.ensures)) c.loop-i.invariant.2)

@@ -11,7 +11,7 @@ use Rattle.queue.proofs.first_of.Given as goal
 
 abbrev pub invariant-loop-i : goal.invariant-loop-i
 invariant-loop-i l =
-    (l.n ≤ buffer_records)
-    × (l.i ≤ l.n)
+    (l.i-end ≤ buffer_records)
+    × (l.i ≤ l.i-end)
     × (find (in_queue (target_queue l.process l.thread) l.signal) (records_of l.b)
     ≡ l.i + find (in_queue (target_queue l.process l.thread) l.signal) (drop l.i (records_of l.b)))
