@@ -3,7 +3,7 @@ use mathlib.Core.Path.{sym, ap, ◌∙◌}
 use native.Mathlib.Omega.{arith}
 use Rattle.siginfo.proofs.Numbers.{bytes-each}
 use Rattle.rules.specs.Types.{sigaction}
-use Rattle.sound.proofs.Facts.{processes-long, process-listed}
+use Rattle.sound.proofs.Facts.{process-present}
 use Rattle.sound.specs.Lent.{lent}
 use Rattle.answers.proofs.Endings.{refused-ends}
 use Rattle.actions.specs.Given.{new_action}
@@ -30,8 +30,7 @@ action_of-old-requires c =
     let e = sym c.action_refusal-n.ensures ∙ c.if-n-ne0.false in
     let d = action-accepted l p s new e in
     record {
-      ps_len = processes-long l d.sound;
-      ps_value = process-listed l p d.live;
+      live = process-present l d.sound p d.live;
       le_signal = asked-signal s new d.fine;
     }
 

@@ -3,7 +3,7 @@ use mathlib.Core.Path.{refl, sym, ap, ◌∙◌}
 use native.Mathlib.Omega.{arith}
 use Rattle.siginfo.proofs.Numbers.{bytes-each}
 use Rattle.rules.specs.Types.{sigmask}
-use Rattle.sound.proofs.Facts.{threads-long, thread-listed}
+use Rattle.sound.proofs.Facts.{thread-present}
 use Rattle.sound.specs.Lent.{lent}
 use Rattle.answers.proofs.Endings.{refused-ends}
 use Rattle.masks.specs.Given.{new_set}
@@ -28,10 +28,7 @@ mask_of-old-requires c =
     let way = c.args.way in
     let set = new_set c.args.set in
     let e = sym c.mask_refusal-n.ensures ∙ c.if-n-ne0.false in
-    record {
-      ts_len = threads-long l (mask-sound l t way set e);
-      ts_value = thread-listed l t (mask-live l t way set e);
-    }
+    thread-present l (mask-sound l t way set e) t (mask-live l t way set e)
 
 pub set_mask-requires : goal.set_mask-requires
 unfolding new_set
