@@ -13,14 +13,14 @@ use Rattle.siginfo.specs.Bytes.{Bytes}
 use Rattle.sigset.specs.declared.SigSet.{SigSet}
 use Rattle.sigset.specs.Set.{maskable}
 use Rattle.rules.specs.Types.{add_process, add_thread}
-use Rattle.rules.specs.View.{is_thread, live_thread, the_thread}
+use Rattle.rules.specs.View.{live_thread, the_thread}
 use Rattle.rules.specs.Store.{is_free_process, is_free_thread, fill, view, apply, apply_all}
 use Rattle.rules.specs.Sound.{good_id}
 use Rattle.rules.specs.Adding.{added_process, add_process_changes, add_thread_changes}
 use Rattle.rules.specs.Refusals.{rows, is_clear, no_thread_live, no_process_place, no_thread_place}
 use Rattle.rules.specs.Calls.{changes, reply}
 use Rattle.rules.proofs.RefusalTable.{Off}
-use Rattle.tables.specs.Tables.{processes_of, threads_of, held_processes, held_threads}
+use Rattle.tables.specs.Tables.{LiveThread, processes_of, threads_of, held_processes, held_threads}
 use Rattle.sound.specs.Lent.{Lent, lent, decoded, view_of, lengths_are, sound_tables}
 use Rattle.effects.proofs.Places.{with_all}
 use Rattle.sound.proofs.Facts.{right-processes, right-threads, threads-long}
@@ -97,14 +97,12 @@ module _ (l : Lent) (creator id n : ℕ) (r : n ≡ refusal_on (add_thread creat
     unfolding is_clear
     tables-sound = accepted-tables-sound (add_thread creator id) l refl (sym r ∙ z)
 
-    pub creator-owned : (length l.threads ≡ thread_table)
-        × ((any (is_thread creator) (held_threads l.threads) ≡ true)
-        × (good_id (thread_named l.threads creator).process ≡ true))
+    pub creator-owned : LiveThread creator l.threads × (good_id (thread_named l.threads creator).process ≡ true)
     unfolding rows no_thread_live
     creator-owned = owner-known l tables-sound creator (not-false (live_thread (view_of l) creator) off.1.0)
 
-    pub creator-found : (length l.threads ≡ thread_table) × (any (is_thread creator) (held_threads l.threads) ≡ true)
-    creator-found = (creator-owned.0, creator-owned.1.0)
+    pub creator-found : LiveThread creator l.threads
+    creator-found = creator-owned.0
 
     pub thread-room : (length l.threads ≡ thread_table) × (any is_free_thread (held_threads l.threads) ≡ true)
     unfolding rows no_thread_place view decoded

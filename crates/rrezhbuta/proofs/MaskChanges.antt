@@ -15,11 +15,12 @@ use Rattle.lists.specs.Lists.{find}
 use Rattle.lists.specs.Rows.{flat}
 use Rattle.lists.proofs.Bools.{split}
 use Rattle.lists.proofs.Loops.{find-same}
-use Rattle.lists.proofs.Finds.{find-map, found_inside}
+use Rattle.lists.proofs.Finds.{find-map, find_absent, find-some, some-inside, any-none}
+use Rattle.std.specs.Prelude.{Some, None, position}
 use Rattle.lists.proofs.Index.{map-set}
 use Rattle.sigset.specs.declared.SigSet.{SigSet}
 use Rattle.sigset.specs.Set.{bits, empty}
-use Rattle.rules.specs.Types.{Thread as Held, no_thread as no_held, sigmask}
+use Rattle.rules.specs.Types.{Thread as Held, sigmask}
 use Rattle.rules.specs.View.{is_thread, live_thread, the_thread}
 use Rattle.rules.specs.Store.{Place, held, free_thread, amend, apply, apply_all, with_mask as held_mask}
 use Rattle.rules.specs.Actions.{new_mask, mask_changes}
@@ -55,7 +56,7 @@ module _ (ts : List Thread) (e : length ts ≡ thread_places) where
       ∙ thread-words-forth (map place_of ts) (length-map ts place_of ∙ e)
 
   place_found : (n : ℕ) → find (has_thread_id n) (held_threads (words_of ts)) ≡ find (has_id n) ts
-  unfolding has_thread_id has_id
+  unfolding has_thread_id
   place_found n =
       ap (λ xs. find (has_thread_id n) (map held xs)) words-places
       ∙ find-map (has_thread_id n) held (map place_of ts)
@@ -81,7 +82,7 @@ module _ (n : ℕ) (m : SigSet) (ts : List Thread) where
 
   -- the mask that it then has, put where it was before
   mask-changed-again : with_mask_at n (mask_of (with_mask_at n m ts) n) ts ≡ with_mask_at n m ts
-  unfolding with_mask_at has_id
+  unfolding with_mask_at
   mask-changed-again =
       let i = find (has_id n) ts in
       let t = get_or ts i no_thread in
@@ -189,20 +190,26 @@ mask-row ps tb pb ts e t way set =
     (λ r. same_after ps tb pb ts e t way set
     (sym (ap (λ (x : Lent). x.threads) (refused-tables c l (eqb-false (refusal_on c l) 0 r)))))
 
--- ---- the mask of the first thread with that id, as code reads it of the words:
---      `place` is where it is, or the number of places
+-- ---- the mask of the thread with an id, by what the search answers
 
-module _ (ws : List ℕ) (n place : ℕ) (here : place ≡ find (has_thread_id n) (held_threads ws)) where
-  pub mask-absent : place ≡ thread_places → empty ≡ mask_in ws n
+module _ (ws : List ℕ) (n : ℕ) where
+  pub mask-absent : position (has_thread_id n) (held_threads ws) ≡ None → empty ≡ mask_in ws n
   unfolding mask_in
   mask-absent z =
+      let far : find (has_thread_id n) (held_threads ws) ≡ length (held_threads ws) =
+      find_absent (has_thread_id n) (held_threads ws) (any-none (has_thread_id n) (held_threads ws) z) in
       sym (ap (λ (x : Place Held). x.holds.mask)
-      (get_or-eq_default (threads_of ws) free_thread (omega (arith, length-threads_of ws))))
+      (get_or-eq_default (threads_of ws) free_thread
+      (omega (arith, length-threads_of ws, length-held_threads ws))))
 
-  pub mask-held : (w : ℕ) → w ≡ get_or (thread_to (thread_at ws place)) thread_mask 0 → bits w ≡ mask_in ws n
-  unfolding mask_in thread_to
-  mask-held w h = ap bits h ∙ ap (λ i. (thread_at ws i).holds.mask) here
+  module _ (place : ℕ) (here : position (has_thread_id n) (held_threads ws) ≡ Some place) where
+    pub mask-held : (w : ℕ) → w ≡ get_or (thread_to (thread_at ws place)) thread_mask 0 → bits w ≡ mask_in ws n
+    unfolding mask_in thread_to
+    mask-held w h =
+        ap bits h
+        ∙ ap (λ i. (thread_at ws i).holds.mask) (sym (find-some (has_thread_id n) (held_threads ws) place here))
 
-  pub mask-inside : (place ≡ thread_places → ⊥) → place < thread_places
-  mask-inside = found_inside (has_thread_id n) no_held (held_threads ws) thread_places place (length-held_threads ws)
-      here
+    pub mask-inside : place < thread_places
+    mask-inside =
+        let inside = some-inside (has_thread_id n) (held_threads ws) place here in
+        omega (arith, length-held_threads ws)

@@ -15,11 +15,10 @@ fn mask_of(ws: &[u64], id: u64) -> SigSet
     requires { length ws.now ≡ thread_table }
     ensures { result ≡ mask_in ws.now id }
 {
-    let place = tables::thread_place(ws, id);
-    if place == THREAD_PLACES {
-        return SigSet::EMPTY;
+    match tables::thread_place(ws, id) {
+        Some(place) => SigSet(tables::thread_field_at(ws, place, THREAD_MASK)),
+        None => SigSet::EMPTY,
     }
-    SigSet(tables::thread_field_at(ws, place, THREAD_MASK))
 }
 
 // What a call that was accepted changed of the thread table goes back into the row. A mask call and a return

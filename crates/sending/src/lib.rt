@@ -150,7 +150,7 @@ fn job_control(
     }
     effects::discard(ps, ts, tb, pb, process, discarded_by(signal));
     if (signal == SIGCONT) | (signal == SIGSTOP) {
-        effects::set_stopped(ps, ts, tb, pb, process, (signal == SIGSTOP) as u64);
+        effects::set_stopped(ps, ts, tb, pb, process, signal == SIGSTOP);
     }
 }
 

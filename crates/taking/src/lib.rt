@@ -116,7 +116,7 @@ fn act_by_default(
 {
     match o {
         Outcome::Ignores => {}
-        Outcome::Stops => effects::set_stopped(ps, ts, tb, pb, process, 1),
+        Outcome::Stops => effects::set_stopped(ps, ts, tb, pb, process, true),
         Outcome::Continues => {}
         Outcome::Ends => effects::remove_process(ps, ts, tb, pb, process),
     }

@@ -3,7 +3,7 @@ use mathlib.Core.Path.{sym, ap, ◌∙◌}
 use native.Mathlib.Omega.{arith}
 use Rattle.siginfo.proofs.Numbers.{bytes-each}
 use Rattle.rules.specs.Types.{sigaction}
-use Rattle.sound.proofs.Facts.{processes-long, process-listed}
+use Rattle.sound.proofs.Facts.{process-present}
 use Rattle.sound.specs.Lent.{lent}
 use Rattle.answers.proofs.Endings.{turned-away}
 use Rattle.types.specs.Answers.{given, refused_by}
@@ -30,8 +30,7 @@ action_of-old-requires c =
     let e = sym c.check_action.ensures ∙ ap refused_by c.in_ok-check_action.was in
     let d = action-accepted l p s new e in
     record {
-      ps_len = processes-long l d.sound;
-      ps_value = process-listed l p d.live;
+      live = process-present l d.sound p d.live;
       le_signal = asked-signal s new d.fine;
     }
 

@@ -19,14 +19,15 @@ returns-in_err-check_add_thread c =
 pub process_of-process-requires : goal.process_of-process-requires
 process_of-process-requires c =
     let both = creator-owned (lent c.args.ps.now c.args.ts.now c.args.tb.now c.args.pb.now)
-    c.args.creator c.args.id (refused_by c.check_add_thread.result) c.check_add_thread.ensures (ap refused_by c.in_ok-check_add_thread.was) in
-    record { ts_len = both.0; ts_value = both.1.0; thread_value = both.1.1 }
+    c.args.creator c.args.id (refused_by c.check_add_thread.result) c.check_add_thread.ensures
+    (ap refused_by c.in_ok-check_add_thread.was) in
+    record { live = both.0; good = both.1 }
 
 pub mask_of-mask-requires : goal.mask_of-mask-requires
 mask_of-mask-requires c =
-    let both = creator-found (lent c.args.ps.now c.args.ts.now c.args.tb.now c.args.pb.now)
-    c.args.creator c.args.id (refused_by c.check_add_thread.result) c.check_add_thread.ensures (ap refused_by c.in_ok-check_add_thread.was) in
-    record { ts_len = both.0; ts_value = both.1 }
+    creator-found (lent c.args.ps.now c.args.ts.now c.args.tb.now c.args.pb.now)
+    c.args.creator c.args.id (refused_by c.check_add_thread.result) c.check_add_thread.ensures
+    (ap refused_by c.in_ok-check_add_thread.was)
 
 pub new_thread-requires : goal.new_thread-requires
 new_thread-requires c =

@@ -8,12 +8,12 @@ pub process_of-process-requires : goal.process_of-process-requires
 process_of-process-requires c =
     let both = owner-known (lent c.args.ps.now c.args.ts.now c.args.tb.now c.args.pb.now) c.requires.sound
     c.args.thread c.requires.live in
-    record { ts_len = both.0; ts_value = both.1.0; thread_value = both.1.1 }
+    record { live = both.0; good = both.1 }
 
 pub has_other-requires : goal.has_other-requires
 has_other-requires c =
     (owner-known (lent c.args.ps.now c.args.ts.now c.args.tb.now c.args.pb.now) c.requires.sound c.args.thread
-    c.requires.live).0
+    c.requires.live).0.0
 
 pub remove_thread-requires : goal.remove_thread-requires
 remove_thread-requires c =

@@ -1,7 +1,7 @@
 -- `blocked` meets its contract. Assumes nothing.
 use mathlib.Core.Path.{◌∙◌}
 use Rattle.sound.specs.Lent.{lent}
-use Rattle.sound.proofs.Facts.{threads-long, thread-listed}
+use Rattle.sound.proofs.Facts.{thread-present}
 use Rattle.view.proofs.Live.{owner-known, own-queue, shared-queue}
 use Rattle.masks.proofs.Pending.{blocked-read}
 use Rattle.masks.proofs.blocked.Goals as goal
@@ -10,7 +10,7 @@ pub process_of-process-requires : goal.process_of-process-requires
 process_of-process-requires c =
     let l = lent c.args.ps.now c.args.ts.now c.args.tb.now c.args.pb.now in
     let both = owner-known l c.requires.sound c.args.thread c.requires.live in
-    record { ts_len = both.0; ts_value = both.1.0; thread_value = both.1.1 }
+    record { live = both.0; good = both.1 }
 
 pub pending_of-own-requires : goal.pending_of-own-requires
 pending_of-own-requires c =
@@ -35,10 +35,7 @@ pending_of-shared-requires c =
 pub mask_of-requires : goal.mask_of-requires
 mask_of-requires c =
     let l = lent c.args.ps.now c.args.ts.now c.args.tb.now c.args.pb.now in
-    record {
-      ts_len = threads-long l c.requires.sound;
-      ts_value = thread-listed l c.args.thread c.requires.live;
-    }
+    thread-present l c.requires.sound c.args.thread c.requires.live
 
 pub returns : goal.returns
 returns c =

@@ -3,7 +3,7 @@ use mathlib.Core.Path.{refl, sym, ap, ◌∙◌}
 use native.Mathlib.Omega.{arith}
 use Rattle.siginfo.proofs.Numbers.{bytes-each}
 use Rattle.rules.specs.Types.{sigmask}
-use Rattle.sound.proofs.Facts.{threads-long, thread-listed}
+use Rattle.sound.proofs.Facts.{thread-present}
 use Rattle.sound.specs.Lent.{lent}
 use Rattle.answers.proofs.Endings.{turned-away}
 use Rattle.types.specs.Answers.{given, refused_by}
@@ -28,10 +28,7 @@ mask_of-old-requires c =
     let way = c.args.way in
     let set = given c.args.set in
     let e = sym c.check_mask.ensures ∙ ap refused_by c.in_ok-check_mask.was in
-    record {
-      ts_len = threads-long l (mask-sound l t way set e);
-      ts_value = thread-listed l t (mask-live l t way set e);
-    }
+    thread-present l (mask-sound l t way set e) t (mask-live l t way set e)
 
 pub set_mask-requires : goal.set_mask-requires
 set_mask-requires c =

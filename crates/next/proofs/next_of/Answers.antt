@@ -1,8 +1,8 @@
 -- `next_of` meets its contract. Assumes nothing.
 use Rattle.rules.specs.View.{the_thread}
 use Rattle.sound.specs.Lent.{view_of, lent}
-use Rattle.sound.proofs.Facts.{threads-long, thread-buffer-long, process-buffer-long, thread-listed}
-use Rattle.view.proofs.Live.{owner-good, own-queue}
+use Rattle.sound.proofs.Facts.{thread-buffer-long, process-buffer-long}
+use Rattle.view.proofs.Live.{owner-known, own-queue}
 use Rattle.next.proofs.Nexts.{nothing-next, own-next, shared-next}
 use Rattle.next.proofs.next_of.Goals as goal
 
@@ -14,14 +14,9 @@ returns-then-s-eq0 c =
 
 pub process_of-process-requires : goal.process_of-process-requires
 process_of-process-requires c =
-    record {
-      ts_len = threads-long (lent c.args.ps.now c.args.ts.now c.args.tb.now c.args.pb.now) c.requires.sound;
-      ts_value = thread-listed (lent c.args.ps.now c.args.ts.now c.args.tb.now c.args.pb.now) c.args.thread
-          c.requires.live;
-      thread_value = owner-good (lent c.args.ps.now c.args.ts.now c.args.tb.now c.args.pb.now) c.requires.sound
-          c.args.thread
-          c.requires.live;
-    }
+    let l = lent c.args.ps.now c.args.ts.now c.args.tb.now c.args.pb.now in
+    let both = owner-known l c.requires.sound c.args.thread c.requires.live in
+    record { live = both.0; good = both.1 }
 
 pub pending_of-own-requires : goal.pending_of-own-requires
 pending_of-own-requires c =

@@ -1,29 +1,20 @@
 -- `next_signal` meets its contract. Assumes nothing.
 use Rattle.sound.specs.Lent.{lent}
-use Rattle.sound.proofs.Facts.{processes-long, threads-long, thread-listed}
-use Rattle.view.proofs.Live.{owner-good, process-held, own-queue, shared-queue}
+use Rattle.sound.proofs.Facts.{thread-present}
+use Rattle.view.proofs.Live.{owner-known, owner-present, own-queue, shared-queue}
 use Rattle.next.proofs.Signals.{signal-stopped, signal-taken}
 use Rattle.next.proofs.next_signal.Goals as goal
 
 pub process_of-process-requires : goal.process_of-process-requires
 process_of-process-requires c =
-    record {
-      ts_len = threads-long (lent c.args.ps.now c.args.ts.now c.args.tb.now c.args.pb.now) c.requires.sound;
-      ts_value = thread-listed (lent c.args.ps.now c.args.ts.now c.args.tb.now c.args.pb.now) c.args.thread
-          c.requires.live;
-      thread_value = owner-good (lent c.args.ps.now c.args.ts.now c.args.tb.now c.args.pb.now) c.requires.sound
-          c.args.thread
-          c.requires.live;
-    }
+    let l = lent c.args.ps.now c.args.ts.now c.args.tb.now c.args.pb.now in
+    let both = owner-known l c.requires.sound c.args.thread c.requires.live in
+    record { live = both.0; good = both.1 }
 
 pub is_stopped-requires : goal.is_stopped-requires
 is_stopped-requires c =
-    record {
-      ps_len = processes-long (lent c.args.ps.now c.args.ts.now c.args.tb.now c.args.pb.now) c.requires.sound;
-      ps_value = process-held (lent c.args.ps.now c.args.ts.now c.args.tb.now c.args.pb.now) c.requires.sound
-          c.args.thread
-          c.requires.live c.process_of-process.result c.process_of-process.ensures;
-    }
+    owner-present (lent c.args.ps.now c.args.ts.now c.args.tb.now c.args.pb.now) c.requires.sound c.args.thread
+    c.requires.live c.process_of-process.result c.process_of-process.ensures
 
 pub returns-then-is_stopped : goal.returns-then-is_stopped
 returns-then-is_stopped c =
@@ -52,11 +43,8 @@ pending_of-shared-requires c =
 
 pub mask_of-requires : goal.mask_of-requires
 mask_of-requires c =
-    record {
-      ts_len = threads-long (lent c.args.ps.now c.args.ts.now c.args.tb.now c.args.pb.now) c.requires.sound;
-      ts_value = thread-listed (lent c.args.ps.now c.args.ts.now c.args.tb.now c.args.pb.now) c.args.thread
-          c.requires.live;
-    }
+    thread-present (lent c.args.ps.now c.args.ts.now c.args.tb.now c.args.pb.now) c.requires.sound c.args.thread
+    c.requires.live
 
 pub returns : goal.returns
 returns c =

@@ -8,7 +8,7 @@ use Rattle.rules.specs.View.{live_process}
 use Rattle.rules.specs.Store.{view}
 use Rattle.rules.proofs.Queues.{target-process}
 use Rattle.sound.specs.Lent.{decoded, view_of, lent}
-use Rattle.sound.proofs.Facts.{processes-long}
+use Rattle.sound.proofs.Facts.{processes-long, process-present}
 use Rattle.sending.proofs.Refused.{nobody-read, may_read, kill-fault, kill-over, kill-nobody, kill-barred}
 use Rattle.sending.proofs.Refused.{kill-passes}
 use Rattle.sending.proofs.check_kill.Goals as goal
@@ -55,13 +55,16 @@ may_signal-requires c =
     let l = lent c.args.ps.now c.args.ts.now c.args.tb.now c.args.pb.now in
     let to = c.args.s.to in
     let t = c.args.s.thread in
+    let sound = sym c.sound.ensures ∙ c.if-not-sound.false in
     record {
-      ps_len = processes-long l
-          (sym c.sound.ensures ∙ c.if-not-sound.false);
-      ps_value = sym i.ensures ∙ not-false i.result
-          (or-fst-false (not i.result) b.result c.if-is_process-is_bad_target.false);
-      ps_value_2 = target-process (view_of l) to t
-          (sym b.ensures ∙ or-snd-false (not i.result) b.result c.if-is_process-is_bad_target.false);
+      sender = (
+        processes-long l sound,
+        sym i.ensures ∙ not-false i.result
+            (or-fst-false (not i.result) b.result c.if-is_process-is_bad_target.false),
+      );
+      target = process-present l sound to
+          (target-process (view_of l) to t
+          (sym b.ensures ∙ or-snd-false (not i.result) b.result c.if-is_process-is_bad_target.false));
     }
 
 pub returns-then-not-may_signal : goal.returns-then-not-may_signal

@@ -6,7 +6,7 @@ use Rattle.rules.specs.View.{target_queue, live_process}
 use Rattle.rules.specs.Store.{view}
 use Rattle.rules.proofs.Queues.{queue-target, target-process}
 use Rattle.sound.specs.Lent.{decoded, view_of, lent}
-use Rattle.sound.proofs.Facts.{processes-long}
+use Rattle.sound.proofs.Facts.{process-present}
 use Rattle.sending.specs.Generations.{generation_of}
 use Rattle.sending.proofs.Decided.{is-testing, is-killing, is-stopping, is-dropping, is-absorbing, is-keeping}
 use Rattle.sending.proofs.Decided.{is-marking, ignored-read}
@@ -42,8 +42,8 @@ action_of-requires c =
     let p = c.args.s.to in
     let t = c.args.s.thread in
     record {
-      ps_len = processes-long l c.requires.with_queue.sound;
-      ps_value = target-process v p t (queue-target v p t c.requires.with_queue.live);
+      live = process-present l c.requires.with_queue.sound p
+          (target-process v p t (queue-target v p t c.requires.with_queue.live));
       le_signal = (omega (arith, c.if-s-eq0.false), c.requires.signal_le_signals);
     }
 

@@ -12,9 +12,8 @@ unfolding live_process view decoded
 real_of-requires c =
     let l = lent c.args.ps.now c.args.ts.now c.args.tb.now c.args.pb.now in
     record {
-      ps_len = processes-long l c.requires.sound;
-      ps_value = c.requires.live;
-      process_value = sender-fits l c.requires.sound c.args.s.by;
+      live = (processes-long l c.requires.sound, c.requires.live);
+      good = sender-fits l c.requires.sound c.args.s.by;
     }
 
 pub returns : goal.returns

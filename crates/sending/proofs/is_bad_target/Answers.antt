@@ -43,7 +43,7 @@ process_of-requires c =
     let l = lent c.args.ps.now c.args.ts.now c.args.tb.now c.args.pb.now in
     let live = sym c.is_thread.ensures ∙ c.if-not-is_thread.false in
     let both = owner-known l c.requires c.args.thread live in
-    record { ts_len = both.0; ts_value = both.1.0; thread_value = both.1.1 }
+    record { live = both.0; good = both.1 }
 
 pub returns : goal.returns
 unfolding live_process live_thread the_thread view decoded

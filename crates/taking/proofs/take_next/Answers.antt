@@ -1,10 +1,10 @@
 -- `take_next` meets its contract: what is next leaves its queue, then it is delivered. Assumes nothing.
 use Rattle.rules.specs.Taking.{deliver}
-use Rattle.sound.proofs.Facts.{processes-long, threads-long, thread-listed}
+use Rattle.sound.proofs.Facts.{thread-present}
 use Rattle.sound.specs.Lent.{lent}
 use Rattle.effects.specs.Effects.{thread_of}
 use Rattle.effects.proofs.Makes.{ready-part, ready-last, made-last}
-use Rattle.view.proofs.Live.{owner-good, process-held}
+use Rattle.view.proofs.Live.{owner-known, owner-present}
 use Rattle.taking.proofs.Taken.{answered, signal-named, known}
 use Rattle.taking.proofs.take_next.Goals as goal
 
@@ -12,20 +12,14 @@ pub process_of-process-requires : goal.process_of-process-requires
 process_of-process-requires c =
     let l = lent c.args.ps.now c.args.ts.now c.args.tb.now c.args.pb.now in
     let t = c.args.thread in
-    record {
-      ts_len = threads-long l c.requires.sound;
-      ts_value = thread-listed l t c.requires.live;
-      thread_value = owner-good l c.requires.sound t c.requires.live;
-    }
+    let both = owner-known l c.requires.sound t c.requires.live in
+    record { live = both.0; good = both.1 }
 
 pub mask_of-mask-requires : goal.mask_of-mask-requires
 mask_of-mask-requires c =
     let l = lent c.args.ps.now c.args.ts.now c.args.tb.now c.args.pb.now in
     let t = c.args.thread in
-    record {
-      ts_len = threads-long l c.requires.sound;
-      ts_value = thread-listed l t c.requires.live;
-    }
+    thread-present l c.requires.sound t c.requires.live
 
 pub action_of-a-requires : goal.action_of-a-requires
 action_of-a-requires c =
@@ -34,8 +28,7 @@ action_of-a-requires c =
     let r = c.info_of-r in
     let p = c.process_of-process in
     record {
-      ps_len = processes-long l c.requires.sound;
-      ps_value = process-held l c.requires.sound t c.requires.live p.result p.ensures;
+      live = owner-present l c.requires.sound t c.requires.live p.result p.ensures;
       le_signal = signal-named l c.requires.sound t c.requires.live c.args.next c.requires.next c.requires.something
           r.result
           r.ensures;
