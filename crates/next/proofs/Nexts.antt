@@ -31,9 +31,10 @@ use Rattle.rules.proofs.Marks.{queue-same, thread-named}
 use Rattle.queue.specs.Queue.{slots_of, records_of}
 use Rattle.queue.proofs.Buffer.{record-read}
 use Rattle.sound.specs.Lent.{Lent, decoded, view_of}
-use Rattle.types.specs.declared.Next as declared
-use Rattle.types.specs.declared.Next.TheVariants as case
-use Rattle.answers.specs.Answers.{next_of}
+use Rattle.std.specs.Prelude.{Some, None}
+use Rattle.types.specs.declared.Pending as declared
+use Rattle.types.specs.declared.Pending.TheVariants as case
+use Rattle.answers.specs.Answers.{next_from, next_of}
 use Rattle.view.specs.Named.{thread_named}
 use Rattle.next.specs.Nexts.{is_next_in}
 use Rattle.view.proofs.Live.{own_is, shared-is}
@@ -53,7 +54,7 @@ module _ (b : List ℕ) (q : Queue) (s k n : ℕ) (e : k ≡ find (in_queue q s)
     (m : n ≡ length (records_of b)) where
   pub record-next : k < n → (r : Siginfo) → r ≡ siginfo_of (row record_bytes b k)
       → is_next_in q s (records_of b) (case.Record r)
-  unfolding next_of next_in
+  unfolding next_from next_in
   record-next h r f v =
       let i : find (in_queue q s) (records_of b) < length (records_of b) = omega (arith, e, m) in
       let at : get_or (records_of b) (find (in_queue q s) (records_of b)) no_siginfo ≡ r =
@@ -65,7 +66,7 @@ module _ (b : List ℕ) (q : Queue) (s k n : ℕ) (e : k ≡ find (in_queue q s)
       ∙ ap some at))
 
   pub mark-next : n ≤ k → is_next_in q s (records_of b) (case.Mark q.process q.thread s)
-  unfolding next_of next_in
+  unfolding next_from next_in
   mark-next h v =
       let i : k ≡ n = omega (arith, e, m, find-le (in_queue q s) (records_of b)) in
       sym (ap (next_in v q s)
@@ -94,7 +95,7 @@ in-queue v th =
     (v.oldest (next_queue v th (next_signal v th)) (next_signal v th))
 
 module _ (v : View) (th : Thread) (s : ℕ) (e : s ≡ next_signal v th) where
-  pub nothing-next : s ≡ 0 → next_of case.Nothing ≡ next v th
+  pub nothing-next : s ≡ 0 → next_of None ≡ next v th
   unfolding next_of next
   nothing-next z = rw (eq-eqb (next_signal v th) 0 (sym e ∙ z))
 
@@ -111,7 +112,7 @@ module _ (v : View) (th : Thread) (s : ℕ) (e : s ≡ next_signal v th) where
         ∙ sym (cond-false no_next (in-queue v th) (ne_eqb (next_signal v th) 0 (λ z. n (e ∙ z))))
 
 module _ (l : Lent) (t p s : ℕ) (live : live_thread (view_of l) t ≡ true) (o : p ≡ (thread_named l.threads t).process)
-    (e : s ≡ next_signal (view_of l) (the_thread (view_of l) t)) (n : (s ≡ 0 → ⊥)) (r : declared.Next) where
+    (e : s ≡ next_signal (view_of l) (the_thread (view_of l) t)) (n : (s ≡ 0 → ⊥)) (r : declared.Pending) where
   module _ (own : SigSet) (b : Bool) (h : own ≡ set_of (pending_in (view_of l) (target_queue p t)))
       (k : b ≡ has own s) where
     pends : pending_in (view_of l) (thread_queue (the_thread (view_of l) t)) s ≡ b
@@ -137,14 +138,16 @@ module _ (l : Lent) (t p s : ℕ) (live : live_thread (view_of l) t ≡ true) (o
         ∙ shared-is l t p o
 
     pub own-next : b ≡ true → is_next_in (target_queue p t) s (records_of l.thread_buffer) r
-        → next_of r ≡ next (view_of l) (the_thread (view_of l) t)
+        → next_of (Some r) ≡ next (view_of l) (the_thread (view_of l) t)
+    unfolding next_of
     own-next y f =
         f (view_of l) ∙ ap (next_in (view_of l) (target_queue p t) s)
         (oldest-own l p t s (thread-named (decoded l) t live))
         ∙ next-from (view_of l) (the_thread (view_of l) t) s e n (target_queue p t) (queue-own y)
 
     pub shared-next : b ≡ false → is_next_in (target_queue p 0) s (records_of l.process_buffer) r
-        → next_of r ≡ next (view_of l) (the_thread (view_of l) t)
+        → next_of (Some r) ≡ next (view_of l) (the_thread (view_of l) t)
+    unfolding next_of
     shared-next y f =
         f (view_of l) ∙ ap (next_in (view_of l) (target_queue p 0) s) (oldest-shared l p s)
         ∙ next-from (view_of l) (the_thread (view_of l) t) s e n (target_queue p 0) (queue-shared y)

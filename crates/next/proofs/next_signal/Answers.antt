@@ -1,4 +1,6 @@
 -- `next_signal` meets its contract. Assumes nothing.
+use mathlib.Core.Path.{refl, ap, ◌∙◌}
+use Rattle.sigset.specs.Set.{lowest, nonzero}
 use Rattle.sound.specs.Lent.{lent}
 use Rattle.sound.proofs.Facts.{thread-present}
 use Rattle.view.proofs.Live.{owner-known, owner-present, own-queue, shared-queue}
@@ -18,9 +20,10 @@ is_stopped-requires c =
 
 pub returns-then-is_stopped : goal.returns-then-is_stopped
 returns-then-is_stopped c =
-    signal-stopped (lent c.args.ps.now c.args.ts.now c.args.tb.now c.args.pb.now) c.args.thread
+    ap nonzero
+    (signal-stopped (lent c.args.ps.now c.args.ts.now c.args.tb.now c.args.pb.now) c.args.thread
     c.process_of-process.result c.process_of-process.ensures
-    c.is_stopped.result c.is_stopped.ensures c.if-is_stopped.true
+    c.is_stopped.result c.is_stopped.ensures c.if-is_stopped.true)
 
 pub pending_of-own-requires : goal.pending_of-own-requires
 pending_of-own-requires c =
@@ -48,12 +51,14 @@ mask_of-requires c =
 
 pub returns : goal.returns
 returns c =
-    signal-taken (lent c.args.ps.now c.args.ts.now c.args.tb.now c.args.pb.now) c.args.thread
+    c.lowest.ensures
+    ∙ ap nonzero
+    (signal-taken (lent c.args.ps.now c.args.ts.now c.args.tb.now c.args.pb.now) c.args.thread
     c.process_of-process.result c.process_of-process.ensures
     c.is_stopped.result c.is_stopped.ensures c.requires.live c.if-is_stopped.false
     c.pending_of-own.result
     c.pending_of-shared.result c.union.result
     c.mask_of.result c.without.result
-    c.lowest.result c.pending_of-own.ensures
+    (lowest c.without.result) c.pending_of-own.ensures
     c.pending_of-shared.ensures c.union.ensures
-    c.mask_of.ensures c.without.ensures c.lowest.ensures
+    c.mask_of.ensures c.without.ensures refl)
