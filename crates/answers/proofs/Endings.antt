@@ -2,9 +2,9 @@
 -- One law for every call. Assumes nothing.
 use Prim.Native.Nat.{ℕ}
 use mathlib.Core.Path.{◌≡◌, refl, sym, ap, ◌∙◌}
-use mathlib.Core.Bool.{Bool, true, false, cond}
+use mathlib.Core.Bool.{Bool, true, false, cond, true≢false}
 use mathlib.Core.List.{List, []}
-use Rattle.std.specs.Prelude.{Result, Ok, Err, IsErrAnd}
+use Rattle.std.specs.Prelude.{Result, Ok, Err, is_err, IsErrAnd}
 use Rattle.std.proofs.lemmas.Result.{err_from_is_err_and}
 use lib.Dec.{eqb}
 use Rattle.limits.specs.Limits.{EFAULT}
@@ -163,6 +163,14 @@ number-some errno.EAGAIN h = clash (ap (λ (n : ℕ). eqb n 0) h) refl
 number-some errno.EFAULT h = clash (ap (λ (n : ℕ). eqb n 0) h) refl
 number-some errno.EEXIST h = clash (ap (λ (n : ℕ). eqb n 0) h) refl
 number-some errno.EINVAL h = clash (ap (λ (n : ℕ). eqb n 0) h) refl
+
+pub err-number : {A : Type 0} (r : Result A Errno) → is_err r ≡ true → refused_by r ≡ 0 → ⊥
+err-number (Ok a) e z = absurd (true≢false (sym e))
+err-number (Err x) e z = number-some x z
+
+pub ok-number : {A : Type 0} (r : Result A Errno) → is_err r ≡ false → refused_by r ≡ 0
+ok-number (Ok a) e = refl
+ok-number (Err x) e = absurd (true≢false e)
 
 module _ (c : Call) (l : Lent) where
   -- by the number that code has of the refusal

@@ -12,7 +12,10 @@ use Rattle.lists.proofs.Bools.{split, clash, and-fst, and-snd, and_both, and_lef
 use Rattle.lists.proofs.Lists.{All-at, first-none}
 use Rattle.lists.proofs.Loops.{all-at, any_here, find_at, first-find}
 use Rattle.lists.proofs.Finds.{found_inside, found-any, absent-any}
-use Rattle.types.specs.declared.Reply.TheVariants.{CanTake, NoneCan}
+use Rattle.types.specs.declared.Reply.TheVariants.{Taker}
+use Rattle.std.specs.Prelude.{Some, None, position}
+use native.Mathlib.Omega.{arith}
+use Rattle.lists.proofs.Finds.{some-inside}
 use Rattle.rules.specs.Types.{Thread, no_thread, who}
 use Rattle.rules.specs.View.{View, is_thread, belongs_to, live_thread, the_thread}
 use Rattle.rules.specs.Store.{Place, free_thread, view}
@@ -32,7 +35,7 @@ use Rattle.sound.specs.Lent.{Lent, decoded, view_of, sound_tables}
 use Rattle.sound.proofs.Facts.{store-sound}
 use Rattle.types.specs.Answers as said
 use Rattle.answers.specs.Step.{refusal_on, rows_on, step_on}
-use Rattle.answers.proofs.Endings.{answer-of, rows-given, answer-after, refused-ends}
+use Rattle.answers.proofs.Endings.{rows-given, answer-after}
 use Rattle.answers.proofs.Rows.{live-process}
 use Rattle.view.proofs.Fields.{id-fits}
 
@@ -141,23 +144,26 @@ module _ (l : Lent) (e : sound_tables l ≡ true) (place p : ℕ) (h : place < t
 
 -- ---- who
 
+-- a place that a search found is one of the table's
+pub not-all : (p : Thread → Bool) (ws : List ℕ) (k : ℕ) → position p (held_threads ws) ≡ Some k → k ≡ thread_places → ⊥
+not-all p ws k h z =
+    let i = some-inside p (held_threads ws) k h in
+    omega (arith, length-held_threads ws)
+
 module _ (l : Lent) (p n : ℕ) (e : n ≡ rows_on (esrch (no_process_live (view_of l) p) ∷ []) l) where
-  who-refusal : n ≡ refusal_on (who p) l
+  pub who-refusal : n ≡ refusal_on (who p) l
   unfolding is_clear rows
   who-refusal = e ∙ sym (rows-given (who p) l refl)
-
-  pub who-refused : (n ≡ 0 → ⊥) → said.Refused n ≡ (step_on (who p) l).1
-  who-refused z = answer-of (refused-ends (who p) l n who-refusal z)
 
   module _ (z : n ≡ 0) where
     pub who-sound : sound_tables l ≡ true
     who-sound = (live-process l p n e z).sound
 
     module _ (place : ℕ) (f : place ≡ find (can_take_some (view_of l) p) (held_threads l.threads)) where
-      pub who-none : place ≡ thread_places → said.Accepted NoneCan ≡ (step_on (who p) l).1
+      pub who-none : place ≡ thread_places → said.Accepted (Taker None) ≡ (step_on (who p) l).1
       unfolding reply taker who_answer view decoded
       who-none y =
-          answer-after (who p) l (sym who-refusal ∙ z) NoneCan
+          answer-after (who p) l (sym who-refusal ∙ z) (Taker None)
           (sym (ap (who_answer (view_of l)) (first-none (can_take_some (view_of l) p) (held_threads l.threads)
           (absent-any (can_take_some (view_of l) p) no_thread (held_threads l.threads) thread_places place
           (length-held_threads l.threads) f y))))
@@ -179,11 +185,11 @@ module _ (l : Lent) (p n : ℕ) (e : n ≡ rows_on (esrch (no_process_live (view
           pub who-fits : w ≤ largest_id
           who-fits = id-small l who-sound place p who-inside who-owns w i
 
-          pub who-takes : said.Accepted (CanTake w) ≡ (step_on (who p) l).1
+          pub who-takes : said.Accepted (Taker (Some w)) ≡ (step_on (who p) l).1
           unfolding reply taker who_answer view decoded
           who-takes =
-              answer-after (who p) l (sym who-refusal ∙ z) (CanTake w)
-              (ap CanTake (i ∙ ap (λ (k : ℕ). (thread_in l.threads k).id) f)
+              answer-after (who p) l (sym who-refusal ∙ z) (Taker (Some w))
+              (ap (λ (k : ℕ). Taker (Some k)) (i ∙ ap (λ (k : ℕ). (thread_in l.threads k).id) f)
               ∙ sym (ap (who_answer (view_of l)) (first-find (can_take_some (view_of l) p) no_thread
               (held_threads l.threads)
               (found-any (can_take_some (view_of l) p) no_thread (held_threads l.threads) thread_places place

@@ -1,10 +1,10 @@
 // A look at the next signal of a thread, and who can take one.
 #![tactic(auto)]
 
-ghost use Rattle.std.specs.Prelude.{◌≡◌, true, length, get_or, ◌<◌};
+ghost use Rattle.std.specs.Prelude.{◌≡◌, true, length, get_or, ◌<◌, position};
 ghost use Rattle.limits.specs.Limits.{thread_places, buffer_records, buffer_bytes, record_bytes};
-ghost use Rattle.lists.specs.Lists.{find};
 ghost use Rattle.lists.specs.Rows.{row};
+ghost use Rattle.types.specs.Answers.{answer_of};
 ghost use Rattle.rules.specs.Types as call;
 ghost use Rattle.rules.specs.Types.{no_thread};
 ghost use Rattle.rules.specs.Taking.{can_take_some};
@@ -14,7 +14,7 @@ ghost use Rattle.answers.specs.Step.{step_on};
 ghost use Rattle.looking.specs.Looks.{look_slot, look_bytes};
 
 use limits::{BUFFER_RECORDS, RECORD_BYTES, THREAD_ID, THREAD_PLACES, THREAD_PROCESS};
-use types::{Answer, Next, Reply};
+use types::{Answer, Pending, Reply};
 
 // ---- the look
 
@@ -30,20 +30,22 @@ fn slot_of(b: &[u8], k: usize) -> &[u8]
 
 // The slot of the record that a thread takes next, by number: those of the thread buffer from 1 on,
 // then those of the process buffer; 0 for a mark, for nothing, and where the look is refused.
+// The number is what the C interface hands out.
 pub fn look_slot(ps: &[u64], ts: &[u64], tb: &[u8], pb: &[u8], thread: u32) -> usize
     ensures { result ≡ look_slot thread (lent ps.now ts.now tb.now pb.now) }
 {
-    if view::check_thread(ps, ts, tb, pb, thread) != 0 {
+    if view::check_thread(ps, ts, tb, pb, thread).is_err() {
         return 0;
     }
     match next::next_of(ps, ts, tb, pb, thread) {
-        Next::Nothing => 0,
-        Next::Mark(_, _, _) => 0,
-        Next::Record(r) => {
+        None => 0,
+        Some(Pending::Mark(_, _, _)) => 0,
+        Some(Pending::Record(r)) => {
             if r.thread == 0 {
-                return BUFFER_RECORDS + queue::first_of(pb, r.process, r.thread, r.signal) + 1;
+                let k = queue::first_of(pb, r.process, r.thread, r.signal).unwrap();
+                return BUFFER_RECORDS + k + 1;
             }
-            queue::first_of(tb, r.process, r.thread, r.signal) + 1
+            queue::first_of(tb, r.process, r.thread, r.signal).unwrap() + 1
         }
     }
 }
@@ -65,13 +67,10 @@ pub fn look_part<'a>(ps: &[u64], ts: &[u64], tb: &'a [u8], pb: &'a [u8], thread:
 
 // What the look found, or its errno.
 pub fn look(ps: &[u64], ts: &[u64], tb: &[u8], pb: &[u8], thread: u32) -> Answer
-    ensures { result ≡ (step_on (call.look thread) (lent ps.now ts.now tb.now pb.now)).1 }
+    ensures { answer_of result ≡ (step_on (call.look thread) (lent ps.now ts.now tb.now pb.now)).1 }
 {
-    let n = view::check_thread(ps, ts, tb, pb, thread);
-    if n != 0 {
-        return Answer::Refused(n);
-    }
-    Answer::Accepted(Reply::Looked(next::next_of(ps, ts, tb, pb, thread)))
+    view::check_thread(ps, ts, tb, pb, thread)?;
+    Ok(Reply::Looked(next::next_of(ps, ts, tb, pb, thread)))
 }
 
 // ---- who can take
@@ -90,36 +89,31 @@ fn can_take(ps: &[u64], ts: &[u64], tb: &[u8], pb: &[u8], process: u32, place: u
         return false;
     }
     let thread = tables::thread_field_at(ts, place, THREAD_ID) as u32;
-    next::next_signal(ps, ts, tb, pb, thread) != 0
+    next::next_signal(ps, ts, tb, pb, thread).is_some()
 }
 
-// The lowest place whose thread can, or the number of places.
-fn taker_place(ps: &[u64], ts: &[u64], tb: &[u8], pb: &[u8], process: u32) -> usize
+// The lowest place whose thread can.
+fn taker_place(ps: &[u64], ts: &[u64], tb: &[u8], pb: &[u8], process: u32) -> Option<usize>
     requires { sound_tables (lent ps.now ts.now tb.now pb.now) ≡ true }
-    ensures { result ≡ find (can_take_some (view_of (lent ps.now ts.now tb.now pb.now)) process) (held_threads ts.now) }
+    ensures { result ≡ position (can_take_some (view_of (lent ps.now ts.now tb.now pb.now)) process)
+        (held_threads ts.now) }
 {
-    let mut i = 0;
-    while i < THREAD_PLACES {
-        if can_take(ps, ts, tb, pb, process, i) {
-            return i;
+    for place in 0..THREAD_PLACES {
+        if can_take(ps, ts, tb, pb, process, place) {
+            return Some(place);
         }
-        i += 1;
     }
-    i
+    None
 }
 
 // Names the live thread of a process in the lowest place that can take something, or says that none can.
 pub fn who(ps: &[u64], ts: &[u64], tb: &[u8], pb: &[u8], process: u32) -> Answer
-    ensures { result ≡ (step_on (call.who process) (lent ps.now ts.now tb.now pb.now)).1 }
+    ensures { answer_of result ≡ (step_on (call.who process) (lent ps.now ts.now tb.now pb.now)).1 }
 {
-    let n = view::check_process(ps, ts, tb, pb, process);
-    if n != 0 {
-        return Answer::Refused(n);
-    }
-    let place = taker_place(ps, ts, tb, pb, process);
-    if place == THREAD_PLACES {
-        return Answer::Accepted(Reply::NoneCan);
-    }
+    view::check_process(ps, ts, tb, pb, process)?;
+    let Some(place) = taker_place(ps, ts, tb, pb, process) else {
+        return Ok(Reply::Taker(None));
+    };
     let taker = tables::thread_field_at(ts, place, THREAD_ID) as u32;
-    Answer::Accepted(Reply::CanTake(taker))
+    Ok(Reply::Taker(Some(taker)))
 }

@@ -1,5 +1,7 @@
 -- `can_take` meets its contract. Assumes nothing.
-use mathlib.Core.Path.{sym, ◌∙◌}
+use mathlib.Core.Path.{refl, sym, ap, ◌∙◌}
+use Rattle.std.specs.Prelude.{is_some}
+use Rattle.sigset.proofs.Nonzero.{nonzero-is_some}
 use native.Mathlib.Omega.{arith}
 use Rattle.sound.specs.Lent.{view_of, lent}
 use Rattle.sound.proofs.Facts.{threads-long}
@@ -61,9 +63,10 @@ next_signal-requires c =
 pub returns : goal.returns
 returns c =
     let i = id-read c.args.ts.now c.args.place c.thread_field_at-thread.result c.thread_field_at-thread.ensures in
-    id-takes (lent c.args.ps.now c.args.ts.now c.args.tb.now c.args.pb.now) c.requires.pb_value c.args.place
+    c.is_some.ensures ∙ ap is_some c.next_signal.ensures ∙ nonzero-is_some _
+    ∙ id-takes (lent c.args.ps.now c.args.ts.now c.args.tb.now c.args.pb.now) c.requires.pb_value c.args.place
     c.args.process c.requires.place_lt_thread_places
     (let o = owner-read c.args.ts.now c.args.place c.thread_field_at.result c.thread_field_at.ensures in owned
     c.args.process (thread_in c.args.ts.now c.args.place) c.if-process-eq0.false
     (sym o ∙ c.if-thread_field_at-process.false)) c.thread_field_at-thread.result i
-    c.next_signal.result c.next_signal.ensures
+    _ refl

@@ -1,57 +1,82 @@
 -- `who` meets its contract. Assumes nothing.
+use mathlib.Core.Path.{refl, sym, ap, ◌∙◌}
+use Rattle.types.specs.Answers.{refused_by}
+use Rattle.answers.proofs.Endings.{turned-away, answer-of}
 use native.Mathlib.Omega.{arith}
-use Rattle.sound.specs.Lent.{lent}
+use Rattle.rules.specs.Types.{who}
+use Rattle.lists.specs.Lists.{find}
+use Rattle.lists.proofs.Finds.{find-some, find_absent, any-none}
+use Rattle.rules.specs.Taking.{can_take_some}
+use Rattle.tables.specs.Tables.{held_threads}
+use Rattle.tables.proofs.Words.{length-held_threads}
+use Rattle.sound.specs.Lent.{lent, view_of}
 use Rattle.sound.proofs.Facts.{threads-long}
-use Rattle.looking.proofs.Takers.{id-read, who-refused, who-sound, who-none, who-inside, who-fits, who-takes}
+use Rattle.looking.proofs.Takers.{not-all, id-read, who-refusal, who-sound, who-none, who-inside, who-fits, who-takes}
 use Rattle.looking.proofs.who.Goals as goal
 
-pub returns-then-n-ne0 : goal.returns-then-n-ne0
-returns-then-n-ne0 c =
-    who-refused (lent c.args.ps.now c.args.ts.now c.args.tb.now c.args.pb.now) c.args.process
-    c.check_process-n.result c.check_process-n.ensures c.if-n-ne0.true
+pub returns-in_err-check_process : goal.returns-in_err-check_process
+returns-in_err-check_process c =
+    let l = lent c.args.ps.now c.args.ts.now c.args.tb.now c.args.pb.now in
+    answer-of
+    (turned-away (who c.args.process) l c.check_process.result (who-refusal l c.args.process (refused_by c.check_process.result) c.check_process.ensures) c.from_residual.result
+    c.in_err-check_process.field-0.0 c.in_err-check_process.was c.from_residual.ensures.1)
 
-pub taker_place-place-requires : goal.taker_place-place-requires
-taker_place-place-requires c =
+pub taker_place-requires : goal.taker_place-requires
+taker_place-requires c =
     who-sound (lent c.args.ps.now c.args.ts.now c.args.tb.now c.args.pb.now) c.args.process
-    c.check_process-n.result c.check_process-n.ensures c.if-n-ne0.false
+    (refused_by c.check_process.result) c.check_process.ensures (ap refused_by c.in_ok-check_process.was)
 
-pub returns-then-place-eq-THREAD_PLACES : goal.returns-then-place-eq-THREAD_PLACES
-returns-then-place-eq-THREAD_PLACES c =
-    who-none (lent c.args.ps.now c.args.ts.now c.args.tb.now c.args.pb.now) c.args.process
-    c.check_process-n.result c.check_process-n.ensures c.if-n-ne0.false
-    c.taker_place-place.result c.taker_place-place.ensures c.if-place-eq-THREAD_PLACES.true
+pub returns-in_default : goal.returns-in_default
+returns-in_default c =
+    let l = lent c.args.ps.now c.args.ts.now c.args.tb.now c.args.pb.now in
+    let p = can_take_some (view_of l) c.args.process in
+    let rs = held_threads c.args.ts.now in
+    who-none l c.args.process
+    (refused_by c.check_process.result) c.check_process.ensures (ap refused_by c.in_ok-check_process.was) (find p rs) refl
+    (find_absent p rs (any-none p rs (sym c.taker_place.ensures ∙ c.in_default.is)) ∙ length-held_threads c.args.ts.now)
 
 pub thread_field_at-taker-requires : goal.thread_field_at-taker-requires
 thread_field_at-taker-requires c =
-    let z = c.if-n-ne0.false in (
-      threads-long (lent c.args.ps.now c.args.ts.now c.args.tb.now c.args.pb.now)
-          (who-sound (lent c.args.ps.now c.args.ts.now c.args.tb.now c.args.pb.now) c.args.process
-          c.check_process-n.result c.check_process-n.ensures z),
+    let l = lent c.args.ps.now c.args.ts.now c.args.tb.now c.args.pb.now in
+    let p = can_take_some (view_of l) c.args.process in
+    let rs = held_threads c.args.ts.now in
+    let k = c.in-Some.place in
+    let h = sym c.taker_place.ensures ∙ c.in-Some.is in
+    let f = sym (find-some p rs k h) in
+    let y = not-all p c.args.ts.now k h in
+    let e = ap refused_by c.in_ok-check_process.was in (
+      threads-long l (who-sound l c.args.process (refused_by c.check_process.result) c.check_process.ensures e),
       (
-        who-inside (lent c.args.ps.now c.args.ts.now c.args.tb.now c.args.pb.now) c.args.process
-            c.check_process-n.result c.check_process-n.ensures z
-            c.taker_place-place.result c.taker_place-place.ensures c.if-place-eq-THREAD_PLACES.false,
+        who-inside l c.args.process (refused_by c.check_process.result) c.check_process.ensures e k f y,
         omega arith,
       ),
     )
 
 pub overflow_cast-taker : goal.overflow_cast-taker
 overflow_cast-taker c =
-    let p = c.taker_place-place.result in
+    let l = lent c.args.ps.now c.args.ts.now c.args.tb.now c.args.pb.now in
+    let p = can_take_some (view_of l) c.args.process in
+    let rs = held_threads c.args.ts.now in
+    let k = c.in-Some.place in
+    let h = sym c.taker_place.ensures ∙ c.in-Some.is in
+    let f = sym (find-some p rs k h) in
+    let y = not-all p c.args.ts.now k h in
     let w = c.thread_field_at-taker.result in
     omega (
       arith,
-      who-fits (lent c.args.ps.now c.args.ts.now c.args.tb.now c.args.pb.now) c.args.process
-          c.check_process-n.result c.check_process-n.ensures c.if-n-ne0.false
-          p c.taker_place-place.ensures c.if-place-eq-THREAD_PLACES.false w
-          (id-read c.args.ts.now p w c.thread_field_at-taker.ensures),
+      who-fits l c.args.process (refused_by c.check_process.result) c.check_process.ensures (ap refused_by c.in_ok-check_process.was)
+          k f y w (id-read c.args.ts.now k w c.thread_field_at-taker.ensures),
     )
 
 pub returns : goal.returns
 returns c =
-    let p = c.taker_place-place.result in
+    let l = lent c.args.ps.now c.args.ts.now c.args.tb.now c.args.pb.now in
+    let p = can_take_some (view_of l) c.args.process in
+    let rs = held_threads c.args.ts.now in
+    let k = c.in-Some.place in
+    let h = sym c.taker_place.ensures ∙ c.in-Some.is in
+    let f = sym (find-some p rs k h) in
+    let y = not-all p c.args.ts.now k h in
     let w = c.thread_field_at-taker.result in
-    who-takes (lent c.args.ps.now c.args.ts.now c.args.tb.now c.args.pb.now) c.args.process
-    c.check_process-n.result c.check_process-n.ensures c.if-n-ne0.false
-    p c.taker_place-place.ensures c.if-place-eq-THREAD_PLACES.false w
-    (id-read c.args.ts.now p w c.thread_field_at-taker.ensures)
+    who-takes l c.args.process (refused_by c.check_process.result) c.check_process.ensures (ap refused_by c.in_ok-check_process.was)
+    k f y w (id-read c.args.ts.now k w c.thread_field_at-taker.ensures)

@@ -16,7 +16,7 @@ returns-in_err-s c =
     let th = the_thread v c.args.thread in
     ap next_of c.from_residual.ensures
     ∙ nothing-next v th (next_signal v th) refl
-    (nonzero-none (next_signal v th) (sym c.next_signal.ensures ∙ c.in_err-s.was tt))
+    (nonzero-none (next_signal v th) (sym c.next_signal.ensures ∙ c.in_err-s.was))
 
 pub process_of-process-requires : goal.process_of-process-requires
 process_of-process-requires c =
