@@ -1,7 +1,7 @@
 -- The take as a call: refused, with nothing to take, or taken. Assumes nothing.
 use Prim.Native.Nat.{ℕ}
 use mathlib.Core.Path.{◌≡◌, refl, sym, ap, ◌∙◌}
-use mathlib.Core.Bool.{true, false}
+use mathlib.Core.Bool.{true}
 use mathlib.Core.List.{[], ◌∷◌}
 use Rattle.rules.specs.Types.{Thread, take}
 use Rattle.rules.specs.View.{View, live_thread, the_thread}
@@ -9,27 +9,18 @@ use Rattle.rules.specs.Store.{apply_all}
 use Rattle.rules.specs.Taking.{next, take_changes, take_answer}
 use Rattle.rules.specs.Refusals.{esrch, no_thread_live, rows, is_clear}
 use Rattle.rules.specs.Calls.{changes, reply}
-use Rattle.types.specs.declared.Next as declared
-use Rattle.types.specs.declared.Next.TheVariants as cases
+use Rattle.std.specs.Prelude.{None, Option as Maybe}
+use Rattle.types.specs.declared.Pending as declared
 use Rattle.types.specs.declared.Taken as taken
-use Rattle.types.specs.declared.Taken.TheVariants.{Nothing}
 use Rattle.types.specs.declared.Reply.TheVariants.{Taken}
-use Rattle.types.specs.Answers.{Refused, Accepted}
+use Rattle.types.specs.Answers.{Accepted}
 use Rattle.sound.proofs.Facts.{AsLong}
 use Rattle.answers.specs.Answers.{next_of}
 use Rattle.sound.specs.Lent.{Lent, decoded, view_of, sound_tables}
 use Rattle.answers.specs.Step.{refusal_on, rows_on, step_on}
 use Rattle.siginfo.specs.Bytes.{Bytes}
-use Rattle.answers.proofs.Endings.{rows-given, refused-ends, accepted-ends}
+use Rattle.answers.proofs.Endings.{rows-given, accepted-ends}
 use Rattle.answers.proofs.Rows.{live-thread}
-use Rattle.taking.specs.Takes.{is_nothing}
-
--- the other two cases
-pub something : (x : declared.Next) → (x ≡ cases.Nothing → ⊥) → is_nothing (next_of x) ≡ false
-unfolding is_nothing next_of
-something cases.Nothing e = absurd (e refl)
-something (cases.Mark process thread s) e = refl
-something (cases.Record r) e = refl
 
 module _ (l : Lent) (t n : ℕ) (r : n ≡ rows_on (esrch (no_thread_live (view_of l) t) ∷ []) l) where
   abbrev v : View
@@ -38,12 +29,9 @@ module _ (l : Lent) (t n : ℕ) (r : n ≡ rows_on (esrch (no_thread_live (view_
   abbrev it : Thread
   it = the_thread v t
 
-  refusal_is : n ≡ refusal_on (take t) l
+  pub refusal_is : n ≡ refusal_on (take t) l
   unfolding rows is_clear
   refusal_is = r ∙ sym (rows-given (take t) l refl)
-
-  pub take-refused : (n ≡ 0 → ⊥) → (l, Refused n) ≡ step_on (take t) l
-  take-refused z = refused-ends (take t) l n refusal_is z
 
   module _ (z : n ≡ 0) where
     accepted : refusal_on (take t) l ≡ 0
@@ -55,9 +43,9 @@ module _ (l : Lent) (t n : ℕ) (r : n ≡ rows_on (esrch (no_thread_live (view_
     pub taker-live : live_thread v t ≡ true
     taker-live = (live-thread l t n r z).live
 
-    module _ (x : declared.Next) (k : next_of x ≡ next v it) where
+    module _ (x : Maybe declared.Pending) (k : next_of x ≡ next v it) where
       pub take-made : (m : Lent) → AsLong l m → Bytes m.thread_buffer → Bytes m.process_buffer
-          → (a : taken.Taken) → a ≡ take_answer v it (next_of x)
+          → (a : Maybe taken.Taken) → a ≡ take_answer v it (next_of x)
           → decoded m ≡ apply_all (take_changes v it (next_of x)) (decoded l)
           → (m, Accepted (Taken a)) ≡ step_on (take t) l
       unfolding changes reply
@@ -65,11 +53,11 @@ module _ (l : Lent) (t n : ℕ) (r : n ≡ rows_on (esrch (no_thread_live (view_
           accepted-ends (take t) l accepted (Taken a) (ap Taken (h ∙ ap (take_answer v it) k)) m s bt bp
           (d ∙ ap (λ y. apply_all (take_changes v it y) (decoded l)) k)
 
-      pub take-nothing : x ≡ cases.Nothing → Bytes l.thread_buffer → Bytes l.process_buffer
-          → (l, Accepted (Taken Nothing)) ≡ step_on (take t) l
+      pub take-nothing : x ≡ None → Bytes l.thread_buffer → Bytes l.process_buffer
+          → (l, Accepted (Taken None)) ≡ step_on (take t) l
       unfolding next_of take_answer take_changes apply_all
       take-nothing e bt bp =
           take-made l (record { processes = refl; threads = refl; thread_buffer = refl; process_buffer = refl })
-          bt bp Nothing
+          bt bp None
           (ap (λ y. take_answer v it (next_of y)) (sym e))
           (ap (λ y. apply_all (take_changes v it (next_of y)) (decoded l)) (sym e))

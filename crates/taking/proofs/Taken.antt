@@ -22,10 +22,11 @@ use Rattle.rules.proofs.Marks.{the-thread-id}
 use Rattle.rules.proofs.TakeFits.{take-fits}
 use Rattle.sound.specs.Lent.{Lent, decoded, view_of, sound_tables}
 use Rattle.sound.proofs.Facts.{store-sound}
-use Rattle.answers.specs.Answers.{next_of}
+use Rattle.answers.specs.Answers.{next_from}
 use Rattle.types.specs.declared.Taken.{Taken}
-use Rattle.types.specs.declared.Next as declared
-use Rattle.types.specs.declared.Next.TheVariants as cases
+use Rattle.types.specs.declared.Pending as declared
+use Rattle.types.specs.declared.Pending.TheVariants as cases
+use Rattle.std.specs.Prelude.{Some}
 use Rattle.effects.specs.Effects.{thread_of}
 use Rattle.effects.specs.Changes.{Ready}
 use Rattle.effects.proofs.Makes.{ready-as}
@@ -43,9 +44,8 @@ signal_in no_next = 0
 signal_in (next_mark q s) = s
 signal_in (next_record q s r) = s
 
-signal-of : (x : declared.Next) → signal_in (next_of x) ≡ (info_in (next_of x)).signal
-unfolding signal_in next_of info_in mark_info
-signal-of cases.Nothing = refl
+signal-of : (x : declared.Pending) → signal_in (next_from x) ≡ (info_in (next_from x)).signal
+unfolding signal_in next_from info_in mark_info
 signal-of (cases.Mark process thread s) = refl
 signal-of (cases.Record r) = refl
 
@@ -65,35 +65,38 @@ next-signal v t n =
     (sym (ap signal_in (cond-false _ _ z) ∙ signal-in v (next_queue v t s) s (v.oldest (next_queue v t s) s)))
     (next-is-signal v t s refl (eqb-false s 0 z)))
 
+-- what is pending is something
+is-something : (x : declared.Pending) → is_nothing (next_from x) ≡ false
+unfolding next_from is_nothing
+is-something (cases.Mark process thread s) = refl
+is-something (cases.Record r) = refl
+
 -- ---- what leaves, then what is delivered
 
 module _ (v : View) (t : Thread) where
-  takes : (x : declared.Next) → is_nothing (next_of x) ≡ false
-      → take_changes v t (next_of x) ≡ dequeue_changes (next_of x)
-      ++ deliver t (thread_action v t (info_in (next_of x)).signal) (info_in (next_of x)).signal
-  unfolding next_of is_nothing take_changes dequeue_changes info_in mark_info
-  takes cases.Nothing n = clash refl n
-  takes (cases.Mark process thread s) n = refl
-  takes (cases.Record r) n = refl
+  takes : (x : declared.Pending) → take_changes v t (next_from x) ≡ dequeue_changes (next_from x)
+      ++ deliver t (thread_action v t (info_in (next_from x)).signal) (info_in (next_from x)).signal
+  unfolding next_from take_changes dequeue_changes info_in mark_info
+  takes (cases.Mark process thread s) = refl
+  takes (cases.Record r) = refl
 
-  answers : (x : declared.Next) → is_nothing (next_of x) ≡ false
-      → take_answer v t (next_of x) ≡ delivered t (thread_action v t (info_in (next_of x)).signal) (info_in (next_of x))
-  unfolding next_of is_nothing take_answer info_in mark_info
-  answers cases.Nothing n = clash refl n
-  answers (cases.Mark process thread s) n = refl
-  answers (cases.Record r) n = refl
+  answers : (x : declared.Pending) → take_answer v t (next_from x)
+      ≡ Some (delivered t (thread_action v t (info_in (next_from x)).signal) (info_in (next_from x)))
+  unfolding next_from take_answer info_in mark_info
+  answers (cases.Mark process thread s) = refl
+  answers (cases.Record r) = refl
 
 -- all that the code has of a take before it changes anything: whom it takes for, what is next, its record, its action
-pub record Known (l : Lent) (t u : Thread) (x : declared.Next) (r : Siginfo) (a : Action) : Type 0 where
-  pub ready : Ready (take_changes (view_of l) t (next_of x)) l
-  pub parts : take_changes (view_of l) t (next_of x) ≡ dequeue_changes (next_of x) ++ deliver u a r.signal
-  pub answering : take_answer (view_of l) t (next_of x) ≡ delivered u a r
+pub record Known (l : Lent) (t u : Thread) (x : declared.Pending) (r : Siginfo) (a : Action) : Type 0 where
+  pub ready : Ready (take_changes (view_of l) t (next_from x)) l
+  pub parts : take_changes (view_of l) t (next_from x) ≡ dequeue_changes (next_from x) ++ deliver u a r.signal
+  pub answering : take_answer (view_of l) t (next_from x) ≡ Some (delivered u a r)
 
 -- of the thread, the answer reads the mask alone
-pub answered : {l : Lent} {t u : Thread} {x : declared.Next} {r : Siginfo} {a : Action} → Known l t u x r a
-    → (z : Taken) → z ≡ delivered (thread_of 0 0 u.mask) a r → z ≡ take_answer (view_of l) t (next_of x)
+pub answered : {l : Lent} {t u : Thread} {x : declared.Pending} {r : Siginfo} {a : Action} → Known l t u x r a
+    → (z : Taken) → z ≡ delivered (thread_of 0 0 u.mask) a r → Some z ≡ take_answer (view_of l) t (next_from x)
 unfolding delivered
-answered d z h = h ∙ sym d.answering
+answered d z h = ap Some h ∙ sym d.answering
 
 -- ---- sound tables, and what is read of them for a live thread
 
@@ -113,13 +116,13 @@ module _ (l : Lent) (e : sound_tables l ≡ true) (thread : ℕ) (live : live_th
     unfolding thread_action the_process the_thread view decoded
     action-read s a g = g ∙ ap (λ (n : ℕ). action_of (process_named l.processes n) s) i
 
-  module _ (x : declared.Next) (n : next_of x ≡ next (view st) t) (y : is_nothing (next_of x) ≡ false) (r : Siginfo)
-      (h : r ≡ info_in (next_of x)) where
+  module _ (x : declared.Pending) (n : next_from x ≡ next (view st) t) (r : Siginfo)
+      (h : r ≡ info_in (next_from x)) where
     pub signal-named : (1 ≤ r.signal) × (r.signal ≤ signals)
     signal-named =
         let g : Signal r.signal =
         subst Signal (ap signal_in (sym n) ∙ signal-of x ∙ ap (λ (z : Siginfo). z.signal) (sym h))
-        (next-signal (view st) t (ap is_nothing (sym n) ∙ y)) in
+        (next-signal (view st) t (ap is_nothing (sym n) ∙ is-something x)) in
         (g.low, g.high)
 
     pub known : (p : ℕ) → p ≡ (thread_named l.threads thread).process
@@ -135,12 +138,12 @@ module _ (l : Lent) (e : sound_tables l ≡ true) (thread : ℕ) (live : live_th
               ready-as (record { sound = e; fit = take-fits st (store-sound l e) thread live })
               (sym (ap (take_changes v t) n));
           parts =
-              takes v t x y
-              ∙ ap (λ (z : Siginfo). dequeue_changes (next_of x) ++ deliver t (thread_action v t z.signal) z.signal)
+              takes v t x
+              ∙ ap (λ (z : Siginfo). dequeue_changes (next_from x) ++ deliver t (thread_action v t z.signal) z.signal)
               (sym h)
-              ∙ ap₂ (λ (w : Thread) (c : Action). dequeue_changes (next_of x) ++ deliver w c r.signal) q b;
+              ∙ ap₂ (λ (w : Thread) (c : Action). dequeue_changes (next_from x) ++ deliver w c r.signal) q b;
           answering =
-              answers v t x y
-              ∙ ap (λ (z : Siginfo). delivered t (thread_action v t z.signal) z) (sym h)
-              ∙ ap₂ (λ (w : Thread) (c : Action). delivered w c r) q b;
+              answers v t x
+              ∙ ap (λ (z : Siginfo). Some (delivered t (thread_action v t z.signal) z)) (sym h)
+              ∙ ap₂ (λ (w : Thread) (c : Action). Some (delivered w c r)) q b;
         }

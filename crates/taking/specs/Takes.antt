@@ -1,5 +1,5 @@
 -- What the steps of a take do.
-use Rattle.std.specs.Prelude.{ℕ, ◌≡◌, Bool, true, false, List, [], ◌∷◌}
+use Rattle.std.specs.Prelude.{ℕ, ◌≡◌, Bool, true, false, List, [], ◌∷◌, Some}
 use Rattle.types.specs.declared.Action.{Action}
 use Rattle.types.specs.declared.Siginfo.{Siginfo}
 use Rattle.types.specs.declared.Taken.{Taken}
@@ -43,14 +43,13 @@ handler_changes t a s = set_mask t.id (handler_mask t.mask a s) ∷ reset_change
 
 -- ---- one take, of what is next for a live thread
 
--- what `take_next` asks: the tables are sound, the thread is live, and this is next for it, and something
+-- what `take_next` asks: the tables are sound, the thread is live, and this is next for it
 pub record Takeable (t : ℕ) (n : Next) (l : Lent) : Type 0 where
   pub sound : sound_tables l ≡ true
   pub live : live_thread (view_of l) t ≡ true
   pub next : n ≡ next_for (view_of l) (the_thread (view_of l) t)
-  pub something : is_nothing n ≡ false
 
 -- and what it promises: the answer, and the tables after it
 pub record Took (t : ℕ) (n : Next) (a : Taken) (l l' : Lent) : Type 0 where
-  pub answer : a ≡ take_answer (view_of l) (the_thread (view_of l) t) n
+  pub answer : Some a ≡ take_answer (view_of l) (the_thread (view_of l) t) n
   pub tables : Changed (take_changes (view_of l) (the_thread (view_of l) t) n) l l'

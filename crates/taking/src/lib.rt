@@ -7,7 +7,7 @@ ghost use Rattle.rules.specs.Signals.{outcome};
 ghost use Rattle.rules.specs.View.{target_queue};
 ghost use Rattle.rules.specs.Taking.{mark_info, handler_mask, resets, reset, outcome_changes, outcome_answer, deliver};
 ghost use Rattle.rules.specs.Taking.{delivered};
-ghost use Rattle.answers.specs.Answers.{next_of};
+ghost use Rattle.answers.specs.Answers.{next_from};
 ghost use Rattle.sound.specs.Lent.{lent};
 ghost use Rattle.answers.specs.Step.{stepped};
 ghost use Rattle.effects.specs.Changes.{Ready, Changed};
@@ -19,7 +19,7 @@ use limits::{
     SIGTSTP, SIGTTIN, SIGTTOU,
 };
 use sigset::SigSet;
-use types::{Action, Answer, Next, Reply, Siginfo, Taken};
+use types::{Action, Answer, Pending, Reply, Siginfo, Taken};
 
 // ---- handlers
 
@@ -171,30 +171,28 @@ fn delivered(mask: SigSet, a: Action, r: Siginfo) -> Taken
 }
 
 // The record or the mark leaves its queue.
-fn dequeue(ps: &mut [u64], ts: &mut [u64], tb: &mut [u8], pb: &mut [u8], next: Next)
-    requires { Ready (dequeue_changes (next_of next)) (lent ps.old ts.old tb.old pb.old) }
-    ensures { Changed (dequeue_changes (next_of next)) (lent ps.old ts.old tb.old pb.old)
+fn dequeue(ps: &mut [u64], ts: &mut [u64], tb: &mut [u8], pb: &mut [u8], next: Pending)
+    requires { Ready (dequeue_changes (next_from next)) (lent ps.old ts.old tb.old pb.old) }
+    ensures { Changed (dequeue_changes (next_from next)) (lent ps.old ts.old tb.old pb.old)
         (lent ps.new ts.new tb.new pb.new) }
 {
     match next {
-        Next::Nothing => {}
-        Next::Mark(process, thread, signal) => {
+        Pending::Mark(process, thread, signal) => {
             effects::clear_mark(ps, ts, tb, pb, process, thread, signal);
         }
-        Next::Record(r) => {
+        Pending::Record(r) => {
             effects::drop_oldest(ps, ts, tb, pb, r.process, r.thread, r.signal);
         }
     }
 }
 
 // The record that is answered; of a mark, its queue and signal alone.
-fn info_of(next: Next) -> Siginfo
-    ensures { result ≡ info_in (next_of next) }
+fn info_of(next: Pending) -> Siginfo
+    ensures { result ≡ info_in (next_from next) }
 {
     match next {
-        Next::Nothing => mark_info(0, 0, 0),
-        Next::Mark(process, thread, signal) => mark_info(process, thread, signal),
-        Next::Record(r) => r,
+        Pending::Mark(process, thread, signal) => mark_info(process, thread, signal),
+        Pending::Record(r) => r,
     }
 }
 
@@ -212,17 +210,17 @@ fn mark_info(process: u32, thread: u32, signal: u32) -> Siginfo
     }
 }
 
-// There is something to take, and it is taken.
+// What is next for a thread is taken.
 fn take_next(
     ps: &mut [u64],
     ts: &mut [u64],
     tb: &mut [u8],
     pb: &mut [u8],
     thread: u32,
-    next: Next,
+    next: Pending,
 ) -> Taken
-    requires { Takeable thread (next_of next) (lent ps.old ts.old tb.old pb.old) }
-    ensures { Took thread (next_of next) result (lent ps.old ts.old tb.old pb.old)
+    requires { Takeable thread (next_from next) (lent ps.old ts.old tb.old pb.old) }
+    ensures { Took thread (next_from next) result (lent ps.old ts.old tb.old pb.old)
         (lent ps.new ts.new tb.new pb.new) }
 {
     let r = info_of(next);
@@ -239,13 +237,9 @@ pub fn take(ps: &mut [u64], ts: &mut [u64], tb: &mut [u8], pb: &mut [u8], thread
     ensures { stepped (call.take thread) result (lent ps.old ts.old tb.old pb.old)
         (lent ps.new ts.new tb.new pb.new) }
 {
-    let n = view::check_thread(ps, ts, tb, pb, thread);
-    if n != 0 {
-        return Answer::Refused(n);
-    }
-    let next = next::next_of(ps, ts, tb, pb, thread);
-    if let Next::Nothing = next {
-        return Answer::Accepted(Reply::Taken(Taken::Nothing));
-    }
-    Answer::Accepted(Reply::Taken(take_next(ps, ts, tb, pb, thread, next)))
+    view::check_thread(ps, ts, tb, pb, thread)?;
+    let Some(next) = next::next_of(ps, ts, tb, pb, thread) else {
+        return Ok(Reply::Taken(None));
+    };
+    Ok(Reply::Taken(Some(take_next(ps, ts, tb, pb, thread, next))))
 }

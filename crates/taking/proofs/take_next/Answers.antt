@@ -29,7 +29,7 @@ action_of-a-requires c =
     let p = c.process_of-process in
     record {
       live = owner-present l c.requires.sound t c.requires.live p.result p.ensures;
-      le_signal = signal-named l c.requires.sound t c.requires.live c.args.next c.requires.next c.requires.something
+      le_signal = signal-named l c.requires.sound t c.requires.live c.args.next c.requires.next
           r.result
           r.ensures;
     }
@@ -43,7 +43,7 @@ dequeue-requires c =
     let m = c.mask_of-mask in
     let b = c.action_of-a in
     let d =
-    known l c.requires.sound t c.requires.live c.args.next c.requires.next c.requires.something r.result r.ensures
+    known l c.requires.sound t c.requires.live c.args.next c.requires.next r.result r.ensures
     p.result p.ensures m.result m.ensures b.result b.ensures in
     ready-part (deliver (thread_of t p.result m.result) b.result r.result.signal) d.ready d.parts
 
@@ -56,7 +56,7 @@ deliver-requires c =
     let m = c.mask_of-mask in
     let b = c.action_of-a in
     let d =
-    known l c.requires.sound t c.requires.live c.args.next c.requires.next c.requires.something r.result r.ensures
+    known l c.requires.sound t c.requires.live c.args.next c.requires.next r.result r.ensures
     p.result p.ensures m.result m.ensures b.result b.ensures in
     let w = c.dequeue in
     ready-last d.ready w.ensures d.parts
@@ -70,7 +70,7 @@ returns c =
     let m = c.mask_of-mask in
     let b = c.action_of-a in
     let d =
-    known l c.requires.sound t c.requires.live c.args.next c.requires.next c.requires.something r.result r.ensures
+    known l c.requires.sound t c.requires.live c.args.next c.requires.next r.result r.ensures
     p.result p.ensures m.result m.ensures b.result b.ensures in
     let w = c.dequeue in
     let z = c.deliver in
