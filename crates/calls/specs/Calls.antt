@@ -1,8 +1,7 @@
 -- The rules' call for each case of the enums.
 use Rattle.rules.specs.Types.{Call, clear, add_process, add_thread, end_process, end_thread, kill, sigqueue, sigaction}
 use Rattle.rules.specs.Types.{sigmask, sigpending, look, who, take, sigreturn}
-use Rattle.actions.specs.Given.{new_action}
-use Rattle.masks.specs.Given.{new_set}
+use Rattle.types.specs.Answers.{given}
 use Rattle.calls.specs.declared.Placing.{Placing}
 use Rattle.calls.specs.declared.Placing.TheVariants.{AddProcess, AddThread, EndProcess, EndThread}
 use Rattle.calls.specs.declared.Sending.{Sending}
@@ -25,8 +24,8 @@ sending_of (Kill by to t s) = kill by to t s
 sending_of (Sigqueue by to t s value) = sigqueue by to t s value
 
 unfoldable pub setting_of : Setting → Call
-setting_of (Sigaction p s new) = sigaction p s (new_action new)
-setting_of (Sigmask t way set) = sigmask t way (new_set set)
+setting_of (Sigaction p s new) = sigaction p s (given new)
+setting_of (Sigmask t way set) = sigmask t way (given set)
 setting_of (Sigreturn t saved) = sigreturn t saved
 
 unfoldable pub asking_of : Asking → Call

@@ -2,14 +2,13 @@
 #![tactic(auto)]
 
 ghost use Rattle.std.specs.Prelude.{◌≡◌};
+ghost use Rattle.types.specs.Answers.{answer_of};
 ghost use Rattle.sound.specs.Lent.{lent};
 ghost use Rattle.answers.specs.Step.{step_on, stepped};
 ghost use Rattle.calls.specs.Calls.{placing_of, sending_of, setting_of, asking_of, call_of};
 
-use actions::GivenAction;
-use masks::GivenSet;
 use sigset::SigSet;
-use types::{Answer, NewProcess};
+use types::{Action, Answer, NewProcess};
 
 // ---- the calls by family, each with its arguments in the documented order
 
@@ -35,9 +34,9 @@ pub enum Sending {
 #[derive(Clone, Copy)]
 pub enum Setting {
     // process, signal, new action
-    Sigaction(u32, u32, GivenAction),
+    Sigaction(u32, u32, Option<Action>),
     // thread, way, set
-    Sigmask(u32, u32, GivenSet),
+    Sigmask(u32, u32, Option<SigSet>),
     // thread, saved mask
     Sigreturn(u32, SigSet),
 }
@@ -100,7 +99,7 @@ fn set(ps: &mut [u64], ts: &mut [u64], tb: &mut [u8], pb: &mut [u8], c: Setting)
 }
 
 fn ask(ps: &[u64], ts: &[u64], tb: &[u8], pb: &[u8], c: Asking) -> Answer
-    ensures { result ≡ (step_on (asking_of c) (lent ps.now ts.now tb.now pb.now)).1 }
+    ensures { answer_of result ≡ (step_on (asking_of c) (lent ps.now ts.now tb.now pb.now)).1 }
 {
     match c {
         Asking::Sigpending(thread) => masks::sigpending(ps, ts, tb, pb, thread),
