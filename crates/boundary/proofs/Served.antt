@@ -10,13 +10,16 @@ use borrow.Author.Tests.{eq-eqb, ne_eqb, ltb-false, not-true}
 use Rattle.limits.specs.Limits.{EFAULT, EINVAL, call_clear, answer_words}
 use Rattle.lists.specs.Lists.{padded}
 use Rattle.lists.proofs.Bools.{and-fst, and-snd, cond-true, cond-false}
-use Rattle.types.specs.Answers.{Answer}
-use Rattle.types.specs.Answers.{Refused}
+use Rattle.std.specs.Prelude.{Result, Ok, Err, IsErrAnd}
+use Rattle.std.proofs.lemmas.Result.{err_from_is_err_and}
+use Rattle.types.specs.declared.Errno.{Errno}
+use Rattle.types.specs.declared.Reply.{Reply}
+use Rattle.types.specs.Answers.{Answer, Refused, Accepted, answer_of, refused_by}
 use Rattle.rules.specs.Types.{Call}
 use Rattle.sound.specs.Lent.{Lent, lengths_are, sound_tables}
 use Rattle.answers.specs.Step.{step_on}
-use Rattle.answers.proofs.Endings.{tables-of, answer-of}
-use Rattle.boundary.specs.Boundary.{Arguments, is_call, numbered, words_of, errno_of, written, usable, accepted}
+use Rattle.answers.proofs.Endings.{number-some, tables-of, answer-of}
+use Rattle.boundary.specs.Boundary.{Arguments, is_call, numbered, words_of, errno_of, written, usable, accepted, reply_words}
 use Rattle.boundary.specs.Boundary.{serve_on, served_by, served}
 
 -- ---- errno 14's row
@@ -81,27 +84,35 @@ module _ (n : ℕ) (g : Arguments) (l : Lent) (out : List ℕ) where
       (cond-false (step_on (numbered n g) l) (l, Refused (cond (usable n l) EINVAL EFAULT)) f) r l out e refl
       (kept-words (Refused (cond (usable n l) EINVAL EFAULT)) out (no-errno (usable n l)))
 
-  module _ (t : accepted n room ≡ true) (c : Call) (e : c ≡ numbered n g) (a : Answer) (m : Lent)
-      (h : (m, a) ≡ step_on c l) where
+  module _ (t : accepted n room ≡ true) (c : Call) (e : c ≡ numbered n g) (a : Result Reply Errno) (m : Lent)
+      (h : (m, answer_of a) ≡ step_on c l) where
     is-step : serve_on n g room l ≡ step_on c l
     unfolding serve_on
     is-step =
         cond-true (step_on (numbered n g) l) (l, Refused (cond (usable n l) EINVAL EFAULT)) t
         ∙ ap (λ (x : Call). step_on x l) (sym e)
 
-    pub step-refused : (r : ℕ) → r ≡ errno_of a → (r ≡ 0 → ⊥) → Ends r m out
-    step-refused r i f =
-        ends (step_on c l) is-step r m out (i ∙ ap errno_of (answer-of h)) (tables-of h)
-        (kept-words (step_on c l).1 out (λ z. f (i ∙ ap errno_of (answer-of h) ∙ z)))
+    -- `?` hands its refusal back
+    pub step-refused : (z : Result (Unit {0}) Errno) (x : Errno) → a ≡ Err x → IsErrAnd z (λ d. d ≡ x)
+        → Ends (refused_by z) m out
+    unfolding errno_of
+    step-refused z x k y =
+        let p = err_from_is_err_and z y in
+        let i : refused_by z ≡ errno_of (step_on c l).1 =
+        ap refused_by (p.1 ∙ ap Err p.2) ∙ ap errno_of (ap answer_of (sym k) ∙ answer-of h) in
+        ends (step_on c l) is-step (refused_by z) m out i (tables-of h)
+        (kept-words (step_on c l).1 out
+        (λ w. number-some x (ap refused_by (sym (p.1 ∙ ap Err p.2)) ∙ i ∙ w)))
 
-    pub step-answered : (r : ℕ) → r ≡ errno_of a → r ≡ 0 → (ws o : List ℕ) → ws ≡ padded 0 answer_words (words_of a)
+    pub step-answered : (r : Reply) → a ≡ Ok r → (ws o : List ℕ) → ws ≡ padded 0 answer_words (reply_words r)
         → o ≡ ws ++ drop answer_words out → Ends 0 m o
-    unfolding written
-    step-answered r i z ws o w p =
-        let none : errno_of (step_on c l).1 ≡ 0 = ap errno_of (sym (answer-of h)) ∙ sym i ∙ z in
+    unfolding written words_of errno_of
+    step-answered r k ws o w p =
+        let says : Accepted r ≡ (step_on c l).1 = ap answer_of (sym k) ∙ answer-of h in
+        let none : errno_of (step_on c l).1 ≡ 0 = ap errno_of (sym says) in
         ends (step_on c l) is-step 0 m o (sym none) (tables-of h)
         (p
         ∙ ap (λ (x : List ℕ). x ++ drop answer_words out)
-        (w ∙ ap (λ (x : Answer). padded 0 answer_words (words_of x)) (answer-of h))
+        (w ∙ ap (λ (x : Answer). padded 0 answer_words (words_of x)) says)
         ∙ sym (cond-true (padded 0 answer_words (words_of (step_on c l).1) ++ drop answer_words out) out
         (eq-eqb (errno_of (step_on c l).1) 0 none)))

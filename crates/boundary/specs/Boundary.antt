@@ -1,5 +1,6 @@
 -- The C boundary: a call by its number, with its arguments as numbers, and its answer as words.
 use Rattle.std.specs.Prelude.{ℕ, ◌-◌, Bool, not, ◌&&◌, cond, List, [], ◌∷◌, ◌++◌, eqb, ltb, get_or, drop, length}
+use Rattle.std.specs.Prelude.{Some, None, Option as Maybe}
 use Rattle.std.proofs.Math.Option.{Option, some, none}
 use Rattle.limits.specs.Limits.{EFAULT, EINVAL, call_clear, call_sigreturn, answer_done, answer_tested, answer_acted}
 use Rattle.limits.specs.Limits.{answer_dropped, answer_absorbed, answer_marked, answer_kept, answer_old_action}
@@ -14,8 +15,8 @@ use Rattle.sigset.specs.Set.{bits}
 use Rattle.types.specs.declared.Siginfo.{Siginfo}
 use Rattle.types.specs.declared.Sent.{Sent}
 use Rattle.types.specs.declared.Sent.TheVariants as sent
-use Rattle.types.specs.declared.Next.{Next}
-use Rattle.types.specs.declared.Next.TheVariants as next
+use Rattle.types.specs.declared.Pending.{Pending}
+use Rattle.types.specs.declared.Pending.TheVariants as next
 use Rattle.types.specs.declared.Taken.{Taken}
 use Rattle.types.specs.declared.Taken.TheVariants as taken
 use Rattle.types.specs.declared.Reply.{Reply}
@@ -23,6 +24,7 @@ use Rattle.types.specs.declared.Reply.TheVariants as reply
 use Rattle.types.specs.Answers.{Answer}
 use Rattle.types.specs.Answers.{Refused, Accepted}
 use Rattle.types.specs.Values.{new_of}
+pub use Rattle.boundary.specs.declared.Arguments.{Arguments}
 use Rattle.rules.specs.Types.{Call, clear, add_process, add_thread, end_process, end_thread, kill, sigqueue, sigaction}
 use Rattle.rules.specs.Types.{sigmask, sigpending, look, who, take, sigreturn}
 use Rattle.sound.specs.Lent.{Lent, lengths_are, sound_tables}
@@ -30,18 +32,7 @@ use Rattle.answers.specs.Step.{step_on}
 
 -- ---- the calls
 
--- what every call is handed: six numbers of 32 bits and three of 64
-pub record Arguments : Type 0 where
-  pub a : ℕ
-  pub b : ℕ
-  pub c : ℕ
-  pub d : ℕ
-  pub e : ℕ
-  pub f : ℕ
-  pub x : ℕ
-  pub y : ℕ
-  pub z : ℕ
-
+-- what every call is handed: six numbers of 32 bits and three of 64, the code's `Arguments`
 abbrev pub arguments : (a b c d e f x y z : ℕ) → Arguments
 arguments a b c d e f x y z = record { a = a; b = b; c = c; d = d; e = e; f = f; x = x; y = y; z = z }
 
@@ -93,17 +84,21 @@ sent_word sent.Absorbed = answer_absorbed
 sent_word sent.Marked = answer_marked
 sent_word sent.Kept = answer_kept
 
-unfoldable pub next_words : Next → List ℕ
-next_words next.Nothing = answer_next_nothing ∷ []
-next_words (next.Mark process thread s) = answer_next_mark ∷ process ∷ thread ∷ s ∷ []
-next_words (next.Record r) = answer_next_record ∷ info_words r
+unfoldable pub next_words : Maybe Pending → List ℕ
+next_words None = answer_next_nothing ∷ []
+next_words (Some (next.Mark process thread s)) = answer_next_mark ∷ process ∷ thread ∷ s ∷ []
+next_words (Some (next.Record r)) = answer_next_record ∷ info_words r
 
-unfoldable pub taken_words : Taken → List ℕ
-taken_words taken.Nothing = answer_nothing ∷ []
-taken_words (taken.Handler n s r flags saved) = answer_handler ∷ n ∷ s ∷ flags ∷ saved.0 ∷ info_words r
-taken_words (taken.End s) = answer_end ∷ s ∷ []
-taken_words (taken.Stop s) = answer_stop ∷ s ∷ []
-taken_words (taken.NoAction s) = answer_no_action ∷ s ∷ []
+unfoldable pub taker_words : Maybe ℕ → List ℕ
+taker_words None = answer_none_can ∷ []
+taker_words (Some t) = answer_can_take ∷ t ∷ []
+
+unfoldable pub taken_words : Maybe Taken → List ℕ
+taken_words None = answer_nothing ∷ []
+taken_words (Some (taken.Handler n s r flags saved)) = answer_handler ∷ n ∷ s ∷ flags ∷ saved.0 ∷ info_words r
+taken_words (Some (taken.End s)) = answer_end ∷ s ∷ []
+taken_words (Some (taken.Stop s)) = answer_stop ∷ s ∷ []
+taken_words (Some (taken.NoAction s)) = answer_no_action ∷ s ∷ []
 
 unfoldable pub reply_words : Reply → List ℕ
 reply_words reply.Done = answer_done ∷ []
@@ -112,8 +107,7 @@ reply_words (reply.OldAction a) = answer_old_action ∷ a.handler ∷ a.flags �
 reply_words (reply.OldMask m) = answer_old_mask ∷ m.0 ∷ []
 reply_words (reply.PendingSet m) = answer_pending_set ∷ m.0 ∷ []
 reply_words (reply.Looked x) = next_words x
-reply_words (reply.CanTake t) = answer_can_take ∷ t ∷ []
-reply_words reply.NoneCan = answer_none_can ∷ []
+reply_words (reply.Taker x) = taker_words x
 reply_words (reply.Taken x) = taken_words x
 
 -- a refusal has none

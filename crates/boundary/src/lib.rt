@@ -6,14 +6,12 @@ ghost use Rattle.limits.specs.Limits.{EFAULT, EINVAL, answer_words};
 ghost use Rattle.lists.specs.Lists.{padded};
 ghost use Rattle.sigset.specs.Set.{bits};
 ghost use Rattle.types.specs.Values.{new_of};
+ghost use Rattle.types.specs.Answers.{given, number, refused_by};
 ghost use Rattle.sound.specs.Lent.{lent};
-ghost use Rattle.actions.specs.Given.{new_action};
-ghost use Rattle.masks.specs.Given.{new_set};
 ghost use Rattle.calls.specs.Calls.{call_of};
-ghost use Rattle.boundary.specs.Boundary.{arguments, where_given, is_call, numbered, accepted, usable, sent_word};
-ghost use Rattle.boundary.specs.Boundary.{next_words, taken_words, reply_words, words_of, errno_of, served};
+ghost use Rattle.boundary.specs.Boundary.{where_given, is_call, numbered, accepted, usable, sent_word};
+ghost use Rattle.boundary.specs.Boundary.{next_words, taker_words, taken_words, reply_words, served};
 
-use actions::GivenAction;
 use calls::{Asking, Call, Placing, Sending, Setting};
 use limits::{
     ANSWER_ABSORBED, ANSWER_ACTED, ANSWER_CAN_TAKE, ANSWER_DONE, ANSWER_DROPPED, ANSWER_END,
@@ -22,104 +20,85 @@ use limits::{
     ANSWER_OLD_MASK, ANSWER_PENDING_SET, ANSWER_STOP, ANSWER_TESTED, ANSWER_WORDS,
     CALL_ADD_PROCESS, CALL_ADD_THREAD, CALL_CLEAR, CALL_END_PROCESS, CALL_END_THREAD, CALL_KILL,
     CALL_LOOK, CALL_SIGACTION, CALL_SIGMASK, CALL_SIGPENDING, CALL_SIGQUEUE, CALL_SIGRETURN,
-    CALL_TAKE, CALL_WHO, EFAULT, EINVAL,
+    CALL_TAKE, CALL_WHO,
 };
-use masks::GivenSet;
 use sigset::SigSet;
-use types::{Action, Answer, NewProcess, Next, Reply, Sent, Siginfo, Taken};
+use types::{Action, Errno, NewProcess, Pending, Reply, Sent, Siginfo, Taken};
 
 // ---- the call
 
+// The arguments of any call: six numbers of 32 bits and three of 64.
+#[derive(Clone, Copy)]
+pub struct Arguments {
+    pub a: u32,
+    pub b: u32,
+    pub c: u32,
+    pub d: u32,
+    pub e: u32,
+    pub f: u32,
+    pub x: u64,
+    pub y: u64,
+    pub z: u64,
+}
+
 // An action or a set is given where the number before it is not 0.
-fn given_action(given: u32, handler: u64, flags: u64, mask: u64) -> GivenAction
-    ensures { new_action result ≡ where_given given (record { handler = handler; flags = flags; mask = bits mask }) }
+fn where_given<T: Copy>(n: u32, value: T) -> Option<T>
+    ensures { given result ≡ where_given n value }
 {
-    if given == 0 {
-        return GivenAction::NoAction;
+    if n == 0 {
+        return None;
     }
-    GivenAction::Action(Action {
-        handler,
-        flags,
-        mask: SigSet(mask),
-    })
+    Some(value)
 }
 
-fn given_set(given: u32, set: u64) -> GivenSet
-    ensures { new_set result ≡ where_given given (bits set) }
-{
-    if given == 0 {
-        return GivenSet::NoSet;
-    }
-    GivenSet::Set(SigSet(set))
-}
-
-fn new_process(
-    id: u32,
-    real: u32,
-    effective: u32,
-    saved: u32,
-    session: u32,
-    thread: u32,
-    mask: u64,
-) -> NewProcess
-    ensures { result ≡ new_of id real effective saved session thread (bits mask) }
+fn new_process(g: Arguments) -> NewProcess
+    ensures { result ≡ new_of g.a g.b g.c g.d g.e g.f (bits g.x) }
 {
     NewProcess {
-        id,
-        real,
-        effective,
-        saved,
-        session,
-        thread,
-        mask: SigSet(mask),
+        id: g.a,
+        real: g.b,
+        effective: g.c,
+        saved: g.d,
+        session: g.e,
+        thread: g.f,
+        mask: SigSet(g.x),
+    }
+}
+
+fn action(g: Arguments) -> Action
+    ensures { result ≡ (record { handler = g.x; flags = g.y; mask = bits g.z }) }
+{
+    Action {
+        handler: g.x,
+        flags: g.y,
+        mask: SigSet(g.z),
     }
 }
 
 // The call of a number, with its arguments in the documented order.
-fn call_of(
-    number: u32,
-    a: u32,
-    b: u32,
-    c: u32,
-    d: u32,
-    e: u32,
-    f: u32,
-    x: u64,
-    y: u64,
-    z: u64,
-) -> Call
+fn call_of(number: u32, g: Arguments) -> Call
     requires { is_call number ≡ true }
-    ensures { call_of result ≡ numbered number (arguments a b c d e f x y z) }
+    ensures { call_of result ≡ numbered number g }
 {
     match number {
         CALL_CLEAR => Call::Clear,
-        CALL_ADD_PROCESS => Call::Place(Placing::AddProcess(new_process(a, b, c, d, e, f, x))),
-        CALL_ADD_THREAD => Call::Place(Placing::AddThread(a, b)),
-        CALL_END_PROCESS => Call::Place(Placing::EndProcess(a)),
-        CALL_END_THREAD => Call::Place(Placing::EndThread(a)),
-        CALL_KILL => Call::Send(Sending::Kill(a, b, c, d)),
-        CALL_SIGQUEUE => Call::Send(Sending::Sigqueue(a, b, c, d, x)),
-        CALL_SIGACTION => Call::Set(Setting::Sigaction(a, b, given_action(c, x, y, z))),
-        CALL_SIGMASK => Call::Set(Setting::Sigmask(a, b, given_set(c, x))),
-        CALL_SIGPENDING => Call::Ask(Asking::Sigpending(a)),
-        CALL_LOOK => Call::Ask(Asking::Look(a)),
-        CALL_WHO => Call::Ask(Asking::Who(a)),
-        CALL_TAKE => Call::Take(a),
-        _ => Call::Set(Setting::Sigreturn(a, SigSet(x))),
+        CALL_ADD_PROCESS => Call::Place(Placing::AddProcess(new_process(g))),
+        CALL_ADD_THREAD => Call::Place(Placing::AddThread(g.a, g.b)),
+        CALL_END_PROCESS => Call::Place(Placing::EndProcess(g.a)),
+        CALL_END_THREAD => Call::Place(Placing::EndThread(g.a)),
+        CALL_KILL => Call::Send(Sending::Kill(g.a, g.b, g.c, g.d)),
+        CALL_SIGQUEUE => Call::Send(Sending::Sigqueue(g.a, g.b, g.c, g.d, g.x)),
+        CALL_SIGACTION => Call::Set(Setting::Sigaction(g.a, g.b, where_given(g.c, action(g)))),
+        CALL_SIGMASK => Call::Set(Setting::Sigmask(g.a, g.b, where_given(g.c, SigSet(g.x)))),
+        CALL_SIGPENDING => Call::Ask(Asking::Sigpending(g.a)),
+        CALL_LOOK => Call::Ask(Asking::Look(g.a)),
+        CALL_WHO => Call::Ask(Asking::Who(g.a)),
+        CALL_TAKE => Call::Take(g.a),
+        _ => Call::Set(Setting::Sigreturn(g.a, SigSet(g.x))),
     }
 }
 
 // ---- the answer
-
-// What is returned: the errno of a refusal, else 0.
-fn errno_of(answer: Answer) -> u32
-    ensures { result ≡ errno_of answer }
-{
-    match answer {
-        Answer::Refused(n) => n,
-        Answer::Accepted(_) => 0,
-    }
-}
 
 // A first word, and up to three more.
 fn short(number: u64, a: u64, b: u64, c: u64) -> [u64; ANSWER_WORDS]
@@ -143,12 +122,14 @@ fn sent_word(sent: Sent) -> u64
 }
 
 // What a look found.
-fn next_words(next: Next) -> [u64; ANSWER_WORDS]
+fn next_words(next: Option<Pending>) -> [u64; ANSWER_WORDS]
     ensures { result ≡ padded 0 answer_words (next_words next) }
 {
-    match next {
-        Next::Nothing => short(ANSWER_NEXT_NOTHING, 0, 0, 0),
-        Next::Mark(process, thread, signal) => {
+    let Some(found) = next else {
+        return short(ANSWER_NEXT_NOTHING, 0, 0, 0);
+    };
+    match found {
+        Pending::Mark(process, thread, signal) => {
             short(
                 ANSWER_NEXT_MARK,
                 process as u64,
@@ -156,7 +137,7 @@ fn next_words(next: Next) -> [u64; ANSWER_WORDS]
                 signal as u64,
             )
         }
-        Next::Record(r) => [
+        Pending::Record(r) => [
             ANSWER_NEXT_RECORD,
             r.process as u64,
             r.thread as u64,
@@ -173,6 +154,16 @@ fn next_words(next: Next) -> [u64; ANSWER_WORDS]
     }
 }
 
+// Who can take.
+fn taker_words(taker: Option<u32>) -> [u64; ANSWER_WORDS]
+    ensures { result ≡ padded 0 answer_words (taker_words taker) }
+{
+    match taker {
+        Some(thread) => short(ANSWER_CAN_TAKE, thread as u64, 0, 0),
+        None => short(ANSWER_NONE_CAN, 0, 0, 0),
+    }
+}
+
 // A handler to run.
 fn handler_words(
     handler: u64,
@@ -181,7 +172,7 @@ fn handler_words(
     flags: u64,
     saved: SigSet,
 ) -> [u64; ANSWER_WORDS]
-    ensures { result ≡ padded 0 answer_words (taken_words (Taken.Handler handler signal r flags saved)) }
+    ensures { result ≡ padded 0 answer_words (taken_words (Some (Taken.Handler handler signal r flags saved))) }
 {
     [
         ANSWER_HANDLER,
@@ -200,11 +191,13 @@ fn handler_words(
 }
 
 // What a take answers.
-fn taken_words(taken: Taken) -> [u64; ANSWER_WORDS]
+fn taken_words(taken: Option<Taken>) -> [u64; ANSWER_WORDS]
     ensures { result ≡ padded 0 answer_words (taken_words taken) }
 {
-    match taken {
-        Taken::Nothing => short(ANSWER_NOTHING, 0, 0, 0),
+    let Some(outcome) = taken else {
+        return short(ANSWER_NOTHING, 0, 0, 0);
+    };
+    match outcome {
         Taken::Handler(handler, signal, r, flags, saved) => {
             handler_words(handler, signal, r, flags, saved)
         }
@@ -214,6 +207,7 @@ fn taken_words(taken: Taken) -> [u64; ANSWER_WORDS]
     }
 }
 
+// The words of an answer, with zeros behind.
 fn reply_words(reply: Reply) -> [u64; ANSWER_WORDS]
     ensures { result ≡ padded 0 answer_words (reply_words reply) }
 {
@@ -227,19 +221,8 @@ fn reply_words(reply: Reply) -> [u64; ANSWER_WORDS]
         Reply::OldMask(m) => short(ANSWER_OLD_MASK, m.0, 0, 0),
         Reply::PendingSet(m) => short(ANSWER_PENDING_SET, m.0, 0, 0),
         Reply::Looked(next) => next_words(next),
-        Reply::CanTake(thread) => short(ANSWER_CAN_TAKE, thread as u64, 0, 0),
-        Reply::NoneCan => short(ANSWER_NONE_CAN, 0, 0, 0),
+        Reply::Taker(taker) => taker_words(taker),
         Reply::Taken(taken) => taken_words(taken),
-    }
-}
-
-// The words of an answer, with zeros behind.
-fn words_of(answer: Answer) -> [u64; ANSWER_WORDS]
-    ensures { result ≡ padded 0 answer_words (words_of answer) }
-{
-    match answer {
-        Answer::Refused(_) => [0; ANSWER_WORDS],
-        Answer::Accepted(reply) => reply_words(reply),
     }
 }
 
@@ -247,11 +230,7 @@ fn write(out: &mut [u64], words: [u64; ANSWER_WORDS])
     requires { answer_words ≤ length out.old }
     ensures { out.new ≡ words ++ drop answer_words out.old }
 {
-    let mut i = 0;
-    while i < ANSWER_WORDS {
-        out[i] = words[i];
-        i += 1;
-    }
+    out[..ANSWER_WORDS].copy_from_slice(&words);
 }
 
 // ---- one call
@@ -274,17 +253,17 @@ fn is_usable(ps: &[u64], ts: &[u64], tb: &[u8], pb: &[u8], number: u32) -> bool
     sound::sound(ps, ts, tb, pb)
 }
 
-// The errno of what is not accepted: 14 comes first.
-fn refusal(ps: &[u64], ts: &[u64], tb: &[u8], pb: &[u8], number: u32) -> u32
-    ensures { result ≡ cond (usable number (lent ps.now ts.now tb.now pb.now)) EINVAL EFAULT }
+// Why a call is refused that is not accepted: 14 comes first.
+fn refusal(ps: &[u64], ts: &[u64], tb: &[u8], pb: &[u8], n: u32) -> Errno
+    ensures { number result ≡ cond (usable n (lent ps.now ts.now tb.now pb.now)) EINVAL EFAULT }
 {
-    if is_usable(ps, ts, tb, pb, number) {
-        return EINVAL;
+    if is_usable(ps, ts, tb, pb, n) {
+        return Errno::EINVAL;
     }
-    EFAULT
+    Errno::EFAULT
 }
 
-// One call by its number. Returns 0, with the answer's words in `out`, or an errno; then nothing is written.
+// One call by its number, with the answer's words in `out`; where it is refused nothing is written.
 pub fn serve(
     ps: &mut [u64],
     ts: &mut [u64],
@@ -292,27 +271,15 @@ pub fn serve(
     pb: &mut [u8],
     out: &mut [u64],
     number: u32,
-    a: u32,
-    b: u32,
-    c: u32,
-    d: u32,
-    e: u32,
-    f: u32,
-    x: u64,
-    y: u64,
-    z: u64,
-) -> u64
-    ensures { record { tables = lent ps.new ts.new tb.new pb.new; words = out.new; errno = result }
-        ≡ served number (arguments a b c d e f x y z) out.old (lent ps.old ts.old tb.old pb.old) }
+    g: Arguments,
+) -> Result<(), Errno>
+    ensures { record { tables = lent ps.new ts.new tb.new pb.new; words = out.new; errno = refused_by result }
+        ≡ served number g out.old (lent ps.old ts.old tb.old pb.old) }
 {
     if !is_accepted(number, out.len()) {
-        return refusal(ps, ts, tb, pb, number) as u64;
+        return Err(refusal(ps, ts, tb, pb, number));
     }
-    let answer = calls::step(ps, ts, tb, pb, call_of(number, a, b, c, d, e, f, x, y, z));
-    let n = errno_of(answer);
-    if n != 0 {
-        return n as u64;
-    }
-    write(out, words_of(answer));
-    0
+    let reply = calls::step(ps, ts, tb, pb, call_of(number, g))?;
+    write(out, reply_words(reply));
+    Ok(())
 }

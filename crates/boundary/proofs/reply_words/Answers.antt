@@ -45,17 +45,11 @@ returns-in-Looked c =
     words-case reply_words c.args.reply _ c.in-Looked.is
     c.next_words.result c.next_words.ensures
 
-pub returns-in-CanTake : goal.returns-in-CanTake
+pub returns-in-Taker : goal.returns-in-Taker
 unfolding padded reply_words
-returns-in-CanTake c =
-    words-case reply_words c.args.reply _ c.in-CanTake.is
-    c.short-in-CanTake.result c.short-in-CanTake.ensures
-
-pub returns-in-NoneCan : goal.returns-in-NoneCan
-unfolding padded reply_words
-returns-in-NoneCan c =
-    words-case reply_words c.args.reply _ c.in-NoneCan.is
-    c.short-in-NoneCan.result c.short-in-NoneCan.ensures
+returns-in-Taker c =
+    words-case reply_words c.args.reply _ c.in-Taker.is
+    c.taker_words.result c.taker_words.ensures
 
 pub returns-in-Taken : goal.returns-in-Taken
 unfolding padded reply_words
