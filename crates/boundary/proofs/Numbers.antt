@@ -8,7 +8,8 @@ use lib.Dec.{ltb}
 use borrow.Author.Tests.{eq-eqb, ne_eqb, ltb-false, not-true}
 use Rattle.lists.proofs.Bools.{and-fst, and-snd, cond-true, cond-false}
 use Rattle.limits.specs.Limits.{call_clear, call_sigreturn}
-use Rattle.boundary.specs.Boundary.{Arguments, where_given, is_call, numbered}
+use Rattle.boundary.specs.declared.Arguments.{Arguments}
+use Rattle.boundary.specs.Boundary.{where_given, is_call, numbered}
 
 module _ {A : Type 0} (n : ℕ) (v : A) where
   pub none-given : n ≡ 0 → none ≡ where_given n v

@@ -19,7 +19,8 @@ use Rattle.rules.specs.Types.{Call}
 use Rattle.sound.specs.Lent.{Lent, lengths_are, sound_tables}
 use Rattle.answers.specs.Step.{step_on}
 use Rattle.answers.proofs.Endings.{number-some, tables-of, answer-of}
-use Rattle.boundary.specs.Boundary.{Arguments, is_call, numbered, words_of, errno_of, written, usable, accepted, reply_words}
+use Rattle.boundary.specs.declared.Arguments.{Arguments}
+use Rattle.boundary.specs.Boundary.{is_call, numbered, words_of, errno_of, written, usable, accepted, reply_words}
 use Rattle.boundary.specs.Boundary.{serve_on, served_by, served}
 
 -- ---- errno 14's row

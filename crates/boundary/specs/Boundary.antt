@@ -24,7 +24,7 @@ use Rattle.types.specs.declared.Reply.TheVariants as reply
 use Rattle.types.specs.Answers.{Answer}
 use Rattle.types.specs.Answers.{Refused, Accepted}
 use Rattle.types.specs.Values.{new_of}
-pub use Rattle.boundary.specs.declared.Arguments.{Arguments}
+use Rattle.boundary.specs.declared.Arguments.{Arguments}
 use Rattle.rules.specs.Types.{Call, clear, add_process, add_thread, end_process, end_thread, kill, sigqueue, sigaction}
 use Rattle.rules.specs.Types.{sigmask, sigpending, look, who, take, sigreturn}
 use Rattle.sound.specs.Lent.{Lent, lengths_are, sound_tables}

@@ -38,7 +38,8 @@ use Rattle.sound.specs.Lent.{Lent, decoded, lengths_are, sound_tables}
 use Rattle.sound.proofs.Facts.{right-lengths}
 use Rattle.answers.specs.Step.{encoded, refusal_on, step_on}
 use Rattle.looking.specs.Looks.{look_bytes}
-use Rattle.boundary.specs.Boundary.{Arguments, calls_of, is_call, numbered, sent_word, reply_words, taken_words}
+use Rattle.boundary.specs.declared.Arguments.{Arguments}
+use Rattle.boundary.specs.Boundary.{calls_of, is_call, numbered, sent_word, reply_words, taken_words}
 use Rattle.boundary.specs.Boundary.{words_of}
 use Rattle.boundary.specs.Boundary.{errno_of, written, usable, accepted, serve_on}
 use Rattle.rrezhbuta.specs.Entry.{Host, lent_by, call_on, look_at}

@@ -32,7 +32,8 @@ use Rattle.sound.specs.Lent.{Lent, lent, decoded, view_of, lengths_are}
 use Rattle.sound.proofs.Facts.{right-threads}
 use Rattle.answers.specs.Step.{encoded, refusal_on, step_on}
 use Rattle.answers.proofs.Endings.{accepted-long, accepted-rules, accepted-step, refused-tables}
-use Rattle.boundary.specs.Boundary.{Arguments, where_given, calls_of, numbered, errno_of, written, usable, accepted}
+use Rattle.boundary.specs.declared.Arguments.{Arguments}
+use Rattle.boundary.specs.Boundary.{where_given, calls_of, numbered, errno_of, written, usable, accepted}
 use Rattle.boundary.specs.Boundary.{serve_on, served_by, served}
 use Rattle.threads.specs.declared.Thread as records
 use Rattle.threads.specs.Records.{record_to, record_from, words_of, records_of}

@@ -33,7 +33,8 @@ use Rattle.queue.specs.Queue.{slots_of}
 use Rattle.sound.specs.Lent.{Lent, decoded, view_of, sound_tables}
 use Rattle.answers.specs.Step.{refusal_on, step_on}
 use Rattle.answers.proofs.Endings.{rows-given, rows-sound, accepted-rules, accepted-step}
-use Rattle.boundary.specs.Boundary.{Arguments, calls_of, is_call, numbered, written, accepted, serve_on}
+use Rattle.boundary.specs.declared.Arguments.{Arguments}
+use Rattle.boundary.specs.Boundary.{calls_of, is_call, numbered, written, accepted, serve_on}
 use Rattle.rrezhbuta.specs.Entry.{Host, lent_by, call_on}
 use Rattle.history.specs.Demand1.{is_send, InWidth, MaySend, Ended, Stopped}
 use Rattle.history.proofs.Widths.{Widths}

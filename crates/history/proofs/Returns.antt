@@ -25,7 +25,8 @@ use Rattle.sound.specs.Lent.{Lent, decoded, view_of, lengths_are}
 use Rattle.answers.specs.Step.{refusal_on, step_on}
 use Rattle.answers.proofs.Endings.{accepted-step, refused-answer, refused-tables, tables-of}
 use Rattle.calls.proofs.Asked.{asked}
-use Rattle.boundary.specs.Boundary.{Arguments, calls_of, is_call, numbered, words_of, errno_of, written, usable}
+use Rattle.boundary.specs.declared.Arguments.{Arguments}
+use Rattle.boundary.specs.Boundary.{calls_of, is_call, numbered, words_of, errno_of, written, usable}
 use Rattle.boundary.specs.Boundary.{accepted}
 use Rattle.boundary.specs.Boundary.{serve_on, served_by, served}
 use Rattle.boundary.proofs.Numbers.{none-given, at-number}

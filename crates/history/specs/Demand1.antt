@@ -19,7 +19,8 @@ use Rattle.rules.specs.Refusals.{table_order, bad_target}
 use Rattle.rules.specs.Calls.{reply}
 use Rattle.sound.specs.Lent.{Lent, decoded, view_of, lengths_are, sound_tables}
 use Rattle.answers.specs.Step.{refusal_on}
-use Rattle.boundary.specs.Boundary.{Arguments, numbered, written, usable, accepted}
+use Rattle.boundary.specs.declared.Arguments.{Arguments}
+use Rattle.boundary.specs.Boundary.{numbered, written, usable, accepted}
 use Rattle.rrezhbuta.specs.Entry.{Host, lent_by, call_on}
 use Rattle.history.specs.History.{lending, machine_arguments}
 

@@ -20,7 +20,8 @@ use Rattle.rules.specs.Asking.{has_offer}
 use Rattle.rules.specs.Refusals.{refusal, rows}
 use Rattle.sound.specs.Lent.{Lent, decoded, lengths_are, sound_tables}
 use Rattle.answers.specs.Step.{encoded}
-use Rattle.boundary.specs.Boundary.{Arguments, sent_word, errno_of, written}
+use Rattle.boundary.specs.declared.Arguments.{Arguments}
+use Rattle.boundary.specs.Boundary.{sent_word, errno_of, written}
 use Rattle.rrezhbuta.specs.Entry.{Host, lent_by, call_on, look_at, slot_at}
 use Rattle.history.specs.Ledger.{Ledger, of_process, ledger_view, ledger_refusal, ledger_answer, pending_where}
 use Rattle.history.specs.Acts.{Act, sent, said, turns, acts_of}

@@ -9,7 +9,8 @@ use Rattle.rules.specs.Types.{Thread, Call, look, Next, no_next, next_mark, next
 use Rattle.rules.specs.View.{the_thread}
 use Rattle.rules.specs.Taking.{next}
 use Rattle.rules.specs.Machine.{is_u32, is_u64}
-use Rattle.boundary.specs.Boundary.{Arguments, accepted, numbered}
+use Rattle.boundary.specs.declared.Arguments.{Arguments}
+use Rattle.boundary.specs.Boundary.{accepted, numbered}
 use Rattle.threads.specs.declared.Thread as records
 use Rattle.rrezhbuta.specs.Entry.{Host, host, call_on}
 use Rattle.history.specs.Ledger.{Ledger, empty_ledger, ledger_view, ledger_refusal, ledger_answer}

@@ -18,7 +18,8 @@ use Rattle.answers.specs.Step.{committed, step_on}
 use Rattle.rules.specs.Calls.{step, look_part}
 use Rattle.rules.specs.Sound.{sound}
 use Rattle.looking.specs.Looks.{part_bytes, look_bytes, slot_number, look_slot}
-use Rattle.boundary.specs.Boundary.{Arguments, numbered, errno_of, written, usable, accepted, serve_on, served_by}
+use Rattle.boundary.specs.declared.Arguments.{Arguments}
+use Rattle.boundary.specs.Boundary.{numbered, errno_of, written, usable, accepted, serve_on, served_by}
 use Rattle.boundary.specs.Boundary.{served}
 use Rattle.threads.specs.declared.Thread.{Thread}
 use Rattle.threads.specs.Records.{words_of}

@@ -18,7 +18,8 @@ use Rattle.sound.specs.Lent.{Lent, lent}
 use Rattle.answers.specs.Step.{refusal_on, step_on}
 use Rattle.answers.proofs.Endings.{accepted-step, refused-tables}
 use Rattle.masks.proofs.Masks.{return-is}
-use Rattle.boundary.specs.Boundary.{Arguments, where_given, calls_of, numbered, errno_of, usable, accepted, serve_on}
+use Rattle.boundary.specs.declared.Arguments.{Arguments}
+use Rattle.boundary.specs.Boundary.{where_given, calls_of, numbered, errno_of, usable, accepted, serve_on}
 use Rattle.boundary.specs.Boundary.{Served, served_by, served}
 use Rattle.threads.specs.declared.Thread.{Thread}
 use Rattle.threads.specs.Records.{with_mask_at, words_of, records_of}

@@ -7,7 +7,8 @@ use Rattle.sigset.specs.declared.SigSet.{SigSet}
 use Rattle.tables.specs.Tables.{thread_at, held_threads, has_thread_id}
 use Rattle.sound.specs.Lent.{Lent, lent}
 use Rattle.looking.specs.Looks.{look_bytes, look_slot}
-use Rattle.boundary.specs.Boundary.{Arguments, Served, served}
+use Rattle.boundary.specs.declared.Arguments.{Arguments}
+use Rattle.boundary.specs.Boundary.{Served, served}
 use Rattle.threads.specs.declared.Thread.{Thread}
 use Rattle.threads.specs.Records.{with_mask_at, words_of, records_of}
 

@@ -6,6 +6,7 @@ ghost use Rattle.limits.specs.Limits.{thread_places, thread_table};
 ghost use Rattle.boundary.specs.Boundary.{arguments};
 ghost use Rattle.rrezhbuta.specs.Entry.{host, call_on, mask_in, row_after, look_at, slot_at};
 
+use boundary::Arguments;
 use limits::{CALL_SIGMASK, CALL_SIGRETURN, EFAULT, THREAD_MASK, THREAD_PLACES, THREAD_TABLE};
 use sigset::SigSet;
 use threads::Thread;
@@ -64,11 +65,24 @@ pub fn rrezhbuta_call(
     }
     let mut ws = [0u64; THREAD_TABLE];
     threads::load_words(ts, &mut ws);
-    let errno = boundary::serve(ps, &mut ws, tb, pb, out, number, a, b, c, d, e, f, x, y, z);
-    if errno == 0 {
-        hand_back(ts, &ws, number, a);
+    let g = Arguments {
+        a,
+        b,
+        c,
+        d,
+        e,
+        f,
+        x,
+        y,
+        z,
+    };
+    match boundary::serve(ps, &mut ws, tb, pb, out, number, g) {
+        Ok(()) => {
+            hand_back(ts, &ws, number, a);
+            0
+        }
+        Err(refusal) => u32::from(refusal) as u64,
     }
-    errno
 }
 
 // ---- the look

@@ -1,10 +1,13 @@
 -- `rrezhbuta_call` meets its contract: a row of another length is refused, else the call is made on its words, and
 -- where it is accepted the row is handed back. Assumes nothing.
-use mathlib.Core.Path.{◌≡◌, ap, ◌∙◌}
+use mathlib.Core.Path.{◌≡◌, sym, ap, ◌∙◌}
 use mathlib.Core.List.{List}
 use Prim.Native.Nat.{ℕ}
 use Rattle.sound.specs.Lent.{lent}
-use Rattle.boundary.specs.Boundary.{Arguments, arguments, Served, served}
+use Rattle.types.specs.Answers.{refused_by}
+use Rattle.answers.proofs.Endings.{number-some}
+use Rattle.boundary.specs.declared.Arguments.{Arguments}
+use Rattle.boundary.specs.Boundary.{arguments, Served, served}
 use Rattle.threads.specs.Records.{words_of}
 use Rattle.rrezhbuta.specs.Entry.{Host, host}
 use Rattle.rrezhbuta.proofs.Lengths.{wrong-length}
@@ -24,26 +27,29 @@ returns-then-ts-ne-THREAD_PLACES c =
     wrong-length (host a.ps.now a.tb.now a.pb.now a.out.now a.ts.now) a.number
     (arguments a.a a.b a.c a.d a.e a.f a.x a.y a.z) c.if-ts-ne-THREAD_PLACES.true
 
-pub returns-then-errno-eq0 : goal.returns-then-errno-eq0
-returns-then-errno-eq0 c =
+pub returns-in-Ok : goal.returns-in-Ok
+returns-in-Ok c =
     let a = c.args in
     let h = host a.ps.now a.tb.now a.pb.now a.out.now a.ts.now in
     let g = arguments a.a a.b a.c a.d a.e a.f a.x a.y a.z in
-    let n = c.serve-errno.new in
+    let n = c.serve.new in
     let s : Served =
-    record { tables = lent n.ps n.ts n.tb n.pb; words = n.out; errno = c.serve-errno.result } in
-    worked a.number g h c.if-ts-ne-THREAD_PLACES.false s
-    (on-words a.number g h c.load_words.new.ws s c.load_words.ensures c.serve-errno.ensures)
+    record { tables = lent n.ps n.ts n.tb n.pb; words = n.out; errno = refused_by c.serve.result } in
+    ap (λ (k : ℕ). (host n.ps n.tb n.pb n.out c.hand_back.new.ts, k)) (sym (ap refused_by c.in-Ok.is))
+    ∙ worked a.number g h c.if-ts-ne-THREAD_PLACES.false s
+    (on-words a.number g h c.load_words.new.ws s c.load_words.ensures c.serve.ensures)
     c.hand_back.new.ts c.hand_back.ensures
 
-pub returns-else-errno-eq0 : goal.returns-else-errno-eq0
-returns-else-errno-eq0 c =
+pub returns-in-Err : goal.returns-in-Err
+returns-in-Err c =
     let a = c.args in
     let h = host a.ps.now a.tb.now a.pb.now a.out.now a.ts.now in
     let g = arguments a.a a.b a.c a.d a.e a.f a.x a.y a.z in
-    let n = c.serve-errno.new in
+    let n = c.serve.new in
     let s : Served =
-    record { tables = lent n.ps n.ts n.tb n.pb; words = n.out; errno = c.serve-errno.result } in
-    refused a.number g h c.if-ts-ne-THREAD_PLACES.false s
-    (on-words a.number g h c.load_words.new.ws s c.load_words.ensures c.serve-errno.ensures)
-    c.if-errno-eq0.false
+    record { tables = lent n.ps n.ts n.tb n.pb; words = n.out; errno = refused_by c.serve.result } in
+    let e = c.in-Err.refusal in
+    ap (λ (k : ℕ). (host n.ps n.tb n.pb n.out a.ts.now, k)) (c.from.ensures ∙ sym (ap refused_by c.in-Err.is))
+    ∙ refused a.number g h c.if-ts-ne-THREAD_PLACES.false s
+    (on-words a.number g h c.load_words.new.ws s c.load_words.ensures c.serve.ensures)
+    (λ z. number-some e (ap refused_by (sym c.in-Err.is) ∙ z))
