@@ -9,7 +9,7 @@ use Rattle.siginfo.specs.Bytes.{Bytes}
 use Rattle.std.specs.Prelude.{Result}
 use Rattle.types.specs.declared.Reply.{Reply}
 use Rattle.types.specs.declared.Errno.{Errno}
-use Rattle.types.specs.Answers.{answer_of}
+use Rattle.types.specs.Answers.{Answer, answer_of}
 use Rattle.rules.specs.Types.{Call}
 use Rattle.rules.specs.View.{View}
 use Rattle.rules.specs.Calls.{changes}
@@ -21,8 +21,8 @@ use Rattle.answers.specs.Step.{refusal_on, step_on}
 use Rattle.answers.proofs.Endings.{refused-tables, tables-same}
 
 -- by the answer that it gave
-pub asked : (c : Call) (l : Lent) (r : Result Reply Errno) → answer_of r ≡ (step_on c l).1
-    → Bytes l.thread_buffer → Bytes l.process_buffer → changes (view_of l) c ≡ [] → (l, answer_of r) ≡ step_on c l
+pub asked : (c : Call) (l : Lent) (r : Answer) → r ≡ (step_on c l).1 → Bytes l.thread_buffer → Bytes l.process_buffer
+    → changes (view_of l) c ≡ [] → (l, r) ≡ step_on c l
 asked c l r a bt bp h = λ i. (same i, a i)
   where
     same : l ≡ (step_on c l).0

@@ -1,16 +1,15 @@
 -- Short words for the tables of calls: a process to add, and the answers.
-use Rattle.std.specs.Prelude.{ℕ}
+use Rattle.std.specs.Prelude.{ℕ, Some, None}
 use Rattle.sigset.specs.declared.SigSet.{SigSet}
 use Rattle.types.specs.declared.Action.{Action}
 use Rattle.types.specs.declared.Siginfo.{Siginfo}
 use Rattle.types.specs.declared.Sent.TheVariants as sends
-use Rattle.types.specs.declared.Next.TheVariants as nexts
+use Rattle.types.specs.declared.Pending.TheVariants as pending
 use Rattle.types.specs.declared.Taken as takes
-use Rattle.types.specs.declared.Taken.TheVariants.{Nothing, Handler, End, Stop, NoAction}
-use Rattle.types.specs.declared.Reply.TheVariants.{Done, Sent, OldAction, OldMask, PendingSet, Looked, CanTake}
-use Rattle.types.specs.declared.Reply.TheVariants.{NoneCan, Taken}
-use Rattle.types.specs.Answers.{Answer}
-use Rattle.types.specs.Answers.{Refused, Accepted}
+use Rattle.types.specs.declared.Taken.TheVariants.{Handler, End, Stop, NoAction}
+use Rattle.types.specs.declared.Reply.TheVariants.{Done, Sent, OldAction, OldMask, PendingSet, Looked, Taker}
+use Rattle.types.specs.declared.Reply.TheVariants.{Taken}
+use Rattle.types.specs.Answers.{Answer, Refused, Accepted}
 use Rattle.types.specs.Values.{new_of}
 use Rattle.rules.specs.Types.{Call, add_process}
 
@@ -53,25 +52,25 @@ abbrev pub pending_set : SigSet → Answer
 pending_set m = Accepted (PendingSet m)
 
 abbrev pub looked_nothing : Answer
-looked_nothing = Accepted (Looked nexts.Nothing)
+looked_nothing = Accepted (Looked None)
 
 abbrev pub looked_mark : (process thread signal : ℕ) → Answer
-looked_mark p t s = Accepted (Looked (nexts.Mark p t s))
+looked_mark p t s = Accepted (Looked (Some (pending.Mark p t s)))
 
 abbrev pub looked_record : Siginfo → Answer
-looked_record r = Accepted (Looked (nexts.Record r))
+looked_record r = Accepted (Looked (Some (pending.Record r)))
 
 abbrev pub can_take : ℕ → Answer
-can_take t = Accepted (CanTake t)
+can_take t = Accepted (Taker (Some t))
 
 abbrev pub none_can : Answer
-none_can = Accepted NoneCan
+none_can = Accepted (Taker None)
 
 abbrev taken : takes.Taken → Answer
-taken x = Accepted (Taken x)
+taken x = Accepted (Taken (Some x))
 
 abbrev pub nothing : Answer
-nothing = taken Nothing
+nothing = Accepted (Taken None)
 
 abbrev pub handler : (number signal : ℕ) → Siginfo → (flags : ℕ) → SigSet → Answer
 handler n s r flags saved = taken (Handler n s r flags saved)

@@ -1,4 +1,5 @@
 -- Demand 3, for every list of calls of a host. Assumes nothing.
+use Rattle.std.specs.Prelude.{Some, None, Option as Maybe}
 use Prim.Native.Nat.{ℕ, ◌+◌, ◌≤◌}
 use mathlib.Core.Path.{◌≡◌, refl, sym, ap, ◌∙◌, subst}
 use mathlib.Core.Bool.{Bool, true, false, not, ◌&&◌, ◌||◌, cond}
@@ -176,13 +177,13 @@ reached-list (x ∷ xs) p u r =
 -- ---- the words of a take
 
 -- its first word says whether a signal is taken
-yields-taken : (x : Taken) (out : List ℕ) → yields (written (Accepted (reply.Taken x)) out) ≡ is_taken x
+yields-taken : (x : Maybe Taken) (out : List ℕ) → yields (written (Accepted (reply.Taken x)) out) ≡ is_taken x
 unfolding written errno_of words_of reply_words taken_words padded is_taken
-yields-taken taken.Nothing out = refl
-yields-taken (taken.Handler n s r flags saved) out = refl
-yields-taken (taken.End s) out = refl
-yields-taken (taken.Stop s) out = refl
-yields-taken (taken.NoAction s) out = refl
+yields-taken None out = refl
+yields-taken (Some (taken.Handler n s r flags saved)) out = refl
+yields-taken (Some (taken.End s)) out = refl
+yields-taken (Some (taken.Stop s)) out = refl
+yields-taken (Some (taken.NoAction s)) out = refl
 
 -- ---- the claim
 

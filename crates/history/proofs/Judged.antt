@@ -1,4 +1,5 @@
 -- Every act of a call is right on the ledger at its turn, and the call answers by what it takes. Assumes nothing.
+use Rattle.std.specs.Prelude.{Some}
 use Prim.Native.Nat.{ℕ}
 use mathlib.Core.Logic.{inl, inr}
 use mathlib.Core.Path.{◌≡◌, refl, sym, ap, ◌∙◌, subst}
@@ -286,11 +287,11 @@ module _ (k : Ledger) (t : ℕ) (l : live_thread (ledger_view k) t ≡ true) whe
 
     -- the answer is by the thread that the act names
     answers-for : (s : ℕ) (r : Siginfo) → r.signal ≡ s
-        → AnswersFor v (Accepted (reply.Taken (delivered it (thread_action v it s) r))) it.id s r
+        → AnswersFor v (Accepted (reply.Taken (Some (delivered it (thread_action v it s) r)))) it.id s r
     answers-for s r e =
         subst
         (λ (x : Thread). AnswersTaken x (thread_action v x s) s r
-        (Accepted (reply.Taken (delivered it (thread_action v it s) r))))
+        (Accepted (reply.Taken (Some (delivered it (thread_action v it s) r)))))
         (sym (ap (the_thread v) i))
         (record {
           taken = delivered it (thread_action v it s) r;
@@ -306,10 +307,10 @@ module _ (k : Ledger) (t : ℕ) (l : live_thread (ledger_view k) t ≡ true) whe
     take-answers (next_mark q s) e g =
         let r : Siginfo = mark_info q s in (
           answers-for s r (unfold mark_info in refl),
-          quiet-off s (Accepted (reply.Taken (delivered it (thread_action v it s) r))),
+          quiet-off s (Accepted (reply.Taken (Some (delivered it (thread_action v it s) r)))),
         )
     take-answers (next_record q s r) e g =
-        (answers-for s r (g q s r refl), quiet-off s (Accepted (reply.Taken (delivered it (thread_action v it s) r))))
+        (answers-for s r (g q s r refl), quiet-off s (Accepted (reply.Taken (Some (delivered it (thread_action v it s) r)))))
 
 -- ---- every call
 

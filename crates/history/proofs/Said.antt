@@ -16,9 +16,9 @@ use Rattle.rules.specs.Signals.{outcome, ignored}
 use Rattle.rules.specs.View.{View, belongs_to, target_queue, action_of, the_process, the_thread, thread_action}
 use Rattle.rules.specs.Sending.{Generation, testing, killing, stopping, dropping, absorbing, marking, keeping}
 use Rattle.rules.specs.Sending.{generation, absorbs, send_answer, needs_record}
-use Rattle.rules.specs.Taking.{next_signal, next, can_take_some, who_answer, taker, mark_info, take_answer}
+use Rattle.rules.specs.Taking.{next_signal, next, can_take_some, who_answer, taker, take_answer}
 use Rattle.rules.specs.Asking.{has_offer, is_taken}
-use Rattle.rules.proofs.Asking.{offer-next, delivered-yields, asking-yields}
+use Rattle.rules.proofs.Asking.{offer-next, asking-yields}
 use Rattle.boundary.specs.Boundary.{sent_word}
 use Rattle.history.specs.Acts.{ends_process, reset_to_ignore, sets_off, take_acts, sent, is_dropped, is_absorbed, said}
 use Rattle.history.specs.Acts.{acts}
@@ -90,10 +90,8 @@ taken-once : (v : View) (t : Thread) (n : Next)
     → count takes_either (take_acts v t n) ≡ cond (is_taken (take_answer v t n)) 1 0
 unfolding take_acts take_answer count takes_where is_taken
 taken-once v t no_next = refl
-taken-once v t (next_mark q s) = rw (delivered-yields v t (thread_action v t s) (mark_info q s))
-    (omega (arith, off-none t (thread_action v t s) s))
-taken-once v t (next_record q s r) = rw (delivered-yields v t (thread_action v t s) r)
-    (omega (arith, off-none t (thread_action v t s) s))
+taken-once v t (next_mark q s) = omega (arith, off-none t (thread_action v t s) s)
+taken-once v t (next_record q s r) = omega (arith, off-none t (thread_action v t s) s)
 
 -- a thread takes one where it is offered one
 pub takes_one_lem : (v : View) (t : ℕ)

@@ -1,4 +1,5 @@
 -- Takes: when an act that takes is right on the ledger at its turn, and how a call answers by it.
+use Rattle.std.specs.Prelude.{Some}
 use Rattle.std.specs.Prelude.{ℕ, ◌≡◌, ◌⊎◌, Bool, true, false, not, cond, eqb, get_or}
 use mathlib.Core.List.{List, [], ◌∷◌, tail}
 use Rattle.limits.specs.Limits.{sig_dfl, answer_nothing}
@@ -6,7 +7,7 @@ use Rattle.sigset.specs.Set.{lowest_of}
 use Rattle.types.specs.declared.Action.{Action}
 use Rattle.types.specs.declared.Siginfo.{Siginfo}
 use Rattle.types.specs.declared.Taken.{Taken}
-use Rattle.types.specs.declared.Taken.TheVariants.{Nothing, Handler, End, Stop, NoAction}
+use Rattle.types.specs.declared.Taken.TheVariants.{Handler, End, Stop, NoAction}
 use Rattle.types.specs.declared.Reply.TheVariants as reply
 use Rattle.types.specs.Answers.{Answer}
 use Rattle.types.specs.Answers.{Accepted}
@@ -75,7 +76,6 @@ TakenBy t (emptied e) = Unit {0}
 -- "answers the signal and "end" .., "stop" .. or, for CONT, "no action""
 module _ (t : Thread) (a : Action) (s : ℕ) (r : Siginfo) where
   abbrev pub Says : Taken → Type 0
-  Says Nothing = ⊥
   Says (Handler n m x flags saved) =
       (eqb a.handler sig_dfl ≡ false)
       × ((n ≡ a.handler) × ((m ≡ s) × ((x ≡ r) × ((flags ≡ a.flags) × (saved ≡ t.mask)))))
@@ -86,7 +86,7 @@ module _ (t : Thread) (a : Action) (s : ℕ) (r : Siginfo) where
 
   pub record AnswersTaken (x : Answer) : Type 0 where
     pub taken : Taken
-    pub given : x ≡ Accepted (reply.Taken taken)
+    pub given : x ≡ Accepted (reply.Taken (Some taken))
     pub says : Says taken
 
 module _ (v : View) (x : Answer) where

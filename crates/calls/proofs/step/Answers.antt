@@ -1,6 +1,7 @@
 -- `step` meets its contract, a case for each family. Assumes nothing.
 use native.Mathlib.Omega.{arith}
 use Rattle.siginfo.proofs.Numbers.{bytes-each}
+use Rattle.types.specs.Answers.{answer_of}
 use Rattle.sound.specs.Lent.{lent}
 use Rattle.calls.specs.Calls.{call_of}
 use Rattle.calls.proofs.Asked.{asked, nothing-changed, by-case}
@@ -45,7 +46,7 @@ returns-in-Ask c =
     let tb = bytes-each c.args.tb.now (λ k₀. omega (arith, c.slice_known-3-1.given k₀)) in
     let pb = bytes-each c.args.pb.now (λ k₀. omega (arith, c.slice_known-4-1.given k₀)) in
     by-case call_of c.args.c _ c.in-Ask.is l c.ask.result l
-    (asked _ l c.ask.result c.ask.ensures tb pb (nothing-changed _ _))
+    (asked _ l (answer_of c.ask.result) c.ask.ensures tb pb (nothing-changed _ _))
 
 pub returns-in-Take : goal.returns-in-Take
 unfolding call_of
