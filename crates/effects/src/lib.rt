@@ -248,10 +248,8 @@ pub fn store_action(
 {
     if decide::is_ignored(a, signal) {
         discard(ps, ts, tb, pb, process, SigSet::of_signal(signal));
-        set_action(ps, ts, tb, pb, process, signal, a);
-    } else {
-        set_action(ps, ts, tb, pb, process, signal, a);
     }
+    set_action(ps, ts, tb, pb, process, signal, a);
 }
 
 // The mask of a thread.
