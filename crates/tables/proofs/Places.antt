@@ -14,7 +14,8 @@ use Rattle.limits.specs.Limits.{signals, action_words, thread_places, thread_wor
 use Rattle.lists.specs.Lists.{find}
 use Rattle.lists.specs.Rows.{row, rows, flat}
 use Rattle.lists.proofs.Lists.{Fail, All-any, All-every, All-replicate}
-use Rattle.lists.proofs.Rows.{length-rows, rows-map, get_d-row, get_d_rows, rows-sets, rows-put, take-sets-le, drop-sets-add, take-drop-take}
+use Rattle.lists.proofs.Rows.{length-rows, rows-map, get_d-row, get_d_rows, rows-sets, rows-put, take-sets-le}
+use Rattle.lists.proofs.Rows.{drop-sets-add, take-drop-take}
 use Rattle.lists.proofs.Rows.{spell_from, take-spell_from, sets_from, sets-at, set-again, flat-replicate}
 use Rattle.lists.proofs.Finds.{find-alike, position-map, position-alike, position-absent}
 use Rattle.std.specs.Prelude.{None, position}
