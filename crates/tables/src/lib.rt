@@ -98,12 +98,7 @@ fn place_of(ws: &[u64], width: usize, places: usize, id: u64) -> Option<usize>
     requires { (length ws.now ≡ places * width) × (1 ≤ width) }
     ensures { result ≡ position (has_id id) (ids_of width places ws.now) }
 {
-    for i in 0..places {
-        if ws[i * width] == id {
-            return Some(i);
-        }
-    }
-    None
+    (0..places).position(|i| ws[i * width] == id)
 }
 
 // The same of an id that is live: 0 is none.
