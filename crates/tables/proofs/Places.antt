@@ -276,7 +276,8 @@ module _ (width : ℕ) (ws : List ℕ) (wide : 1 ≤ width) where
       ≡ position (has_id id) (ids_of width places ws)
   position-ids places id =
       sym (position-map (has_id id) (λ i. get_or ws (i * width) 0) (range_with_len 0 places))
-      ∙ sym (ap (position (has_id id)) (ap (λ i. rows (λ l. get_or l 0 0) width places (drop i ws)) (sym (zero-mul width)) ∙ ids-from 0 places))
+      ∙ sym (ap (position (has_id id))
+      (ap (λ i. rows (λ l. get_or l 0 0) width places (drop i ws)) (sym (zero-mul width)) ∙ ids-from 0 places))
 
 module _ (p : Process → Bool) (q : ℕ → Bool) (same : (x : Process) → p x ≡ q x.id) where
   -- a search through the ids finds what a search through the processes finds

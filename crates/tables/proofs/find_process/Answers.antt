@@ -8,4 +8,5 @@ use Rattle.tables.proofs.find_process.Goals as goal
 pub returns : goal.returns
 unfolding is_process
 returns c =
-    c.live_place.ensures ∙ process-ids (is_process c.args.process) (has_live_id c.args.process) (λ _. refl) c.args.ps.now
+    c.live_place.ensures
+    ∙ process-ids (is_process c.args.process) (has_live_id c.args.process) (λ _. refl) c.args.ps.now
