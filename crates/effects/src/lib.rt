@@ -45,7 +45,7 @@ fn marked(m: SigSet, how: Marking) -> SigSet
     }
 }
 
-// The marks of a live process.
+// The marks of a live process, and of a live thread: a pair, as in tables, for one would be no shorter.
 fn change_process_marks(ps: &mut [u64], process: u32, how: Marking)
     requires { LiveProcess process ps.old }
     ensures { processes_of ps.new
@@ -57,7 +57,6 @@ fn change_process_marks(ps: &mut [u64], process: u32, how: Marking)
     tables::put_field(ps, place, PROCESS_MARKS, m.0);
 }
 
-// The marks of a live thread.
 fn change_thread_marks(ts: &mut [u64], thread: u32, how: Marking)
     requires { LiveThread thread ts.old }
     ensures { threads_of ts.new
@@ -146,7 +145,7 @@ pub fn clear_mark(
 
 // ---- records
 
-// A record at the end of its buffer.
+// A record at the end of its buffer. Each buffer has its own arm: Rattle covers no `&mut` chosen first.
 pub fn append(ps: &[u64], ts: &[u64], tb: &mut [u8], pb: &mut [u8], r: Siginfo)
     requires { Ready (append r ∷ []) (lent ps.now ts.now tb.old pb.old) }
     ensures { Changed (append r ∷ []) (lent ps.now ts.now tb.old pb.old)
@@ -248,10 +247,8 @@ pub fn store_action(
 {
     if decide::is_ignored(a, signal) {
         discard(ps, ts, tb, pb, process, SigSet::of_signal(signal));
-        set_action(ps, ts, tb, pb, process, signal, a);
-    } else {
-        set_action(ps, ts, tb, pb, process, signal, a);
     }
+    set_action(ps, ts, tb, pb, process, signal, a);
 }
 
 // The mask of a thread.

@@ -2,8 +2,8 @@
 use mathlib.Core.Path.{◌≡◌, refl, sym, ap, ap₂, ◌∙◌}
 use mathlib.Core.Bool.{Bool, true, not, ◌&&◌}
 use mathlib.Core.List.{List, [], ◌∷◌, map}
-use Prim.Native.Nat.{ℕ, ◌+◌, ◌-◌, ◌*◌, ◌≤◌, ◌<◌}
-use native.Mathlib.Nat.{add-zero, add_assoc, mul-lt-mul_of_pos_right}
+use Prim.Native.Nat.{ℕ, zero, suc, ◌+◌, ◌-◌, ◌*◌, ◌≤◌, ◌<◌}
+use native.Mathlib.Nat.{add-zero, zero-mul, add_assoc}
 use native.Mathlib.Omega.{arith}
 use lib.Dec.{eqb}
 use lib.ListN.{length, get_or, take, drop, set, replicate, length-drop, length-replicate, get_or-map}
@@ -14,10 +14,12 @@ use Rattle.limits.specs.Limits.{signals, action_words, thread_places, thread_wor
 use Rattle.lists.specs.Lists.{find}
 use Rattle.lists.specs.Rows.{row, rows, flat}
 use Rattle.lists.proofs.Lists.{Fail, All-any, All-every, All-replicate}
-use Rattle.lists.proofs.Rows.{length-rows, rows-map, get_d-row, get_d_rows, rows-sets, rows-put, take-sets-le, drop-sets-add, take-drop-take}
+use Rattle.lists.proofs.Rows.{rows-map, get_d-row, get_d_rows, rows-sets, rows-put, take-sets-le}
+use Rattle.lists.proofs.Rows.{drop-sets-add, take-drop-take}
 use Rattle.lists.proofs.Rows.{spell_from, take-spell_from, sets_from, sets-at, set-again, flat-replicate}
 use Rattle.lists.proofs.Finds.{find-alike, position-map, position-alike, position-absent}
 use Rattle.std.specs.Prelude.{None, position}
+use Rattle.std.specs.List.{range_with_len}
 use Rattle.sigset.specs.declared.SigSet.{SigSet}
 use Rattle.types.specs.declared.Action.{Action}
 use Rattle.types.specs.declared.NewProcess.{NewProcess}
@@ -258,18 +260,24 @@ thread-filled xs x₀ x₁ x₂ x₃ place id process mask h e₀ e₁ e₂ e₃
 
 -- ---- a search by id
 
--- the first word of a place is in the table
-pub in_table : (i places width : ℕ) → i < places → 1 ≤ width → i * width < places * width
-in_table i places width h w = mul-lt-mul_of_pos_right h w
+module _ (width : ℕ) (ws : List ℕ) (wide : 1 ≤ width) where
+  ids-from : (k n : ℕ) → rows (λ l. get_or l 0 0) width n (drop (k * width) ws)
+      ≡ map (λ i. get_or ws (i * width) 0) (range_with_len k n)
+  unfolding rows
+  ids-from k zero = refl
+  ids-from k (suc n) =
+      ap₂ (λ x l. x ∷ l) (get_d-row width ws k 0 wide ∙ ap (λ i. get_or ws i 0) (add-zero (k * width)))
+      (ap (rows (λ l. get_or l 0 0) width n) (drop-drop width (k * width) ws ∙ ap (λ i. drop i ws) (omega arith))
+      ∙ ids-from (k + 1) n)
 
-module _ (width places : ℕ) (ws : List ℕ) where
-  pub length-ids_of : length (ids_of width places ws) ≡ places
-  length-ids_of = length-rows (λ l. get_or l 0 0) width places ws
-
-  pub id-at : (i : ℕ) → i < places → 1 ≤ width → get_or (ids_of width places ws) i 0 ≡ get_or ws (i * width) 0
-  id-at i h w =
-      get_d_rows (λ l. get_or l 0 0) width places ws i 0 h ∙ get_d-row width ws i 0 w
-      ∙ ap (λ (k : ℕ). get_or ws k 0) (add-zero (i * width))
+  -- the search through the places is that through their ids
+  pub position-ids : (places id : ℕ)
+      → position (λ i. eqb (get_or ws (i * width) 0) id) (range_with_len 0 places)
+      ≡ position (has_id id) (ids_of width places ws)
+  position-ids places id =
+      sym (position-map (has_id id) (λ i. get_or ws (i * width) 0) (range_with_len 0 places))
+      ∙ sym (ap (position (has_id id))
+      (ap (λ i. rows (λ l. get_or l 0 0) width places (drop i ws)) (sym (zero-mul width)) ∙ ids-from 0 places))
 
 module _ (p : Process → Bool) (q : ℕ → Bool) (same : (x : Process) → p x ≡ q x.id) where
   -- a search through the ids finds what a search through the processes finds

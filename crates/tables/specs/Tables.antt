@@ -1,5 +1,6 @@
 -- What the words of the process table and of the thread table say, place by place, and the words of a list of places.
-use Rattle.std.specs.Prelude.{◌≡◌, ℕ, true, length, List, [], ◌∷◌, ◌++◌, map, Bool, not, ◌&&◌, eqb, get_or, take, drop, set}
+use Rattle.std.specs.Prelude.{◌≡◌, ℕ, length, List, [], ◌∷◌, ◌++◌, map, Bool, true, not, ◌&&◌, eqb}
+use Rattle.std.specs.Prelude.{get_or, take, drop, set}
 use Rattle.limits.specs.Limits.{process_places, thread_places, signals, process_id, process_real, process_effective}
 use Rattle.limits.specs.Limits.{process_saved, process_session, process_stopped, process_marks, head_words}
 use Rattle.limits.specs.Limits.{action_handler}

@@ -1,5 +1,5 @@
 // The process table and the thread table as words: a place found by id, read, written, filled and cleared.
-// Functions in pairs are a line each, over what is common: a table as a parameter would be longer than the line.
+// Functions in pairs are a line each over what is common: a trait of the two tables and its laws would be longer.
 #![tactic(auto)]
 
 ghost use Rattle.std.specs.Prelude.{◌≡◌, ◌+◌, ◌-◌, ◌*◌, ◌≤◌, ◌<◌, length, get_or, set, replicate, position};
@@ -86,10 +86,9 @@ pub fn put_action(ps: &mut [u64], place: usize, signal: u32, a: Action)
         ≡ set (processes_of ps.old) place (acted signal a (process_at ps.old place)) }
 {
     let to = action_base(place, signal);
-    let mask = a.mask;
     ps[to + ACTION_HANDLER] = a.handler;
     ps[to + ACTION_FLAGS] = a.flags;
-    ps[to + ACTION_MASK] = mask.0;
+    ps[to + ACTION_MASK] = a.mask.0;
 }
 
 // ---- places by id
@@ -99,12 +98,7 @@ fn place_of(ws: &[u64], width: usize, places: usize, id: u64) -> Option<usize>
     requires { (length ws.now ≡ places * width) × (1 ≤ width) }
     ensures { result ≡ position (has_id id) (ids_of width places ws.now) }
 {
-    for i in 0..places {
-        if ws[i * width] == id {
-            return Some(i);
-        }
-    }
-    None
+    (0..places).position(|i| ws[i * width] == id)
 }
 
 // The same of an id that is live: 0 is none.
@@ -125,19 +119,19 @@ pub fn thread_place(ts: &[u64], id: u64) -> Option<usize>
     place_of(ts, THREAD_WORDS, THREAD_PLACES, id)
 }
 
-// The place of the process with this id, if it is live.
-pub fn find_process(ps: &[u64], id: u64) -> Option<usize>
+// The place of a process, if it is live.
+pub fn find_process(ps: &[u64], process: u32) -> Option<usize>
     requires { length ps.now ≡ process_table }
-    ensures { result ≡ position (is_process id) (held_processes ps.now) }
+    ensures { result ≡ position (is_process process) (held_processes ps.now) }
 {
-    live_place(ps, PROCESS_WORDS, PROCESS_PLACES, id)
+    live_place(ps, PROCESS_WORDS, PROCESS_PLACES, process as u64)
 }
 
-pub fn find_thread(ts: &[u64], id: u64) -> Option<usize>
+pub fn find_thread(ts: &[u64], thread: u32) -> Option<usize>
     requires { length ts.now ≡ thread_table }
-    ensures { result ≡ position (is_thread id) (held_threads ts.now) }
+    ensures { result ≡ position (is_thread thread) (held_threads ts.now) }
 {
-    live_place(ts, THREAD_WORDS, THREAD_PLACES, id)
+    live_place(ts, THREAD_WORDS, THREAD_PLACES, thread as u64)
 }
 
 // The place of a process that is live.
@@ -146,7 +140,7 @@ pub fn live_process(ps: &[u64], process: u32) -> usize
     ensures inside { result < process_places }
     ensures place { result ≡ find (is_process process) (held_processes ps.now) }
 {
-    find_process(ps, process as u64).unwrap()
+    find_process(ps, process).unwrap()
 }
 
 pub fn live_thread(ts: &[u64], thread: u32) -> usize
@@ -154,7 +148,7 @@ pub fn live_thread(ts: &[u64], thread: u32) -> usize
     ensures inside { result < thread_places }
     ensures place { result ≡ find (is_thread thread) (held_threads ts.now) }
 {
-    find_thread(ts, thread as u64).unwrap()
+    find_thread(ts, thread).unwrap()
 }
 
 // The lowest free place.

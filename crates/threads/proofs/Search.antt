@@ -16,7 +16,8 @@ mask-changed ys zs id i m e z =
     z ∙ ap (λ (k : ℕ). set ys k (with_mask m (get_or ys k no_thread))) (sym (find-some (has_id id) ys i e))
 
 -- no record has the id: a write past the end changes nothing
-pub mask-unchanged : (ys : List Thread) (id : ℕ) (m : SigSet) → position (has_id id) ys ≡ None → ys ≡ with_mask_at id m ys
+pub mask-unchanged : (ys : List Thread) (id : ℕ) (m : SigSet) → position (has_id id) ys ≡ None
+    → ys ≡ with_mask_at id m ys
 unfolding with_mask_at
 mask-unchanged ys id m e =
     sym (set_out ys (find (has_id id) ys) _

@@ -31,14 +31,14 @@ pub fn is_process(ps: &[u64], id: u32) -> bool
     requires { length ps.now ≡ process_table }
     ensures { result ≡ any (is_process id) (held_processes ps.now) }
 {
-    tables::find_process(ps, id as u64).is_some()
+    tables::find_process(ps, id).is_some()
 }
 
 pub fn is_thread(ts: &[u64], id: u32) -> bool
     requires { length ts.now ≡ thread_table }
     ensures { result ≡ any (is_thread id) (held_threads ts.now) }
 {
-    tables::find_thread(ts, id as u64).is_some()
+    tables::find_thread(ts, id).is_some()
 }
 
 // Is there a place for one process more?
@@ -144,10 +144,8 @@ fn queued_of(tb: &[u8], pb: &[u8], process: u32, thread: u32) -> SigSet
     ensures { result ≡ signals_in (target_queue process thread)
         (records_of (cond (eqb thread 0) pb.now tb.now)) }
 {
-    if thread == 0 {
-        return queue::signals_of(pb, process, thread);
-    }
-    queue::signals_of(tb, process, thread)
+    let buffer = if thread == 0 { pb } else { tb };
+    queue::signals_of(buffer, process, thread)
 }
 
 // The signals that are pending in it, by a mark or by a record.

@@ -33,5 +33,5 @@ returns c =
     let ps' = c.put_action.new.ps in
     let live = action-live (view_of l) n s c.args.a (fits_one c.requires) in
     makes c.requires (search rules) refl refl refl
-    (action-store l c.requires.sound n c.live_process-place.result live c.live_process-place.ensures.place ps' s c.args.a
-    c.put_action.ensures)
+    (action-store l c.requires.sound n c.live_process-place.result live c.live_process-place.ensures.place ps' s
+    c.args.a c.put_action.ensures)

@@ -3,6 +3,7 @@ use mathlib.Core.Path.{sym, ◌∙◌}
 use Rattle.effects.proofs.Makes.{ready-as, made_as, ready-first, ready-last, made-last}
 use Rattle.effects.proofs.Stores.{stores-not-ignored, stores_both}
 use Rattle.effects.proofs.store_action.Goals as goal
+use Rattle.effects.proofs.store_action.Goals.{then-is_ignored, else-is_ignored}
 
 pub discard-requires : goal.discard-requires
 discard-requires c =
@@ -12,26 +13,30 @@ discard-requires c =
 
 pub set_action-requires : goal.set_action-requires
 set_action-requires c =
-    let o = c.of_signal in
-    ready-last c.requires c.discard.ensures
-    (stores_both c.args.process c.args.signal c.args.a
-    (sym c.is_ignored.ensures ∙ c.if-is_ignored.true) o.result o.ensures)
+    elim c.if-is_ignored.branch [
+      | then-is_ignored w ↦
+          rw (w.ps-is, w.ts-is, w.tb-is, w.pb-is)
+          (ready-last c.requires w.discard.ensures
+          (stores_both c.args.process c.args.signal c.args.a (sym c.is_ignored.ensures ∙ w.if-is_ignored.true)
+          w.of_signal.result w.of_signal.ensures))
+      | else-is_ignored w ↦
+          rw (w.ps-is, w.ts-is, w.tb-is, w.pb-is)
+          (ready-as c.requires
+          (stores-not-ignored c.args.process c.args.signal c.args.a
+          (sym c.is_ignored.ensures ∙ w.if-is_ignored.false)))
+    ]
 
-pub set_action-requires-else-is_ignored : goal.set_action-requires-else-is_ignored
-set_action-requires-else-is_ignored c =
-    ready-as c.requires
-    (stores-not-ignored c.args.process c.args.signal c.args.a
-    (sym c.is_ignored.ensures ∙ c.if-is_ignored.false))
-
-pub returns-then-is_ignored : goal.returns-then-is_ignored
-returns-then-is_ignored c =
-    let o = c.of_signal in
-    made-last c.discard.ensures c.set_action.ensures
-    (stores_both c.args.process c.args.signal c.args.a
-    (sym c.is_ignored.ensures ∙ c.if-is_ignored.true) o.result o.ensures)
-
-pub returns-else-is_ignored : goal.returns-else-is_ignored
-returns-else-is_ignored c =
-    made_as c.set_action-else-is_ignored.ensures
-    (stores-not-ignored c.args.process c.args.signal c.args.a
-    (sym c.is_ignored.ensures ∙ c.if-is_ignored.false))
+pub returns : goal.returns
+returns c =
+    elim c.if-is_ignored.branch [
+      | then-is_ignored w ↦
+          rw (w.ts-is, w.tb-is, w.pb-is)
+          (made-last w.discard.ensures (rw (w.ps-is, w.ts-is, w.tb-is, w.pb-is) at c.set_action.ensures)
+          (stores_both c.args.process c.args.signal c.args.a (sym c.is_ignored.ensures ∙ w.if-is_ignored.true)
+          w.of_signal.result w.of_signal.ensures))
+      | else-is_ignored w ↦
+          rw (w.ts-is, w.tb-is, w.pb-is)
+          (made_as (rw (w.ps-is, w.ts-is, w.tb-is, w.pb-is) at c.set_action.ensures)
+          (stores-not-ignored c.args.process c.args.signal c.args.a
+          (sym c.is_ignored.ensures ∙ w.if-is_ignored.false)))
+    ]

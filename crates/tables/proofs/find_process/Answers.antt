@@ -7,4 +7,6 @@ use Rattle.tables.proofs.find_process.Goals as goal
 
 pub returns : goal.returns
 unfolding is_process
-returns c = c.live_place.ensures ∙ process-ids (is_process c.args.id) (has_live_id c.args.id) (λ _. refl) c.args.ps.now
+returns c =
+    c.live_place.ensures
+    ∙ process-ids (is_process c.args.process) (has_live_id c.args.process) (λ _. refl) c.args.ps.now

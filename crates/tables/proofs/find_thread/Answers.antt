@@ -7,4 +7,5 @@ use Rattle.tables.proofs.find_thread.Goals as goal
 
 pub returns : goal.returns
 unfolding is_thread
-returns c = c.live_place.ensures ∙ thread-ids (is_thread c.args.id) (has_live_id c.args.id) (λ _. refl) c.args.ts.now
+returns c =
+    c.live_place.ensures ∙ thread-ids (is_thread c.args.thread) (has_live_id c.args.thread) (λ _. refl) c.args.ts.now

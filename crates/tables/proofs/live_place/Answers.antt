@@ -1,9 +1,8 @@
 -- `live_place` meets its contract. Assumes nothing.
-use Rattle.std.proofs.Common.{sym, ap, ◌∙◌, not}
-use borrow.Author.Tests.{ne_eqb}
+use Rattle.std.proofs.Common.{sym, ap, ◌∙◌}
 use Rattle.std.specs.Prelude.{position}
 use Rattle.tables.specs.Tables.{ids_of, has_live_id}
-use Rattle.tables.proofs.Places.{live-id, no-id}
+use Rattle.tables.proofs.Places.{no-id}
 use Rattle.tables.proofs.live_place.Goals as goal
 
 pub returns-then-id-eq0 : goal.returns-then-id-eq0
@@ -11,9 +10,3 @@ returns-then-id-eq0 c =
     let a = c.args in
     let ids = ids_of a.width a.places a.ws.now in
     sym (ap (λ n. position (has_live_id n) ids) c.if-id-eq0.true ∙ no-id ids)
-
-pub returns : goal.returns
-returns c =
-    let a = c.args in
-    c.place_of.ensures
-    ∙ sym (live-id (ids_of a.width a.places a.ws.now) a.id (ap not (ne_eqb a.id 0 c.if-id-eq0.false)))

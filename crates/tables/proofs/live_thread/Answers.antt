@@ -8,12 +8,14 @@ use Rattle.tables.proofs.live_thread.Goals as goal
 
 pub unwrap-requires : goal.unwrap-requires
 unwrap-requires c =
-    let e = position-found (is_thread c.args.thread) (held_threads c.args.ts.now) c.requires.1 in rw (c.find_thread.ensures, e)
+    let e = position-found (is_thread c.args.thread) (held_threads c.args.ts.now) c.requires.1 in
+    rw (c.find_thread.ensures, e)
 
 pub returns-clause-inside : goal.returns-clause-inside
 returns-clause-inside c =
     let xs = held_threads c.args.ts.now in
-    let i = some-inside (is_thread c.args.thread) xs c.unwrap.result (sym c.find_thread.ensures ∙ c.unwrap.ensures) in
+    let i =
+    some-inside (is_thread c.args.thread) xs c.unwrap.result (sym c.find_thread.ensures ∙ c.unwrap.ensures) in
     omega (arith, length-held_threads c.args.ts.now)
 
 pub returns-clause-place : goal.returns-clause-place

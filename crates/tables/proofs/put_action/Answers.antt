@@ -1,15 +1,7 @@
 -- `put_action` meets its contract. Assumes nothing.
-use native.Mathlib.Omega.{arith}
-use lib.ListN.{length-set}
 use Rattle.tables.specs.Tables.{action_to}
 use Rattle.tables.proofs.Places.{action-put}
 use Rattle.tables.proofs.put_action.Goals as goal
-
-pub bounds-ps-to-2 : goal.bounds-ps-to-2
-bounds-ps-to-2 c = simp length-set (omega arith)
-
-pub bounds-ps-to-3 : goal.bounds-ps-to-3
-bounds-ps-to-3 c = simp length-set (omega arith)
 
 pub returns : goal.returns
 unfolding action_to

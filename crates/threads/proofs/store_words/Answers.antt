@@ -1,15 +1,12 @@
 -- `store_words` meets its contract. Assumes nothing.
 use Rattle.std.proofs.Common.{◌≡◌, ◌<◌, ◌∙◌, ap, sym, arith, get_or, set}
-use lib.Seq.{paste-zero, set-get_or}
+use lib.Seq.{set-get_or}
 use Rattle.limits.specs.Limits.{thread_places}
 use Rattle.threads.specs.Records.{no_thread, records_of}
 use Rattle.threads.proofs.Filled.{filled, filled-suc, filled-same, filled-all}
 use Rattle.threads.proofs.Words.{records-long, same-is}
 use Rattle.threads.proofs.store_words.Goals as goal
 use Rattle.threads.proofs.store_words.Goals.{then-ne, else-ne}
-
-pub loop-i-init : goal.loop-i-init
-loop-i-init c = paste-zero c.args.ts.now 0 (records_of thread_places c.args.ws.now)
 
 pub loop-i-preserved : goal.loop-i-preserved
 loop-i-preserved c =
