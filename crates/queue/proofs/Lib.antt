@@ -2,3 +2,4 @@ pub mod Buffer
 pub mod Signals
 mod Changes
 mod Zeros
+pub mod Parts
