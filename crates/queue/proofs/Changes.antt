@@ -1,5 +1,5 @@
--- What `append`, `discard` and `remove` leave, and what the loop of `discard` keeps: b₀ is the buffer before, b the buffer now.
--- Assumes nothing.
+-- What `append`, `discard` and `remove` leave, and what the loop of `discard` keeps: b₀ is the buffer before, b the
+-- buffer now. Assumes nothing.
 use mathlib.Core.Path.{◌≡◌, refl, ap, ◌∙◌}
 use mathlib.Core.Bool.{Bool, true, false}
 use mathlib.Core.List.{List, ◌++◌}

@@ -3,3 +3,4 @@ pub mod Signals
 mod Changes
 mod Zeros
 pub mod Parts
+mod Places

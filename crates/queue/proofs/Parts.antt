@@ -109,7 +109,8 @@ module _ (b : List ℕ) (j n : ℕ) (size : length b ≡ buffer_bytes) (low : j 
       → slots_of (put_mid place long b part) ≡ cleared no_siginfo (slots_of b) j n
   unfolding cleared
   slots-filled {part} e =
-      let m : length (take long (drop place b)) ≡ long = length-take-le long (drop place b) (rw length-drop (omega arith)) in
+      let m : length (take long (drop place b)) ≡ long =
+      length-take-le long (drop place b) (rw length-drop (omega arith)) in
       let z : part ≡ replicate ((n - j) * record_bytes) 0 =
       e ∙ ap (λ k. replicate k 0) (m ∙ omega arith) in
       slots-mid part (ap length z ∙ length-replicate ((n - j) * record_bytes) 0 ∙ omega arith)
@@ -170,7 +171,8 @@ module _ (b : List ℕ) (k n : ℕ) (size : length b ≡ buffer_bytes) (low : k 
     after : slots_of (put_mid from span b new) ≡ front ++ ((others ++ one) ++ drop n (slots_of b))
     after =
         let c : n - k ≡ n - 1 - k + 1 = omega arith in
-        let d : length (drop record_bytes part) ≡ (n - 1 - k) * record_bytes = rw length-drop (omega (arith, long-part)) in
+        let d : length (drop record_bytes part) ≡ (n - 1 - k) * record_bytes =
+        rw length-drop (omega (arith, long-part)) in
         let t : length (take record_bytes part) ≡ record_bytes =
         length-take-le record_bytes part (omega (arith, long-part)) in
         mid new (ap length e ∙ rw length-append (omega (arith, long-part, d, t)))

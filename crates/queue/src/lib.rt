@@ -65,26 +65,20 @@ pub fn used(b: &[u8]) -> usize
     requires { length b.now ≡ buffer_bytes }
     ensures { result ≡ length (records_of b.now) }
 {
-    for n in 0..BUFFER_RECORDS {
-        if !in_use(siginfo::read(b, n)) {
-            return n;
-        }
-    }
-    BUFFER_RECORDS
+    (0..BUFFER_RECORDS)
+        .position(|i| !in_use(siginfo::read(b, i)))
+        .unwrap_or(BUFFER_RECORDS)
 }
 
-// The index of the oldest record of a queue and signal, or how many are in use.
+// The index of the oldest record of a queue and signal, or how many are in use: callers rest on this very contract.
 pub fn first_of(b: &[u8], process: u32, thread: u32, signal: u32) -> usize
     requires { length b.now ≡ buffer_bytes }
     ensures { result ≡ find (in_queue (target_queue process thread) signal) (records_of b.now) }
 {
     let n = used(b);
-    for i in 0..n {
-        if in_queue(siginfo::read(b, i), process, thread, signal) {
-            return i;
-        }
-    }
-    n
+    (0..n)
+        .position(|i| in_queue(siginfo::read(b, i), process, thread, signal))
+        .unwrap_or(n)
 }
 
 // The signals that have a record of a queue.

@@ -1,54 +1,30 @@
--- `first_of` meets its contract. The invariant: none of the records before i is of the queue and the signal.
--- Assumes nothing.
-use mathlib.Core.Path.{◌≡◌, sym, ◌∙◌}
-use Prim.Native.Nat.{◌<◌}
+-- `first_of` meets its contract. Assumes nothing.
+use mathlib.Core.Path.{sym, ap, ◌∙◌}
+use Prim.Native.Nat.{◌≤◌}
 use native.Mathlib.Omega.{arith}
-use lib.ListN.{length}
-use Rattle.lists.proofs.Loops.{find_none, find-more, find-here, find-done}
+use Rattle.std.proofs.Common.{rules, tests}
+use Rattle.std.proofs.iter.Serving.{serving}
+use Rattle.limits.specs.Limits.{buffer_records, record_bytes}
+use Rattle.lists.specs.Rows.{row}
 use Rattle.types.specs.Values.{no_siginfo}
+use Rattle.siginfo.specs.Bytes.{siginfo_of}
 use Rattle.rules.specs.View.{in_queue, target_queue}
 use Rattle.queue.specs.Queue.{records_of}
-use Rattle.queue.proofs.Buffer.{length-records_of, record-tested}
+use Rattle.queue.proofs.Buffer.{length-records_of, record-read}
+use Rattle.queue.proofs.Places.{places-find}
 use Rattle.queue.proofs.first_of.Goals as goal
 
-pub loop-i-init : goal.loop-i-init
-loop-i-init c =
-    let b = c.args.b.now in (
-      omega (arith, length-records_of b),
-      omega arith,
-      find_none (in_queue (target_queue c.args.process c.args.thread) c.args.signal) no_siginfo (records_of b),
-    )
-
-pub returns-then-in_queue : goal.returns-then-in_queue
-returns-then-in_queue c =
-    let b = c.args.b.now in
-    let q = in_queue (target_queue c.args.process c.args.thread) c.args.signal in
-    let i = c.loop-i.i in
-    let h : i < length (records_of b) =
-    omega (arith, c.loop-i-test.true, c.used-n.ensures) in
-    sym
-    (find-here q no_siginfo (records_of b) i h c.loop-i.invariant.2
-    (record-tested q b i c.read.ensures c.in_queue.ensures h ∙ c.if-in_queue.true))
-
-pub loop-i-preserved : goal.loop-i-preserved
-loop-i-preserved c =
-    let b = c.args.b.now in
-    let q = in_queue (target_queue c.args.process c.args.thread) c.args.signal in
-    let i = c.loop-i.i in
-    let h : i < length (records_of b) =
-    omega (arith, c.loop-i-test.true, c.used-n.ensures) in (
-      omega arith,
-      omega arith,
-      find-more q no_siginfo (records_of b) i h c.loop-i.invariant.2
-          (record-tested q b i c.read.ensures c.in_queue.ensures h ∙ c.if-in_queue.false),
-    )
+pub position-requires-clause-callable : goal.position-requires-clause-callable
+position-requires-clause-callable c =
+    let high : c.used-n.result ≤ buffer_records = omega (arith, length-records_of c.args.b.now, c.used-n.ensures) in
+    grind serving
 
 pub returns : goal.returns
 returns c =
-    let i = c.loop-i.i in
-    let e : c.used-n.result ≡ i = omega arith in
-    e
-    ∙ sym
-    (find-done (in_queue (target_queue c.args.process c.args.thread) c.args.signal) no_siginfo
-    (records_of c.args.b.now) i
-    (omega (arith, c.loop-i-test.false, c.used-n.ensures)) c.loop-i.invariant.2)
+    let b = c.args.b.now in
+    let p = in_queue (target_queue c.args.process c.args.thread) c.args.signal in
+    c.unwrap_or.ensures
+    ∙ places-find p no_siginfo _ _ _ c.used-n.result c.position.result
+    (λ i. p (siginfo_of (row record_bytes b i))) (records_of b) (sym c.used-n.ensures)
+    (λ i h. ap p (sym (record-read b i no_siginfo (omega (arith, h, c.used-n.ensures)))))
+    c.position.ensures.ran (λ x t q k. search (rules, tests))
