@@ -310,7 +310,7 @@ struct Host {
 }
 
 impl Host {
-    // The answer's words, or the errno.
+    // The answer's words, or the errno. The other program has the same: nothing below both stands on the boundary.
     fn make(&mut self, ask: Ask) -> Result<Answer, u64> {
         let call = call_of(ask, self.saved);
         let [a, b, c, d, e, f] = call.words;

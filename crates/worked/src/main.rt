@@ -235,7 +235,7 @@ impl fmt::Display for Answer {
     }
 }
 
-// The answer's words, or the errno.
+// The answer's words, or the errno. The other program has the same: nothing below both stands on the boundary.
 fn make(t: &mut Tables, call: Call) -> Result<Answer, u64> {
     let [a, b, c, d, e, f] = call.words;
     let [x, y, z] = call.wide;
