@@ -1,25 +1,24 @@
--- What `append`, `discard` and `remove` leave, and what the loop of `discard` keeps: b₀ is the buffer before, b the
--- buffer now. Assumes nothing.
+-- What `append`, `discard` and `remove` leave, and what their loops keep: b₀ is the buffer before, b the buffer now.
+-- Assumes nothing.
 use mathlib.Core.Path.{◌≡◌, refl, ap, ◌∙◌}
 use mathlib.Core.Bool.{Bool, true, false}
-use mathlib.Core.List.{List, ◌++◌}
-use Prim.Native.Nat.{ℕ, ◌+◌, ◌-◌, ◌*◌, ◌≤◌, ◌<◌}
+use mathlib.Core.List.{List, ◌++◌, append-nil}
+use Prim.Native.Nat.{ℕ, ◌+◌, ◌*◌, ◌≤◌, ◌<◌}
+use native.Mathlib.Numerals.{add-one}
 use native.Mathlib.Omega.{arith}
-use lib.ListN.{length, take, drop, set}
-use lib.Seq.{sets, length-sets, take_all}
-use borrow.Rule.Slice.PartMut.{put_mid, mid_of}
+use lib.ListN.{length, take, drop, set, drop_of_length-le}
+use lib.Seq.{sets, length-sets}
 use Rattle.limits.specs.Limits.{buffer_records, buffer_bytes, record_bytes}
 use Rattle.lists.specs.Lists.{keep, padded}
 use Rattle.lists.specs.Rows.{row}
 use Rattle.lists.proofs.Lists.{take-padded, padded-snoc}
-use Rattle.lists.proofs.Loops.{cleared, same_next, same_set, kept, passed, compacted, compact}
+use Rattle.lists.proofs.Loops.{cleared, same_next, same_set, kept, passed, compacted, moved, compact}
 use Rattle.types.specs.declared.Siginfo.{Siginfo}
 use Rattle.types.specs.Values.{no_siginfo}
 use Rattle.siginfo.specs.Bytes.{Fits, siginfo_of, bytes_of}
 use Rattle.queue.specs.Queue.{slots_of, records_of, is_laid, appended, remove_at}
 use Rattle.queue.proofs.Buffer.{length-slots_of, length-records_of, length-laid, laid-slots, in-slots, in_buffer}
 use Rattle.queue.proofs.Buffer.{slot-written, record-kept}
-use Rattle.queue.proofs.Parts.{turned-front, turned-rest}
 
 -- ---- `append`
 
@@ -89,20 +88,42 @@ module _ (q : Siginfo → Bool) (b₀ : List ℕ) where
       rest-cleared b₀ b (keep q (records_of b₀)) j n l e (omega arith)
       (compacted q no_siginfo (slots_of b) (records_of b₀) i j (omega arith) inv.front) (rw d at inv.rest)
 
--- ---- `remove`: the record at k goes behind the others and is cleared there
+-- ---- `remove`: the record at k is gone, those after it up to i are one place lower, and from i on nothing is changed
 
-pub removed-slots : (b₀ part : List ℕ) (k n : ℕ) → is_laid b₀ ≡ true → n ≡ length (records_of b₀) → k < n
-    → part ≡ drop record_bytes (mid_of (k * record_bytes) (n * record_bytes - k * record_bytes) b₀)
-    ++ take record_bytes (mid_of (k * record_bytes) (n * record_bytes - k * record_bytes) b₀)
-    → cleared no_siginfo (slots_of (put_mid (k * record_bytes) (n * record_bytes - k * record_bytes) b₀ part)) (n - 1) n
-    ≡ padded no_siginfo buffer_records (remove_at k (records_of b₀))
-removed-slots b₀ part k n l e h p =
-    let size = length-laid b₀ l in
-    let high : n ≤ buffer_records = omega (arith, length-records_of b₀) in
-    let these : take n (slots_of b₀) ≡ records_of b₀ =
-    ap (take n) (laid-slots b₀ l)
-    ∙ take-padded no_siginfo buffer_records (records_of b₀) n (omega arith)
-    ∙ take_all n (records_of b₀) (omega arith) in
-    rest-cleared b₀ _ (remove_at k (records_of b₀)) (n - 1) n l e (omega arith)
-    (turned-front b₀ k n size h high p ∙ ap (remove_at k) these)
-    (turned-rest b₀ k n size h high p)
+pub record Moving (k : ℕ) (b₀ b : List ℕ) (i : ℕ) : Type 0 where
+  pub size : length b ≡ buffer_bytes
+  pub front : take i (slots_of b) ++ drop (i + 1) (records_of b₀) ≡ remove_at k (records_of b₀)
+  pub rest : drop i (slots_of b) ≡ drop i (slots_of b₀)
+
+module _ (k : ℕ) (b₀ : List ℕ) where
+  pub moving-start : is_laid b₀ ≡ true → k < length (records_of b₀) → Moving k b₀ b₀ k
+  unfolding remove_at
+  moving-start l h =
+      record {
+        size = length-laid b₀ l;
+        front = rw (laid-slots b₀ l, take-padded no_siginfo buffer_records (records_of b₀) k (omega arith), add-one);
+        rest = refl;
+      }
+
+  pub moving-more : {b' : List ℕ} (b : List ℕ) (i : ℕ) (r : Siginfo) → Moving k b₀ b i → i + 1 < length (records_of b₀)
+      → r ≡ siginfo_of (row record_bytes b (i + 1)) → Fits r → b' ≡ sets b (i * record_bytes) (bytes_of r)
+      → Moving k b₀ b' (i + 1)
+  moving-more b i r inv h e f p =
+      let m : i < buffer_records = omega (arith, in_buffer b₀ (i + 1) h) in
+      let s = same_next (slots_of b) (slots_of b₀) i inv.rest in
+      let a = e ∙ record-kept b₀ b (i + 1) no_siginfo h s in
+      let w = slot-written b i r inv.size m f p in
+      record {
+        size = ap length p ∙ length-sets b (i * record_bytes) (bytes_of r) ∙ inv.size;
+        front = rw w (moved no_siginfo (slots_of b) (records_of b₀) i r (in-slots b i m) h a ∙ inv.front);
+        rest = rw w (same_set (slots_of b) (slots_of b₀) i i r (omega arith) inv.rest);
+      }
+
+  pub moving-done : (b : List ℕ) (i j n : ℕ) → is_laid b₀ ≡ true → n ≡ length (records_of b₀) → i + 1 ≡ n → j ≡ i
+      → Moving k b₀ b i
+      → cleared no_siginfo (slots_of b) j n ≡ padded no_siginfo buffer_records (remove_at k (records_of b₀))
+  moving-done b i j n l e d m inv =
+      let over : length (records_of b₀) ≤ i + 1 = omega arith in
+      rest-cleared b₀ b (remove_at k (records_of b₀)) j n l e (omega arith)
+      (rw m (rw (drop_of_length-le (records_of b₀) over, append-nil) at inv.front))
+      (rw d at (same_next (slots_of b) (slots_of b₀) i inv.rest))
