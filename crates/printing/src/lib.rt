@@ -1,4 +1,4 @@
-// What the programs write: texts with numbers set in, and what is in use of the tables.
+// What the programs share: a call, the tables that they lend, and what they write of them.
 // A contract cannot speak of output; each program's file `stdout` does. A failed write is the caller's error.
 #![tactic(auto)]
 
@@ -7,109 +7,45 @@ ghost use Rattle.limits.specs.Limits.{process_places, thread_places, buffer_reco
 
 use limits::{
     ACTION_FLAGS, ACTION_HANDLER, ACTION_MASK, ACTION_WORDS, BUFFER_BYTES, BUFFER_RECORDS,
-    HEAD_WORDS, PROCESS_ID, PROCESS_PLACES, PROCESS_TABLE, PROCESS_WORDS, SI_QUEUE, SIGNALS,
-    THREAD_ID, THREAD_PLACES, THREAD_TABLE, THREAD_WORDS,
+    HEAD_WORDS, PROCESS_EFFECTIVE, PROCESS_ID, PROCESS_MARKS, PROCESS_PLACES, PROCESS_REAL,
+    PROCESS_SAVED, PROCESS_SESSION, PROCESS_STOPPED, PROCESS_TABLE, PROCESS_WORDS, SI_QUEUE,
+    SIGNALS, THREAD_ID, THREAD_MARKS, THREAD_MASK, THREAD_PLACES, THREAD_PROCESS, THREAD_TABLE,
+    THREAD_WORDS,
 };
 use sigset::SigSet;
-use std::io;
+use std::{fmt, io};
+use types::Action;
 
 // ---- a word
 
-pub fn write(rt: &impl Print, s: &[u8]) -> io::Result<()> {
-    rt.write_all(s)
-}
-
-fn decimal(rt: &impl Print, n: u64) -> io::Result<()> {
-    print!(rt; "{n}")
-}
-
-fn hex(rt: &impl Print, n: u64) -> io::Result<()> {
-    print!(rt; "{n:#x}")
-}
-
 // A record's code: a queued one's is below zero.
-fn code(rt: &impl Print, n: u64) -> io::Result<()> {
-    if n == SI_QUEUE as u64 {
-        write(rt, b"-1")
-    } else {
-        decimal(rt, n)
-    }
-}
+#[derive(Clone, Copy)]
+pub struct Code(pub u64);
 
-// A signal, where a set has it.
-fn member(rt: &impl Print, m: SigSet, s: u32) -> io::Result<()> {
-    if SigSet::has(m, s) {
-        print!(rt; " {s}")?;
-    }
-    Ok(())
-}
-
-fn members(rt: &impl Print, m: SigSet) -> io::Result<()> {
-    for s in 1..=SIGNALS {
-        member(rt, m, s)?;
-    }
-    Ok(())
-}
-
-// A word in the form that the byte before its letter asks for.
-fn word(rt: &impl Print, before: u8, n: u64) -> io::Result<()> {
-    match before {
-        b'#' => hex(rt, n),
-        b'~' => code(rt, n),
-        b'@' => members(rt, SigSet(n)),
-        _ => decimal(rt, n),
-    }
-}
-
-// ---- a text
-
-fn is_written(byte: u8) -> bool {
-    (byte != b'|') & ((byte != b'#') & ((byte != b'~') & (byte != b'@')))
-}
-
-fn plain(rt: &impl Print, byte: u8) -> io::Result<()> {
-    if is_written(byte) {
-        write(rt, &[byte])?;
-    }
-    Ok(())
-}
-
-// A byte of a text, or the word that it stands for.
-fn put(rt: &impl Print, before: u8, byte: u8, words: &[u64]) -> io::Result<()> {
-    if byte < b'A' {
-        return plain(rt, byte);
-    }
-    if b'Z' < byte {
-        return plain(rt, byte);
-    }
-    let i = (byte - b'A') as usize;
-    if i < words.len() {
-        return word(rt, before, words[i]);
-    }
-    plain(rt, byte)
-}
-
-fn ends(byte: u8) -> u64
-    ensures { result ≤ 1 }
-{
-    if byte == b'|' { 1 } else { 0 }
-}
-
-// Writes text `n` of those in `texts`, which '|' parts; the first is 0. A capital letter stands for a word,
-// A for the first, and past the last word for itself. The word is written in decimal;
-// after '#' in hexadecimal, after '~' as a record's code, after '@' as the members of a set.
-pub fn say(rt: &impl Print, texts: &[u8], n: u64, words: &[u64]) -> io::Result<()> {
-    let mut passed: u64 = 0;
-    let mut before = b'|';
-    for i in 0..texts.len() {
-        let byte = texts[i];
-        if passed == n {
-            put(rt, before, byte, words)?;
+impl fmt::Display for Code {
+    fn fmt<W: fmt::Write>(&self, f: &mut fmt::Formatter<W>) -> fmt::Result {
+        let n = self.0;
+        if n == SI_QUEUE as u64 {
+            f.write_str("-1")
+        } else {
+            write!(f, "{n}")
         }
-        passed += ends(byte);
-        before = byte;
     }
-    Ok(())
+}
+
+// The members of a set, a space before each.
+#[derive(Clone, Copy)]
+struct Members(SigSet);
+
+impl fmt::Display for Members {
+    fn fmt<W: fmt::Write>(&self, f: &mut fmt::Formatter<W>) -> fmt::Result {
+        for s in 1..=SIGNALS {
+            if self.0.has(s) {
+                write!(f, " {s}")?;
+            }
+        }
+        Ok(())
+    }
 }
 
 // ---- the tables
@@ -120,25 +56,21 @@ fn action(rt: &impl Print, ps: &[u64; PROCESS_TABLE], place: usize, signal: u32)
 {
     let process = place * PROCESS_WORDS;
     let at = process + HEAD_WORDS + (signal as usize - 1) * ACTION_WORDS;
-    let handler = ps[at + ACTION_HANDLER];
-    let flags = ps[at + ACTION_FLAGS];
-    let mask = ps[at + ACTION_MASK];
-    if (handler | (flags | mask)) != 0 {
-        let words = [
-            ps[process + PROCESS_ID],
-            signal as u64,
-            handler,
-            flags,
-            mask,
-        ];
-        say(
-            rt,
-            b"action process=A signal=B handler=C flags=D mask=#E\n",
-            0,
-            &words,
-        )?;
+    let a = Action {
+        handler: ps[at + ACTION_HANDLER],
+        flags: ps[at + ACTION_FLAGS],
+        mask: SigSet(ps[at + ACTION_MASK]),
+    };
+    if a == Action::DEFAULT {
+        return Ok(());
     }
-    Ok(())
+    println!(rt;
+        "action process={} signal={signal} handler={} flags={} mask={:#x}",
+        ps[process + PROCESS_ID],
+        a.handler,
+        a.flags,
+        a.mask.0
+    )
 }
 
 fn actions(rt: &impl Print, ps: &[u64; PROCESS_TABLE], place: usize) -> io::Result<()>
@@ -158,11 +90,15 @@ fn process(rt: &impl Print, ps: &[u64; PROCESS_TABLE], place: usize) -> io::Resu
     if ps[at + PROCESS_ID] == 0 {
         return Ok(());
     }
-    say(
-        rt,
-        b"process id=A real=B effective=C saved=D session=E stopped=F marks@G\n",
-        0,
-        &ps[at..at + HEAD_WORDS],
+    println!(rt;
+        "process id={} real={} effective={} saved={} session={} stopped={} marks{}",
+        ps[at + PROCESS_ID],
+        ps[at + PROCESS_REAL],
+        ps[at + PROCESS_EFFECTIVE],
+        ps[at + PROCESS_SAVED],
+        ps[at + PROCESS_SESSION],
+        ps[at + PROCESS_STOPPED],
+        Members(SigSet(ps[at + PROCESS_MARKS]))
     )?;
     actions(rt, ps, place)
 }
@@ -182,11 +118,12 @@ fn thread(rt: &impl Print, ts: &[u64; THREAD_TABLE], place: usize) -> io::Result
     if ts[at + THREAD_ID] == 0 {
         return Ok(());
     }
-    say(
-        rt,
-        b"thread id=A process=B mask=#C marks@D\n",
-        0,
-        &ts[at..at + THREAD_WORDS],
+    println!(rt;
+        "thread id={} process={} mask={:#x} marks{}",
+        ts[at + THREAD_ID],
+        ts[at + THREAD_PROCESS],
+        ts[at + THREAD_MASK],
+        Members(SigSet(ts[at + THREAD_MARKS]))
     )
 }
 
@@ -205,20 +142,15 @@ fn record(rt: &impl Print, b: &[u8; BUFFER_BYTES], slot: usize) -> io::Result<()
     if r.process == 0 {
         return Ok(());
     }
-    let words = [
-        r.process as u64,
-        r.thread as u64,
-        r.signal as u64,
-        r.code as u64,
-        r.sender as u64,
-        r.uid as u64,
-        r.value,
-    ];
-    say(
-        rt,
-        b"record process=A thread=B signal=C code=~D sender=E uid=F value=G\n",
-        0,
-        &words,
+    println!(rt;
+        "record process={} thread={} signal={} code={} sender={} uid={} value={}",
+        r.process,
+        r.thread,
+        r.signal,
+        Code(r.code as u64),
+        r.sender,
+        r.uid,
+        r.value
     )
 }
 
@@ -229,16 +161,46 @@ fn records(rt: &impl Print, b: &[u8; BUFFER_BYTES]) -> io::Result<()> {
     Ok(())
 }
 
-// Writes a line for all that is in use of the tables.
-pub fn tables(
-    rt: &impl Print,
-    ps: &[u64; PROCESS_TABLE],
-    ts: &[u64; THREAD_TABLE],
-    tb: &[u8; BUFFER_BYTES],
-    pb: &[u8; BUFFER_BYTES],
-) -> io::Result<()> {
-    processes(rt, ps)?;
-    threads(rt, ts)?;
-    records(rt, tb)?;
-    records(rt, pb)
+// The tables that a program lends.
+#[derive(Clone, Copy)]
+pub struct Tables {
+    pub processes: [u64; PROCESS_TABLE],
+    pub threads: [u64; THREAD_TABLE],
+    pub thread_buffer: [u8; BUFFER_BYTES],
+    pub process_buffer: [u8; BUFFER_BYTES],
+}
+
+impl Tables {
+    pub const ZERO: Tables = Tables {
+        processes: [0; PROCESS_TABLE],
+        threads: [0; THREAD_TABLE],
+        thread_buffer: [0; BUFFER_BYTES],
+        process_buffer: [0; BUFFER_BYTES],
+    };
+
+    // Writes a line for all that is in use.
+    pub fn print(&self, rt: &impl Print) -> io::Result<()> {
+        processes(rt, &self.processes)?;
+        threads(rt, &self.threads)?;
+        records(rt, &self.thread_buffer)?;
+        records(rt, &self.process_buffer)
+    }
+}
+
+// A call as a host makes it: its number and its arguments, those of 32 bits before those of 64.
+#[derive(Clone, Copy)]
+pub struct Call {
+    pub number: u32,
+    pub words: [u32; 6],
+    pub wide: [u64; 3],
+}
+
+impl Call {
+    pub fn new(number: u32, words: [u32; 6], wide: [u64; 3]) -> Call {
+        Call {
+            number,
+            words,
+            wide,
+        }
+    }
 }

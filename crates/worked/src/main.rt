@@ -4,12 +4,16 @@
 #![tactic(auto)]
 
 use limits::{
-    ANSWER_WORDS, BUFFER_BYTES, CALL_ADD_PROCESS, CALL_ADD_THREAD, CALL_CLEAR, CALL_KILL,
-    CALL_LOOK, CALL_SIGACTION, CALL_SIGMASK, CALL_SIGPENDING, CALL_SIGQUEUE, CALL_SIGRETURN,
-    CALL_TAKE, CALL_WHO, PROCESS_TABLE, SA_SIGINFO, SIG_IGN, SIG_UNBLOCK, SIGCONT, SIGKILL,
-    SIGSTOP, SIGTSTP, THREAD_TABLE,
+    ANSWER_ABSORBED, ANSWER_ACTED, ANSWER_CAN_TAKE, ANSWER_DONE, ANSWER_DROPPED, ANSWER_END,
+    ANSWER_HANDLER, ANSWER_KEPT, ANSWER_MARKED, ANSWER_NEXT_MARK, ANSWER_NEXT_NOTHING,
+    ANSWER_NEXT_RECORD, ANSWER_NONE_CAN, ANSWER_NOTHING, ANSWER_OLD_ACTION, ANSWER_OLD_MASK,
+    ANSWER_PENDING_SET, ANSWER_STOP, ANSWER_TESTED, ANSWER_WORDS, CALL_ADD_PROCESS,
+    CALL_ADD_THREAD, CALL_CLEAR, CALL_KILL, CALL_LOOK, CALL_SIGACTION, CALL_SIGMASK,
+    CALL_SIGPENDING, CALL_SIGQUEUE, CALL_SIGRETURN, CALL_TAKE, CALL_WHO, SA_SIGINFO, SIG_IGN,
+    SIG_UNBLOCK, SIGCONT, SIGKILL, SIGSTOP, SIGTSTP,
 };
-use std::io;
+use printing::{Call, Code, Tables};
+use std::{fmt, io};
 
 // The operator's process and its thread.
 const OPERATOR: u32 = 1;
@@ -46,7 +50,8 @@ const GIVEN: u32 = 1;
 
 // ---- the history
 
-// A call with its arguments in the documented order, but that the three user ids of a process are one.
+// A call. The three user ids of a process are one, and an action and a set are always given.
+// The fields have no names, so that a row of the history is a line.
 #[derive(Clone, Copy)]
 enum Row {
     Clear,
@@ -62,6 +67,7 @@ enum Row {
     Action(u32, u32, u64, u64),
     // thread, way, set
     Mask(u32, u32, u64),
+    // the thread, and so of a look and a take; of who the process
     Pending(u32),
     Look(u32),
     Who(u32),
@@ -70,160 +76,208 @@ enum Row {
     Return(u32, u64),
 }
 
-// Row k of the history.
-fn row_at(k: u64) -> Row {
-    match k {
-        // Two processes, one of them with two threads that block other signals.
-        0 => Row::Clear,
-        1 => Row::AddProcess(OPERATOR, 0, OPERATOR, CONSOLE, 0),
-        2 => Row::AddProcess(PROCESS, USER, SESSION, MAIN, ONLY_INT | ONLY_BLOCKED),
-        3 => Row::AddThread(MAIN, WORKER),
-        4 => Row::Mask(WORKER, SIG_UNBLOCK, ONLY_BLOCKED),
-        // A realtime signal is kept each time, a standard one is marked once; the user may not signal the operator.
-        5 => Row::Action(PROCESS, BLOCKED, HANDLER, SA_SIGINFO),
-        6 => Row::Queue(PROCESS, PROCESS, 0, BLOCKED, 1),
-        7 => Row::Queue(OPERATOR, PROCESS, 0, BLOCKED, 2),
-        8 => Row::Queue(PROCESS, PROCESS, 0, BLOCKED, 3),
-        9 => Row::Kill(PROCESS, PROCESS, 0, SIGINT),
-        10 => Row::Kill(OPERATOR, PROCESS, 0, SIGINT),
-        11 => Row::Kill(PROCESS, OPERATOR, 0, SIGINT),
-        // CONT discards the stop signal, STOP discards CONT, and a stopped process takes nothing.
-        12 => Row::Queue(OPERATOR, PROCESS, WORKER, SIGTSTP, 4),
-        13 => Row::Kill(OPERATOR, PROCESS, 0, SIGCONT),
-        14 => Row::Kill(OPERATOR, PROCESS, 0, SIGSTOP),
-        15 => Row::Take(WORKER),
-        16 => Row::Kill(OPERATOR, PROCESS, 0, SIGCONT),
-        // CONT goes to the thread in the lowest place; the worker takes the oldest record.
-        17 => Row::Who(PROCESS),
-        18 => Row::Take(MAIN),
-        19 => Row::Look(WORKER),
-        20 => Row::Take(WORKER),
-        21 => Row::Return(WORKER, ONLY_INT),
-        // Storing ignore discards the records that are left;
-        // KILL discards what a thread has pending, and a send finds nobody.
-        22 => Row::Action(PROCESS, BLOCKED, SIG_IGN, 0),
-        23 => Row::Queue(OPERATOR, PROCESS, WORKER, OTHER, 5),
-        24 => Row::Pending(MAIN),
-        25 => Row::Kill(OPERATOR, PROCESS, 0, SIGKILL),
-        _ => Row::Queue(OPERATOR, PROCESS, 0, OTHER, 6),
+const HISTORY: [Row; 27] = [
+    // Two processes, one of them with two threads that block other signals.
+    Row::Clear,
+    Row::AddProcess(OPERATOR, 0, OPERATOR, CONSOLE, 0),
+    Row::AddProcess(PROCESS, USER, SESSION, MAIN, ONLY_INT | ONLY_BLOCKED),
+    Row::AddThread(MAIN, WORKER),
+    Row::Mask(WORKER, SIG_UNBLOCK, ONLY_BLOCKED),
+    // A realtime signal is kept each time, a standard one is marked once; the user may not signal the operator.
+    Row::Action(PROCESS, BLOCKED, HANDLER, SA_SIGINFO),
+    Row::Queue(PROCESS, PROCESS, 0, BLOCKED, 1),
+    Row::Queue(OPERATOR, PROCESS, 0, BLOCKED, 2),
+    Row::Queue(PROCESS, PROCESS, 0, BLOCKED, 3),
+    Row::Kill(PROCESS, PROCESS, 0, SIGINT),
+    Row::Kill(OPERATOR, PROCESS, 0, SIGINT),
+    Row::Kill(PROCESS, OPERATOR, 0, SIGINT),
+    // CONT discards the stop signal, STOP discards CONT, and a stopped process takes nothing.
+    Row::Queue(OPERATOR, PROCESS, WORKER, SIGTSTP, 4),
+    Row::Kill(OPERATOR, PROCESS, 0, SIGCONT),
+    Row::Kill(OPERATOR, PROCESS, 0, SIGSTOP),
+    Row::Take(WORKER),
+    Row::Kill(OPERATOR, PROCESS, 0, SIGCONT),
+    // CONT goes to the thread in the lowest place; the worker takes the oldest record.
+    Row::Who(PROCESS),
+    Row::Take(MAIN),
+    Row::Look(WORKER),
+    Row::Take(WORKER),
+    Row::Return(WORKER, ONLY_INT),
+    // Storing ignore discards the records that are left;
+    // KILL discards what a thread has pending, and a send finds nobody.
+    Row::Action(PROCESS, BLOCKED, SIG_IGN, 0),
+    Row::Queue(OPERATOR, PROCESS, WORKER, OTHER, 5),
+    Row::Pending(MAIN),
+    Row::Kill(OPERATOR, PROCESS, 0, SIGKILL),
+    Row::Queue(OPERATOR, PROCESS, 0, OTHER, 6),
+];
+
+// The call in its documented form.
+impl fmt::Display for Row {
+    fn fmt<W: fmt::Write>(&self, f: &mut fmt::Formatter<W>) -> fmt::Result {
+        match *self {
+            Row::Clear => f.write_str("clear"),
+            Row::AddProcess(id, user, session, thread, mask) => {
+                write!(
+                    f,
+                    "add_process id={id} real={user} effective={user} saved={user} \
+                    session={session} thread={thread} mask={mask}"
+                )
+            }
+            Row::AddThread(creator, id) => write!(f, "add_thread creator={creator} id={id}"),
+            Row::Kill(by, to, thread, signal) => {
+                write!(f, "kill by={by} to={to} thread={thread} signal={signal}")
+            }
+            Row::Queue(by, to, thread, signal, value) => {
+                write!(
+                    f,
+                    "queue by={by} to={to} thread={thread} signal={signal} value={value}"
+                )
+            }
+            Row::Action(process, signal, handler, flags) => {
+                write!(
+                    f,
+                    "action process={process} signal={signal} handler={handler} flags={flags} mask=0"
+                )
+            }
+            Row::Mask(thread, way, set) => write!(f, "mask thread={thread} way={way} set={set}"),
+            Row::Pending(thread) => write!(f, "pending thread={thread}"),
+            Row::Look(thread) => write!(f, "look thread={thread}"),
+            Row::Who(process) => write!(f, "who process={process}"),
+            Row::Take(thread) => write!(f, "take thread={thread}"),
+            Row::Return(thread, mask) => write!(f, "return thread={thread} mask={mask}"),
+        }
     }
 }
 
 // ---- one call
 
-// A call's number and its arguments, those of 32 bits before those of 64.
-#[derive(Clone, Copy)]
-struct Call(u32, u32, u32, u32, u32, u32, u32, u64, u64, u64);
-
 fn call_of(row: Row) -> Call {
     match row {
-        Row::Clear => Call(CALL_CLEAR, 0, 0, 0, 0, 0, 0, 0, 0, 0),
-        Row::AddProcess(id, u, session, t, mask) => {
-            Call(CALL_ADD_PROCESS, id, u, u, u, session, t, mask, 0, 0)
+        Row::Clear => Call::new(CALL_CLEAR, [0; 6], [0; 3]),
+        Row::AddProcess(id, user, session, t, mask) => {
+            Call::new(
+                CALL_ADD_PROCESS,
+                [id, user, user, user, session, t],
+                [mask, 0, 0],
+            )
         }
-        Row::AddThread(creator, id) => Call(CALL_ADD_THREAD, creator, id, 0, 0, 0, 0, 0, 0, 0),
-        Row::Kill(by, to, t, s) => Call(CALL_KILL, by, to, t, s, 0, 0, 0, 0, 0),
-        Row::Queue(by, to, t, s, value) => Call(CALL_SIGQUEUE, by, to, t, s, 0, 0, value, 0, 0),
+        Row::AddThread(creator, id) => Call::new(
+            CALL_ADD_THREAD,
+            [creator, id, 0, 0, 0, 0],
+            [0; 3],
+        ),
+        Row::Kill(by, to, t, s) => Call::new(CALL_KILL, [by, to, t, s, 0, 0], [0; 3]),
+        Row::Queue(by, to, t, s, value) => {
+            Call::new(CALL_SIGQUEUE, [by, to, t, s, 0, 0], [value, 0, 0])
+        }
         Row::Action(p, s, handler, flags) => {
-            Call(CALL_SIGACTION, p, s, GIVEN, 0, 0, 0, handler, flags, 0)
+            Call::new(CALL_SIGACTION, [p, s, GIVEN, 0, 0, 0], [handler, flags, 0])
         }
-        Row::Mask(t, way, set) => Call(CALL_SIGMASK, t, way, GIVEN, 0, 0, 0, set, 0, 0),
-        Row::Pending(t) => Call(CALL_SIGPENDING, t, 0, 0, 0, 0, 0, 0, 0, 0),
-        Row::Look(t) => Call(CALL_LOOK, t, 0, 0, 0, 0, 0, 0, 0, 0),
-        Row::Who(p) => Call(CALL_WHO, p, 0, 0, 0, 0, 0, 0, 0, 0),
-        Row::Take(t) => Call(CALL_TAKE, t, 0, 0, 0, 0, 0, 0, 0, 0),
-        Row::Return(t, mask) => Call(CALL_SIGRETURN, t, 0, 0, 0, 0, 0, mask, 0, 0),
+        Row::Mask(t, way, set) => Call::new(CALL_SIGMASK, [t, way, GIVEN, 0, 0, 0], [set, 0, 0]),
+        Row::Pending(t) => Call::new(CALL_SIGPENDING, [t, 0, 0, 0, 0, 0], [0; 3]),
+        Row::Look(t) => Call::new(CALL_LOOK, [t, 0, 0, 0, 0, 0], [0; 3]),
+        Row::Who(p) => Call::new(CALL_WHO, [p, 0, 0, 0, 0, 0], [0; 3]),
+        Row::Take(t) => Call::new(CALL_TAKE, [t, 0, 0, 0, 0, 0], [0; 3]),
+        Row::Return(t, mask) => Call::new(CALL_SIGRETURN, [t, 0, 0, 0, 0, 0], [mask, 0, 0]),
     }
 }
 
-// The call in its documented form; the texts stand in the order of the call numbers.
-fn show_call(rt: &impl Print, c: Call) -> io::Result<()> {
-    let words = [
-        c.1 as u64, c.2 as u64, c.3 as u64, c.4 as u64, c.5 as u64, c.6 as u64, c.7, c.8, c.9,
-    ];
-    printing::write(rt, b"call ")?;
-    printing::say(
-        rt,
-        b"|clear\
-        |add_process id=A real=B effective=C saved=D session=E thread=F mask=G\
-        |add_thread creator=A id=B\
-        |end_process id=A\
-        |end_thread id=A\
-        |kill by=A to=B thread=C signal=D\
-        |queue by=A to=B thread=C signal=D value=G\
-        |action process=A signal=B handler=G flags=H mask=I\
-        |mask thread=A way=B set=G\
-        |pending thread=A\
-        |look thread=A\
-        |who process=A\
-        |take thread=A\
-        |return thread=A mask=G",
-        c.0 as u64,
-        &words,
-    )
+// ---- its answer
+
+// The words of a record.
+#[derive(Clone, Copy)]
+struct Record([u64; 7]);
+
+impl fmt::Display for Record {
+    fn fmt<W: fmt::Write>(&self, f: &mut fmt::Formatter<W>) -> fmt::Result {
+        let [process, thread, signal, code, sender, uid, value] = self.0;
+        let code = Code(code);
+        write!(
+            f,
+            "({process} {thread} {signal} {code} {sender} {uid} {value})"
+        )
+    }
 }
 
-// The answer in docs/CALLS.md's words; the texts stand in the order of the first words, a refusal's before them.
-fn show_answer(rt: &impl Print, out: &[u64; ANSWER_WORDS]) -> io::Result<()> {
-    printing::write(rt, b"\nanswer ")?;
-    printing::say(
-        rt,
-        b"refused B\
-        |done\
-        |tested\
-        |acted\
-        |dropped\
-        |absorbed\
-        |marked\
-        |kept\
-        |old action handler=B flags=C mask=D\
-        |old mask B\
-        |pending set B\
-        |looked nothing\
-        |looked mark of D in queue B C\
-        |looked record (B C D ~E F G H)\
-        |can take B\
-        |none can\
-        |nothing\
-        |handler B signal C record (F G H ~I J K L) flags D saved E\
-        |end B\
-        |stop B\
-        |no action B",
-        out[0],
-        out,
-    )?;
-    printing::write(rt, b"\n")
+// The words of an answer, in docs/CALLS.md's words.
+#[derive(Clone, Copy)]
+struct Answer([u64; ANSWER_WORDS]);
+
+impl fmt::Display for Answer {
+    fn fmt<W: fmt::Write>(&self, f: &mut fmt::Formatter<W>) -> fmt::Result {
+        let [kind, a, b, c, d, p, t, s, code, sender, uid, value] = self.0;
+        match kind {
+            ANSWER_DONE => f.write_str("done"),
+            ANSWER_TESTED => f.write_str("tested"),
+            ANSWER_ACTED => f.write_str("acted"),
+            ANSWER_DROPPED => f.write_str("dropped"),
+            ANSWER_ABSORBED => f.write_str("absorbed"),
+            ANSWER_MARKED => f.write_str("marked"),
+            ANSWER_KEPT => f.write_str("kept"),
+            ANSWER_OLD_ACTION => write!(f, "old action handler={a} flags={b} mask={c}"),
+            ANSWER_OLD_MASK => write!(f, "old mask {a}"),
+            ANSWER_PENDING_SET => write!(f, "pending set {a}"),
+            ANSWER_NEXT_NOTHING => f.write_str("looked nothing"),
+            ANSWER_NEXT_MARK => write!(f, "looked mark of {c} in queue {a} {b}"),
+            ANSWER_NEXT_RECORD => write!(f, "looked record {}", Record([a, b, c, d, p, t, s])),
+            ANSWER_CAN_TAKE => write!(f, "can take {a}"),
+            ANSWER_NONE_CAN => f.write_str("none can"),
+            ANSWER_NOTHING => f.write_str("nothing"),
+            ANSWER_HANDLER => {
+                let r = Record([p, t, s, code, sender, uid, value]);
+                write!(f, "handler {a} signal {b} record {r} flags {c} saved {d}")
+            }
+            ANSWER_END => write!(f, "end {a}"),
+            ANSWER_STOP => write!(f, "stop {a}"),
+            _ => write!(f, "no action {a}"),
+        }
+    }
+}
+
+// The answer's words, or the errno. The other program has the same: nothing below both stands on the boundary.
+fn make(t: &mut Tables, call: Call) -> Result<Answer, u64> {
+    let [a, b, c, d, e, f] = call.words;
+    let [x, y, z] = call.wide;
+    let mut out = [0; ANSWER_WORDS];
+    let errno = boundary::serve(
+        &mut t.processes,
+        &mut t.threads,
+        &mut t.thread_buffer,
+        &mut t.process_buffer,
+        &mut out,
+        call.number,
+        a,
+        b,
+        c,
+        d,
+        e,
+        f,
+        x,
+        y,
+        z,
+    );
+    if errno == 0 {
+        Ok(Answer(out))
+    } else {
+        Err(errno)
+    }
 }
 
 // Makes a call and writes it, its answer and the tables after it.
-fn run(
-    rt: &impl Print,
-    ps: &mut [u64; PROCESS_TABLE],
-    ts: &mut [u64; THREAD_TABLE],
-    tb: &mut [u8; BUFFER_BYTES],
-    pb: &mut [u8; BUFFER_BYTES],
-    c: Call,
-) -> io::Result<()> {
-    show_call(rt, c)?;
-    let mut out = [0u64; ANSWER_WORDS];
-    let errno = boundary::serve(
-        ps, ts, tb, pb, &mut out, c.0, c.1, c.2, c.3, c.4, c.5, c.6, c.7, c.8, c.9,
-    );
-    // a refusal has written nothing; its errno goes where an answer has its first value
-    out[1] = out[1] | errno;
-    show_answer(rt, &out)?;
-    printing::tables(rt, ps, ts, tb, pb)
+fn run(rt: &impl Print, t: &mut Tables, row: Row) -> io::Result<()> {
+    println!(rt; "call {row}")?;
+    match make(t, call_of(row)) {
+        Ok(answer) => println!(rt; "answer {answer}")?,
+        Err(errno) => println!(rt; "answer refused {errno}")?,
+    }
+    t.print(rt)
 }
 
 fn main(rt: HostRuntime) -> io::Result<()> {
-    let mut ps = [0u64; PROCESS_TABLE];
-    let mut ts = [0u64; THREAD_TABLE];
-    let mut tb = [0u8; BUFFER_BYTES];
-    let mut pb = [0u8; BUFFER_BYTES];
-    // as many as the table has
-    let rows: u64 = 27;
-    for k in 0..rows {
-        run(&rt, &mut ps, &mut ts, &mut tb, &mut pb, call_of(row_at(k)))?;
+    let mut t = Tables::ZERO;
+    for row in &HISTORY {
+        run(&rt, &mut t, *row)?;
     }
     Ok(())
 }

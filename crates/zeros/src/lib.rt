@@ -3,7 +3,7 @@
 #![tactic(auto)]
 
 ghost use Rattle.std.specs.Prelude.{◌≡◌, ◌&&◌, ◌<◌, ℕ, Bool, true};
-ghost use Rattle.std.proofs.Common.{arith, refl};
+ghost use Rattle.std.proofs.Common.{arith};
 ghost use Rattle.lists.specs.Lists.{all};
 ghost use Rattle.zeros.specs.Zeros.{is_nought, zero_is_nought};
 ghost use Rattle.zeros.specs.declared.TheConstants.{BLOCK_WORDS, BLOCK_BYTES};
@@ -13,7 +13,7 @@ const BLOCK_WORDS: usize = 128;
 
 const BLOCK_BYTES: usize = 1024;
 
-// A word or a byte, and how many make a block.
+// A word or a byte, and how many make a block. The two impls are alike: no macro may write them.
 pub trait Word: Copy {
     const ZERO: Self;
 

@@ -14,7 +14,8 @@ returns-then-field_at-eq0 c =
     let ws = c.args.ps.now in
     let both = free-process (process_by c.args.hints.now ws) ws c.args.notes.now c.args.place
     c.field_at.result (ignored_by (process_at ws c.args.place).holds).0
-    c.field_at.ensures c.requires.ps_len.0 c.requires.ps_len.1 c.if-field_at-eq0.true (simp add-sub_cancel_left at c.all_zero.ensures) in
+    c.field_at.ensures c.requires.ps_len.0 c.requires.ps_len.1 c.if-field_at-eq0.true
+    (simp add-sub_cancel_left at c.all_zero.ensures) in
     record { value = both.0; notes_after = both.1 }
 
 pub ignored-ignores-requires : goal.ignored-ignores-requires

@@ -36,7 +36,9 @@ loop-i-preserved c =
         | then-is_of w ↦
             w.set-is ∙ w.union-set.ensures ∙ ap₂ union c.loop-i.invariant.2 w.of_signal.ensures
             ∙ signals-here rs i h r e q (sym c.is_of.ensures ∙ w.if-is_of.true)
-        | else-is_of w ↦ w.set-is ∙ c.loop-i.invariant.2 ∙ sym (signals-other rs i h r e q (sym c.is_of.ensures ∙ w.if-is_of.false))
+        | else-is_of w ↦
+            w.set-is ∙ c.loop-i.invariant.2
+            ∙ sym (signals-other rs i h r e q (sym c.is_of.ensures ∙ w.if-is_of.false))
       ],
     )
 

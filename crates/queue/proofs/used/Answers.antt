@@ -1,45 +1,24 @@
--- `used` meets its contract. The invariant: the slots before i are in use. Assumes nothing.
-use mathlib.Core.Path.{◌≡◌, ◌∙◌}
-use Prim.Native.Nat.{◌<◌}
-use native.Mathlib.Omega.{arith}
-use lib.ListN.{length}
-use Rattle.limits.specs.Limits.{buffer_records}
-use Rattle.lists.proofs.Loops.{leading-start, leading-more, leading-here, leading-done}
+-- `used` meets its contract. Assumes nothing.
+use mathlib.Core.Path.{sym, ap, ◌∙◌}
+use mathlib.Core.Bool.{not}
+use Rattle.std.proofs.Common.{rules, tests}
+use Rattle.limits.specs.Limits.{buffer_records, record_bytes}
+use Rattle.lists.specs.Rows.{row}
 use Rattle.types.specs.Values.{no_siginfo}
+use Rattle.siginfo.specs.Bytes.{siginfo_of}
 use Rattle.rules.specs.Store.{in_use, used}
 use Rattle.queue.specs.Queue.{slots_of, records_of}
-use Rattle.queue.proofs.Buffer.{length-slots_of, in-slots, slot-tested}
+use Rattle.queue.proofs.Buffer.{length-slots_of, slot_read}
+use Rattle.queue.proofs.Places.{places-find, find-leading}
 use Rattle.queue.proofs.used.Goals as goal
 
-pub loop-n-init : goal.loop-n-init
-unfolding records_of used
-loop-n-init c = (omega arith, leading-start in_use no_siginfo (slots_of c.args.b.now))
-
-pub returns-then-not-in_use : goal.returns-then-not-in_use
-returns-then-not-in_use c =
-    let b = c.args.b.now in
-    let i = c.loop-n.n in
-    let h : i < buffer_records = omega (arith, c.loop-n-test.true) in
-    leading-here in_use no_siginfo (slots_of b) i (length (records_of b)) (in-slots b i h) c.loop-n.invariant.1
-    (slot-tested in_use b i c.read.ensures c.in_use.ensures h
-    ∙ c.if-not-in_use.true)
-
-pub loop-n-preserved : goal.loop-n-preserved
-loop-n-preserved c =
-    let b = c.args.b.now in
-    let i = c.loop-n.n in
-    let h : i < buffer_records = omega (arith, c.loop-n-test.true) in (
-      omega arith,
-      leading-more in_use no_siginfo (slots_of b) i (length (records_of b)) (in-slots b i h) c.loop-n.invariant.1
-          (slot-tested in_use b i c.read.ensures c.in_use.ensures h
-          ∙ c.if-not-in_use.false),
-    )
-
 pub returns : goal.returns
+unfolding records_of used
 returns c =
     let b = c.args.b.now in
-    let i = c.loop-n.n in
-    let e : buffer_records ≡ i = omega arith in
-    e
-    ∙ leading-done in_use no_siginfo (slots_of b) i (length (records_of b)) (omega (arith, length-slots_of b))
-    c.loop-n.invariant.1
+    c.unwrap_or.ensures
+    ∙ places-find (λ r. not (in_use r)) no_siginfo _ _ _ buffer_records c.position.result
+    (λ i. not (in_use (siginfo_of (row record_bytes b i)))) (slots_of b) (length-slots_of b)
+    (λ i h. ap (λ r. not (in_use r)) (sym (slot_read b i no_siginfo h)))
+    c.position.ensures.ran (λ x t q k. search (rules, tests))
+    ∙ find-leading in_use (slots_of b)

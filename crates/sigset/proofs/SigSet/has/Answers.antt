@@ -9,7 +9,8 @@ pub returns-then-s-eq0 : goal.returns-then-s-eq0
 returns-then-s-eq0 c =
     elim c.then-s-eq0.branch [
       | then-s-eq0-via-then-s-eq0 w ↦ sym (has-beyond c.args.self c.args.s (omega arith) (λ h. omega arith))
-      | then-s-eq0-via-else-s-eq0+then-s-gt-SIGNALS w ↦ sym (has-beyond c.args.self c.args.s (omega arith) (λ h. omega arith))
+      | then-s-eq0-via-else-s-eq0+then-s-gt-SIGNALS w ↦
+          sym (has-beyond c.args.self c.args.s (omega arith) (λ h. omega arith))
     ]
 
 pub returns : goal.returns
