@@ -1,6 +1,6 @@
 use mathlib.Core.Path.{refl, ap, ◌∙◌}
 use Rattle.sigset.specs.Set.{union}
-use Rattle.places.proofs.with_action.Goals as goal
+use Rattle.places.proofs.Gathered.with.Goals as goal
 
 pub returns : goal.returns
 returns c =
@@ -8,6 +8,6 @@ returns c =
       refl,
       (
         c.union.ensures,
-        c.union-2.ensures ∙ ap (union a.g.chosen) c.alone_if.ensures,
+        c.union-2.ensures ∙ ap (union a.self.chosen) c.alone_if.ensures,
       ),
     )
