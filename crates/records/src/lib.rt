@@ -114,7 +114,7 @@ impl Queues<PROCESS_PLACES> for ProcessQueues<'_> {
 
 // ---- what the records so far add up to
 
-// How many each process has, and which signals are pending in each queue.
+// How many each process has, and the words of the sets that are pending in each queue: the definitions read words.
 #[derive(Drop)]
 struct Pending<const N: usize> {
     counts: [usize; PROCESS_PLACES],

@@ -25,11 +25,6 @@ returns-then-field_at-r c =
     let f = found-thread c.args.self.now.0.now c.args.r c.in_ok-queue.queue c.in_ok-queue.ensures in
     f.of_another c.field_at.result c.field_at.ensures c.if-field_at-r.true
 
-pub offset_bounds-places-process : goal.offset_bounds-places-process
-offset_bounds-places-process c =
-    let f = found-thread c.args.self.now.0.now c.args.r c.in_ok-queue.queue c.in_ok-queue.ensures in
-    omega (arith, f.inside)
-
 pub bounds-places-process : goal.bounds-places-process
 bounds-places-process c =
     (found-thread c.args.self.now.0.now c.args.r c.in_ok-queue.queue c.in_ok-queue.ensures).inside
