@@ -3,7 +3,7 @@ use Prim.Native.Nat.{ℕ, ◌*◌, ◌≤◌, ◌<◌}
 use mathlib.Core.Path.{◌≡◌, sym, ap, ◌∙◌}
 use mathlib.Core.Bool.{false}
 use mathlib.Core.List.{List}
-use native.Mathlib.Nat.{add-zero, mul-lt-mul_of_pos_right}
+use native.Mathlib.Nat.{add-zero}
 use native.Mathlib.Omega.{arith}
 use lib.Dec.{eqb}
 use lib.ListN.{length, get_or, set, length-set}
@@ -17,10 +17,6 @@ use Rattle.hints.proofs.Laws.{first_below, second_below, none-zero, seek-first, 
 use Rattle.hints.proofs.Laws.{seek-absent}
 
 -- ---- a table
-
--- the first word of a place is in the table
-pub in_table : (i places width : ℕ) → i < places → 1 ≤ width → i * width < places * width
-in_table i places width h w = mul-lt-mul_of_pos_right h w
 
 module _ (width places : ℕ) (ws : List ℕ) where
   pub length-ids_of : length (ids_of width places ws) ≡ places

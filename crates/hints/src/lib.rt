@@ -1,9 +1,9 @@
-// The place of an id in a table, by hint: two slots for each id say where to look first, and behind them stands a
+// A table with hints of where its ids are: two slots for each id say where to look first, and behind them stands a
 // search from the first place on. A hint is believed only where the place has that id, so the answer is exact whatever
 // the words are.
 #![tactic(auto)]
 
-ghost use Rattle.std.specs.Prelude.{◌≡◌, ◌*◌, ◌≤◌, ◌<◌, length};
+ghost use Rattle.std.specs.Prelude.{◌≡◌, ◌*◌, ◌≤◌, ◌<◌, length, MatchOption};
 ghost use Rattle.lists.specs.Lists.{find};
 ghost use Rattle.hints.specs.Hints.{hint_slots, first_slot, second_slot, ids_of, is_id, Hinted, seek, noted};
 
@@ -25,10 +25,7 @@ fn second_slot(id: u64) -> usize
     (id % 2147483648 * 2654435769 / 1048576) as usize % HINT_SLOTS
 }
 
-// ---- filled
-
-fn note(hints: &mut [u16], id: u64, place: u16)
-    requires { length hints.old ≡ hint_slots }
+fn note(hints: &mut [u16; HINT_SLOTS], id: u64, place: u16)
     ensures { hints.new ≡ noted hints.old id place }
 {
     let slot = first_slot(id);
@@ -39,56 +36,67 @@ fn note(hints: &mut [u16], id: u64, place: u16)
     }
 }
 
-// Hints for the ids of a table of so many places, the first word of each being its id.
-pub fn fill(ws: &[u64], width: usize, places: usize, hints: &mut [u16])
-    requires ws_len { (length ws.now ≡ places * width) × ((1 ≤ width) × (places ≤ 65535)) }
-    requires hints_len { (length hints.old ≡ hint_slots) × Hinted places hints.old }
-    ensures { Hinted places hints.new }
-{
-    let mut i = 0;
-    while i < places {
-        let id = ws[i * width];
-        if id != 0 {
-            note(hints, id, i as u16);
-        }
-        i += 1;
-    }
+// The words of a table, so many for each place and the first of them its id (0 for none), with its hints.
+#[derive(Clone, Copy)]
+pub struct Indexed<'a, const WIDTH: usize, const PLACES: usize> {
+    pub words: &'a [u64],
+    pub hints: &'a [u16; HINT_SLOTS],
+    pub ghost long: { length words.now ≡ PLACES * WIDTH },
+    pub ghost wide: { 1 ≤ WIDTH },
+    pub ghost hinted: { Hinted PLACES hints.now },
 }
 
-// ---- looked up
-
-// The lowest place with that id, or the number of places.
-fn search(ws: &[u64], width: usize, places: usize, id: u64) -> usize
-    requires ws_len { (length ws.now ≡ places * width) × (1 ≤ width) }
-    requires le_id { 1 ≤ id }
-    ensures { result ≡ find (is_id id) (ids_of width places ws.now) }
-{
-    let mut i = 0;
-    while i < places {
-        if ws[i * width] == id {
-            return i;
+impl<'a, const WIDTH: usize, const PLACES: usize> Indexed<'a, WIDTH, PLACES> {
+    // With hints that are filled.
+    pub fn of(words: &'a [u64], hints: &'a mut [u16; HINT_SLOTS]) -> Self
+        requires long { length words.now ≡ PLACES * WIDTH }
+        requires sizes { (1 ≤ WIDTH) × (PLACES ≤ 65535) }
+        requires hinted { Hinted PLACES hints.old }
+        ensures { result.words.now ≡ words.now }
+    {
+        for place in 0..PLACES {
+            let id = words[place * WIDTH];
+            if id != 0 {
+                note(hints, id, place as u16);
+            }
         }
-        i += 1;
+        Self { words, hints }
     }
-    i
-}
 
-// A place with that id, or the number of places.
-pub fn place_of(ws: &[u64], width: usize, places: usize, hints: &[u16], id: u64) -> usize
-    requires ws_len { (length ws.now ≡ places * width) × (1 ≤ width) }
-    requires hints_len { (length hints.now ≡ hint_slots) × Hinted places hints.now }
-    ensures { result ≡ seek hints.now (ids_of width places ws.now) id }
-{
-    if id == 0 {
-        return places;
+    // The lowest place with that id.
+    fn search(&self, id: u64) -> Option<usize>
+        requires { 1 ≤ id }
+        ensures { MatchOption result
+            (find (is_id id) (ids_of WIDTH PLACES self.now.words.now) ≡ PLACES)
+            (λ place. (place < PLACES) × (place ≡ find (is_id id) (ids_of WIDTH PLACES self.now.words.now))) }
+    {
+        for place in 0..PLACES {
+            if self.words[place * WIDTH] == id {
+                return Some(place);
+            }
+        }
+        None
     }
-    let near = hints[first_slot(id)] as usize;
-    if ws[near * width] == id {
-        return near;
+
+    // A place with that id.
+    #[inline(always)]
+    pub fn place_of(&self, id: u64) -> Option<usize>
+        ensures { MatchOption result
+            (seek self.now.hints.now (ids_of WIDTH PLACES self.now.words.now) id ≡ PLACES)
+            (λ place. (place < PLACES)
+            × (place ≡ seek self.now.hints.now (ids_of WIDTH PLACES self.now.words.now) id)) }
+    {
+        if id == 0 {
+            return None;
+        }
+        let near = self.hints[first_slot(id)] as usize;
+        if self.words[near * WIDTH] == id {
+            return Some(near);
+        }
+        let far = self.hints[second_slot(id)] as usize;
+        if self.words[far * WIDTH] == id {
+            return Some(far);
+        }
+        self.search(id)
     }
-    let far = hints[second_slot(id)] as usize;
-    if ws[far * width] == id {
-        return far;
-    }
-    search(ws, width, places, id)
 }

@@ -1,4 +1,5 @@
 mod Sets
 mod Notes
-mod Endings
-mod Owners
+pub mod Endings
+mod Owning
+pub mod Ranges

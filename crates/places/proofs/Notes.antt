@@ -1,19 +1,21 @@
 -- What is noted of the places in passing, one place after the other. Assumes nothing.
 use Prim.Native.Nat.{ℕ, ◌+◌, ◌<◌}
-use mathlib.Core.Path.{◌≡◌, refl, sym, ap, ap₂, ◌∙◌}
-use mathlib.Core.Bool.{Bool, true, false, not, ◌&&◌, ◌||◌, cond, or-true, or-false}
+use mathlib.Core.Path.{◌≡◌, refl, sym, ap, ◌∙◌}
+use mathlib.Core.Bool.{Bool, true, false, not, ◌&&◌, ◌||◌, or-true, or-false}
 use mathlib.Core.List.{List, map}
 use native.Mathlib.Nat.{not-suc-le-zero}
 use native.Mathlib.Omega.{arith}
 use lib.Dec.{eqb}
-use lib.ListN.{length, get_or, set, replicate, length-map, get_or-replicate}
+use lib.ListN.{length, get_or, set, take, replicate, length-map, get_or-replicate}
 use lib.Seq.{get_or-set_same, get_or-set_other, take_all}
-use borrow.Author.Tests.{eqb-true, eqb-false, eq-eqb, ne_eqb, not-true}
+use borrow.Author.Tests.{eqb-true, eqb-false, eq-eqb, ne_eqb}
 use Rattle.limits.specs.Limits.{process_places, thread_places}
 use Rattle.lists.specs.Lists.{all, any, find, range}
 use Rattle.lists.proofs.Bools.{split, clash, same_test, and-fst, and-snd, and_both}
 use Rattle.lists.proofs.Loops.{any_next, find-any, find_at}
 use Rattle.lists.proofs.Index.{find-only, all-below, below_all}
+use Rattle.sigset.specs.declared.SigSet.{SigSet}
+use Rattle.sigset.specs.Set.{empty}
 use Rattle.rules.specs.Types.{Process, Thread, no_process, no_thread}
 use Rattle.rules.specs.View.{is_process, belongs_to}
 use Rattle.rules.specs.Store.{Place, held, free_process, free_thread}
@@ -21,72 +23,73 @@ use Rattle.rules.specs.Sound.{is_live, process_id, thread_id, zero_thread}
 use Rattle.tables.proofs.Places.{held_at}
 use Rattle.soundness.specs.Check.{one_place, ignored_by, owner_place, thread_ok, thread_ok_at, has_thread_at}
 use Rattle.soundness.specs.Check.{have_threads}
-use Rattle.places.specs.Notes.{IgnoredNoted, OwnersNoted, ThreadedNoted, threaded_by, noted_at}
+use Rattle.places.specs.Notes.{IgnoredNoted, OwnersNoted, ThreadedNoted, threaded_by}
 
 -- ---- a note for each live place, where the note goes to the place itself
 
-module _ {A : Type 0} (id : A → ℕ) (d : Place A) (xs : List (Place A)) (value : Place A → ℕ) where
-  abbrev Noted : (n : ℕ) → List ℕ → Type 0
-  Noted n notes = (i : ℕ) → i < n → is_live id (get_or xs i d) ≡ true → get_or notes i 0 ≡ value (get_or xs i d)
+module _ {A B : Type 0} (id : A → ℕ) (d : Place A) (b : B) (xs : List (Place A)) (value : Place A → B) where
+  abbrev Noted : (n : ℕ) → List B → Type 0
+  Noted n notes = (i : ℕ) → i < n → is_live id (get_or xs i d) ≡ true → get_or notes i b ≡ value (get_or xs i d)
 
-  noted-none : (notes : List ℕ) → Noted 0 notes
+  noted-none : (notes : List B) → Noted 0 notes
   noted-none notes i h = absurd (not-suc-le-zero h)
 
-  noted_more : (n : ℕ) (notes after : List ℕ) → n < length notes → Noted n notes
-      → after ≡ noted_at id notes n (value (get_or xs n d)) (get_or xs n d) → Noted (n + 1) after
-  unfolding noted_at
-  noted_more n notes after l k e i h live =
-      split (eqb i n)
-      (λ s.
-      let z : i ≡ n = eqb-true i n s in
-      let now : eqb (id (get_or xs n d).holds) 0 ≡ false = not-true _ (rw (← z) live) in
-      rw (z, e, now) (get_or-set_same notes n (value (get_or xs n d)) 0 l))
-      (λ s.
-      let z = eqb-false i n s in
-      rw (e, ← k i (omega (arith, z)) live)
-      (kept i n (value (get_or xs n d)) notes (eqb (id (get_or xs n d).holds) 0) z))
-    where
-      kept : (i n v : ℕ) (l : List ℕ) (b : Bool) → (i ≡ n → ⊥) → get_or (cond b l (set l n v)) i 0 ≡ get_or l i 0
-      kept i n v l true z = refl
-      kept i n v l false z = get_or-set_other l n i v 0 z
+  module _ (n : ℕ) (notes : List B) (k : Noted n notes) where
+    noted_more : (v : B) → n < length notes → (is_live id (get_or xs n d) ≡ true → v ≡ value (get_or xs n d))
+        → Noted (n + 1) (set notes n v)
+    noted_more v l e i h live =
+        split (eqb i n)
+        (λ s.
+        let z : i ≡ n = eqb-true i n s in
+        rw (z, get_or-set_same notes n v b l) (e (rw (← z) live)))
+        (λ s.
+        let z = eqb-false i n s in
+        rw (get_or-set_other notes n i v b z) (k i (omega (arith, z)) live))
 
-pub ignored-none : (xs : List (Place Process)) (notes : List ℕ) → IgnoredNoted xs 0 notes
-ignored-none xs = noted-none process_id free_process xs (λ x. (ignored_by x.holds).0)
+    noted-free : is_live id (get_or xs n d) ≡ false → Noted (n + 1) notes
+    noted-free free i h live =
+        split (eqb i n) (λ s. let z : i ≡ n = eqb-true i n s in clash live (rw z free))
+        (λ s. let z = eqb-false i n s in k i (omega (arith, z)) live)
 
-pub ignored-more : (xs : List (Place Process)) (n : ℕ) (notes after : List ℕ) → n < length notes
-    → IgnoredNoted xs n notes
-    → after ≡ noted_at process_id notes n (ignored_by (get_or xs n free_process).holds).0 (get_or xs n free_process)
-    → IgnoredNoted xs (n + 1) after
-ignored-more xs = noted_more process_id free_process xs (λ x. (ignored_by x.holds).0)
+pub ignored-none : (xs : List (Place Process)) (notes : List SigSet) → IgnoredNoted xs 0 notes
+ignored-none xs = noted-none process_id free_process empty xs (λ x. ignored_by x.holds)
 
-pub owners-none : (xs : List (Place Process)) (ys : List (Place Thread)) (notes : List ℕ) → OwnersNoted xs ys 0 notes
-owners-none xs ys = noted-none thread_id free_thread ys (owner_place (map held xs))
+pub ignored-more : (xs : List (Place Process)) (n : ℕ) (notes : List SigSet) → IgnoredNoted xs n notes
+    → (v : SigSet) → n < length notes
+    → (is_live process_id (get_or xs n free_process) ≡ true → v ≡ ignored_by (get_or xs n free_process).holds)
+    → IgnoredNoted xs (n + 1) (set notes n v)
+ignored-more xs = noted_more process_id free_process empty xs (λ x. ignored_by x.holds)
 
-pub owners-more : (xs : List (Place Process)) (ys : List (Place Thread)) (n : ℕ) (notes after : List ℕ)
-    → n < length notes
-    → OwnersNoted xs ys n notes
-    → after ≡ noted_at thread_id notes n (owner_place (map held xs) (get_or ys n free_thread)) (get_or ys n free_thread)
-    → OwnersNoted xs ys (n + 1) after
-owners-more xs ys = noted_more thread_id free_thread ys (owner_place (map held xs))
+module _ (xs : List (Place Process)) (ys : List (Place Thread)) where
+  pub owners-none : (notes : List ℕ) → OwnersNoted xs ys 0 notes
+  owners-none = noted-none thread_id free_thread 0 ys (owner_place (map held xs))
+
+  pub owners-more : (n : ℕ) (notes : List ℕ) → OwnersNoted xs ys n notes → (v : ℕ) → n < length notes
+      → (is_live thread_id (get_or ys n free_thread) ≡ true → v ≡ owner_place (map held xs) (get_or ys n free_thread))
+      → OwnersNoted xs ys (n + 1) (set notes n v)
+  owners-more = noted_more thread_id free_thread 0 ys (owner_place (map held xs))
+
+  pub owners-free : (n : ℕ) (notes : List ℕ) → OwnersNoted xs ys n notes
+      → is_live thread_id (get_or ys n free_thread) ≡ false
+      → OwnersNoted xs ys (n + 1) notes
+  owners-free = noted-free thread_id free_thread 0 ys (owner_place (map held xs))
 
 -- ---- which processes have a thread
 
-one-note : (b : Bool) (notes : List ℕ) (owner i : ℕ) → i < length notes
-    → not (eqb (get_or (cond b notes (set notes owner 1)) i 0) 0)
-    ≡ (not (eqb (get_or notes i 0) 0) || (not b && eqb i owner))
-one-note true notes owner i h = sym (or-false (not (eqb (get_or notes i 0) 0)))
-one-note false notes owner i h =
+one-note : (notes : List Bool) (owner i : ℕ) → i < length notes
+    → get_or (set notes owner true) i false ≡ (get_or notes i false || eqb i owner)
+one-note notes owner i h =
     split (eqb i owner)
     (λ e.
     let z : i ≡ owner = eqb-true i owner e in
-    rw (e, ← z, get_or-set_same notes i 1 0 h) (sym (or-true (not (eqb (get_or notes i 0) 0)))))
+    rw (e, ← z, get_or-set_same notes i true false h) (sym (or-true (get_or notes i false))))
     (λ e.
-    rw (e, get_or-set_other notes owner i 1 0 (eqb-false i owner e)) (sym (or-false (not (eqb (get_or notes i 0) 0)))))
+    rw (e, get_or-set_other notes owner i true false (eqb-false i owner e)) (sym (or-false (get_or notes i false))))
 
 module _ (xs : List (Place Process)) (ys : List (Place Thread)) where
-  pub threaded-none : ThreadedNoted xs ys 0 (replicate process_places 0)
+  pub threaded-none : ThreadedNoted xs ys 0 (replicate process_places false)
   unfolding any
-  threaded-none i h live = ap (λ (k : ℕ). not (eqb k 0)) (get_or-replicate process_places i 0 0 h)
+  threaded-none i h live = get_or-replicate {A = Bool} process_places i false false h
 
   module _ (place : ℕ → ℕ) (one : one_place (map held xs)) (lx : length xs ≡ process_places)
       (n : ℕ) (h : n < length ys) (ok : thread_ok_at place xs ys n ≡ true) where
@@ -128,20 +131,30 @@ module _ (xs : List (Place Process)) (ys : List (Place Thread)) where
         ∙ find_at (is_process p) no_process (map held xs) (find-any (is_process p) (map held xs) owned) in
         eq-eqb p x.id (sym (eqb-true x.id p (and-snd (not (eqb p 0)) (eqb x.id p) mine))))))
 
-    pub threaded-more : (notes after : List ℕ) → length notes ≡ process_places → ThreadedNoted xs ys n notes
-        → after ≡ noted_at thread_id notes owner 1 it
-        → ThreadedNoted xs ys (n + 1) after
-    unfolding noted_at
-    threaded-more notes after ln k e i b live =
+    -- and so is what is noted of the first n threads, and of one more
+    one_more : (i : ℕ) → i < process_places → is_live process_id (get_or xs i free_process) ≡ true
+        → any (belongs_to (get_or xs i free_process).holds.id) (take (n + 1) (map held ys))
+        ≡ (any (belongs_to (get_or xs i free_process).holds.id) (take n (map held ys))
+        || (not (eqb it.holds.id 0) && eqb i owner))
+    one_more i b live =
         let inside : n < length (map held ys) = rw (length-map ys held) h in
         let id : ℕ = (get_or xs i free_process).holds.id in
-        ap (λ (l : List ℕ). not (eqb (get_or l i 0) 0)) e
-        ∙ one-note (eqb it.holds.id 0) notes owner i (omega arith)
-        ∙ ap₂ (λ (c d : Bool). c || d) (k i b live)
-        (sym (ap (belongs_to id) (held_at ys n free_thread) ∙ theirs i (omega arith) live))
-        ∙ sym (any_next (belongs_to id) no_thread (map held ys) n inside)
+        any_next (belongs_to id) no_thread (map held ys) n inside
+        ∙ ap (λ (c : Bool). any (belongs_to id) (take n (map held ys)) || c)
+        (ap (belongs_to id) (held_at ys n free_thread) ∙ theirs i (omega arith) live)
 
-  pub threaded-all : length ys ≡ thread_places → (notes : List ℕ) → ThreadedNoted xs ys thread_places notes
+    module _ (notes : List Bool) (k : ThreadedNoted xs ys n notes) where
+      pub threaded-more : length notes ≡ process_places → is_live thread_id it ≡ true
+          → ThreadedNoted xs ys (n + 1) (set notes owner true)
+      threaded-more ln there i b live =
+          one-note notes owner i (omega arith)
+          ∙ ap (λ (c : Bool). c || eqb i owner) (k i b live)
+          ∙ sym (one_more i b live ∙ rw there)
+
+      pub threaded-free : is_live thread_id it ≡ false → ThreadedNoted xs ys (n + 1) notes
+      threaded-free free i b live = k i b live ∙ sym (one_more i b live ∙ rw free (or-false _))
+
+  pub threaded-all : length ys ≡ thread_places → (notes : List Bool) → ThreadedNoted xs ys thread_places notes
       → all (threaded_by xs notes) (range 0 process_places) ≡ have_threads xs ys
   unfolding have_threads has_thread_at threaded_by
   threaded-all ly notes k =

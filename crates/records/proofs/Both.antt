@@ -1,20 +1,12 @@
 -- The records of both buffers: how the two passes and the counts end, over plain variables. Assumes nothing.
-use mathlib.Core.Path.{◌≡◌, sym, ap, ap₂, ◌∙◌}
+use mathlib.Core.Path.{◌≡◌, sym, ap₂, ◌∙◌}
 use mathlib.Core.Bool.{true, false}
-use mathlib.Core.List.{List, []}
+use mathlib.Core.List.{List}
 use Prim.Native.Nat.{ℕ}
-use lib.ListN.{replicate}
-use Rattle.limits.specs.Limits.{process_places}
 use Rattle.lists.proofs.Bools.{and_left, and_right}
 use Rattle.types.specs.declared.Siginfo.{Siginfo}
 use Rattle.tables.specs.Tables.{processes_of, threads_of, held_processes}
-use Rattle.tables.proofs.Words.{length-held_processes}
 use Rattle.soundness.specs.Check.{tallies, thread_records_ok, process_records_ok, all_within, records_ok}
-use Rattle.soundness.proofs.Passes.{tally-start}
-
--- no record yet
-pub zero-counts : (ws : List ℕ) → replicate process_places 0 ≡ tallies (held_processes ws) []
-zero-counts ws = sym (tally-start (held_processes ws) ∙ ap (λ n. replicate n 0) (length-held_processes ws))
 
 -- ---- the records of both buffers
 

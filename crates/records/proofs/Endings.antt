@@ -1,39 +1,43 @@
 -- How the tests of one record end, over plain variables: the proofs of the code pass what they know. Assumes nothing.
 use Prim.Native.Nat.{ℕ, ◌+◌, ◌-◌, ◌^◌, ◌≤◌, ◌<◌}
 use mathlib.Core.Path.{◌≡◌, refl, sym, ap, ◌∙◌}
-use mathlib.Core.Bool.{Bool, true, false, not, ◌&&◌, ◌||◌, cond, and_comm}
+use mathlib.Core.Bool.{Bool, true, false, not, ◌&&◌, and_comm}
 use mathlib.Core.List.{List, []}
 use mathlib.Core.Option
 use native.Mathlib.Omega.{arith}
 use lib.Dec.{eqb, leb}
 use lib.ListN.{get_or}
-use borrow.Author.Tests.{eqb-true, eq-eqb, ne_eqb, leb-true, leb-false, le-leb, lt-leb, not-true, not-false}
+use borrow.Author.Tests.{eqb-true, eq-eqb, ne_eqb, leb-true, le-leb, lt-leb}
 use Rattle.limits.specs.Limits.{process_places, thread_places, record_limit, last_standard, si_queue}
 use Rattle.limits.specs.Limits.{process_id as word_of_id}
-use Rattle.lists.specs.Lists.{any, first, find}
-use Rattle.lists.proofs.Bools.{split, clash, same_test, and_left, and-snd, and-imp, or_cases, or-fst-false}
-use Rattle.lists.proofs.Bools.{or-snd-false}
+use Rattle.lists.specs.Lists.{any, count, first, find}
+use Rattle.lists.proofs.Bools.{split, clash, same_test, and_left, and-snd, and-imp}
 use Rattle.lists.proofs.Loops.{find-le}
 use Rattle.lists.proofs.Finds.{found-any, absent-any, any-inside}
 use Rattle.sigset.specs.declared.SigSet.{SigSet}
-use Rattle.sigset.specs.Set.{Signal, bits, has, sum_of, set_of, intersect}
+use Rattle.sigset.specs.Set.{Signal, empty, bits, has, sum_of, set_of, intersect}
 use Rattle.sigset.proofs.Laws.{has-set, has-beyond, has-intersect, intersect-lt}
 use Rattle.types.specs.declared.Siginfo.{Siginfo}
 use Rattle.rules.specs.Types.{Process, Thread, no_process, no_thread}
 use Rattle.rules.specs.Signals.{is_signal, standard, ignored}
 use Rattle.rules.specs.View.{is_process, is_thread, action_of, live_process, live_thread, the_process, the_thread}
 use Rattle.rules.specs.Store.{view, free_process, free_thread}
-use Rattle.rules.specs.Sound.{nameable, names_live, aimed_at_thread, aimed_at_process, record_not_ignored}
+use Rattle.rules.specs.Sound.{is_live, thread_id, nameable, names_live, aimed_at_thread, aimed_at_process}
+use Rattle.rules.specs.Sound.{record_not_ignored}
 use Rattle.rules.proofs.Ids.{named_live}
 use Rattle.rules.proofs.Marks.{first-held}
 use Rattle.rules.proofs.Signals.{is-signal, signal-is, standard-is, nameable-signal}
 use Rattle.tables.specs.Tables.{processes_of, threads_of, held_processes, held_threads, process_at, thread_at, head_to}
 use Rattle.tables.proofs.Words.{length-processes_of, length-threads_of, length-held_processes, length-held_threads}
-use Rattle.soundness.specs.Check.{is_delivered, is_fresh, within_at, bumped, noted, places_view, process_place}
+use Rattle.soundness.specs.Check.{is_delivered, is_fresh, within_at, places_view, process_place}
 use Rattle.soundness.specs.Check.{thread_place}
-use Rattle.soundness.specs.Check.{thread_record_ok, process_record_ok, ignored_by, owner_place, process_by, thread_by}
+use Rattle.soundness.specs.Check.{thread_record_ok, process_record_ok, ignored_by, owner_place, process_by}
+use Rattle.soundness.specs.Check.{thread_by, one_place}
 use Rattle.soundness.proofs.Ids.{process-found, thread-found, held_found}
-use Rattle.places.specs.Notes.{ProcessesNoted, ThreadsNoted}
+use Rattle.soundness.proofs.Turns.{one-process, one-thread, owned}
+use Rattle.places.specs.declared.SoundPlaces.{SoundPlaces}
+use Rattle.places.specs.Notes.{IgnoredNoted, OwnersNoted}
+use Rattle.hints.specs.Hints.{Hinted}
 
 -- ---- one signal against the set of its queue
 
@@ -96,11 +100,14 @@ no-aim-there true true h = refl
 no-aim-there true false h = refl
 no-aim-there false a h = refl
 
-all_there : (c n h : Bool) → (n && (c && h)) ≡ (((c && (n && true)) && true) && h)
-all_there true true h = refl
-all_there true false h = refl
-all_there false true h = refl
-all_there false false h = refl
+all_there : (t c n h : Bool) → (t && (n && (c && h))) ≡ (((c && (n && true)) && t) && h)
+all_there false true true h = refl
+all_there false true false h = refl
+all_there false false n h = refl
+all_there true true true h = refl
+all_there true true false h = refl
+all_there true false true h = refl
+all_there true false false h = refl
 
 -- what is noted of the ignored signals tells as the actions do
 delivered : (p : Process) (r : Siginfo)
@@ -142,64 +149,55 @@ module _ (ws : List ℕ) (r : Siginfo) (place : ℕ) (at : place ≡ find (is_pr
 
 -- ---- a record of the process buffer
 
-module _ (ws ph ignored : List ℕ) (n : ProcessesNoted ws ph ignored) (r : Siginfo) (place : ℕ)
+module _ (ws ph : List ℕ) (ignored : List SigSet) (h : Hinted process_places ph) (one : one_place (held_processes ws))
+    (known : IgnoredNoted (processes_of ws) process_places ignored) (r : Siginfo) (place : ℕ)
     (e : place ≡ process_by ph ws r.process) where
   at-process : place ≡ find (is_process r.process) (held_processes ws)
-  at-process = e ∙ process-found ph ws r.process n.hints.1 (n.one r.process)
+  at-process = e ∙ process-found ph ws r.process h (one r.process)
 
   pub process-place : place ≡ process_place (processes_of ws) r
   unfolding process_place
   process-place = at-process
 
-  module _ {t : Bool} (z : t ≡ not (eqb r.thread 0)) where
-    pub misaimed : (leb process_places place || t) ≡ true → false ≡ process_record_ok (processes_of ws) r
-    unfolding process_record_ok aimed_at_process names_live live_process view
-    misaimed k =
-        or_cases (leb process_places place) t k
-        (λ h. rw (no-such-process ws r place at-process (leb-true process_places place h))
-        (no-process (eqb r.code si_queue)
-        (nameable r.signal) (eqb r.thread 0) (record_not_ignored (places_view (processes_of ws) []) r)))
-        (λ h. rw (not-true (eqb r.thread 0) (sym z ∙ h))
-        (no-aim (names_live (places_view (processes_of ws) []) r)
-        (record_not_ignored (places_view (processes_of ws) []) r)))
+  pub no-process-found : place ≡ process_places → process_record_ok (processes_of ws) r ≡ false
+  unfolding process_record_ok aimed_at_process names_live live_process view
+  no-process-found k =
+      rw (no-such-process ws r place at-process (omega arith))
+      (sym (no-process (eqb r.code si_queue) (nameable r.signal) (eqb r.thread 0)
+      (record_not_ignored (places_view (processes_of ws) []) r)))
 
-    module _ (k : (leb process_places place || t) ≡ false) where
-      pub process-inside : place < process_places
-      process-inside = leb-false process_places place (or-fst-false (leb process_places place) t k)
-
-      pub process-delivered : is_delivered (bits (get_or ignored place 0)) r ≡ process_record_ok (processes_of ws) r
-      unfolding process_record_ok aimed_at_process names_live record_not_ignored live_process the_process view
-      process-delivered =
-          let live = such-process ws r place at-process process-inside in
-          let aimed = not-false (eqb r.thread 0) (sym z ∙ or-snd-false (leb process_places place) t k) in
-          ap (λ w. is_delivered (bits w) r)
-          (n.ignores place process-inside (live-place ws r place at-process process-inside))
-          ∙ delivered (process_at ws place).holds r
-          ∙ rw (live, aimed, its-process ws r place at-process)
-          (all_there (eqb r.code si_queue) (nameable r.signal) _)
+  pub process-delivered : place < process_places
+      → (eqb r.thread 0 && is_delivered (get_or ignored place empty) r) ≡ process_record_ok (processes_of ws) r
+  unfolding process_record_ok aimed_at_process names_live record_not_ignored live_process the_process view
+  process-delivered inside =
+      ap (λ i. eqb r.thread 0 && is_delivered i r) (known place inside (live-place ws r place at-process inside))
+      ∙ ap (λ b. eqb r.thread 0 && b) (delivered (process_at ws place).holds r)
+      ∙ rw (such-process ws r place at-process inside, its-process ws r place at-process)
+      (all_there (eqb r.thread 0) (eqb r.code si_queue) (nameable r.signal) _)
 
 -- ---- a record of the thread buffer
 
-module _ (ws vs th ignored owners : List ℕ) (n : ThreadsNoted ws vs th ignored owners) (r : Siginfo) (queue : ℕ)
-    (e : queue ≡ thread_by th vs r.thread) where
+module _ (ws vs th : List ℕ) (h : Hinted thread_places th) (one : (n : ℕ) → count (is_thread n) (held_threads vs) ≤ 1)
+    (r : Siginfo) (queue : ℕ) (e : queue ≡ thread_by th vs r.thread) where
   at-thread : queue ≡ find (is_thread r.thread) (held_threads vs)
-  at-thread = e ∙ thread-found th vs r.thread n.hints.1 (n.one_thread r.thread)
+  at-thread = e ∙ thread-found th vs r.thread h (one r.thread)
 
   pub thread-place : queue ≡ thread_place (threads_of vs) r
   unfolding thread_place
   thread-place = at-thread
 
-  pub lost : thread_places ≤ queue → false ≡ thread_record_ok (processes_of ws) (threads_of vs) r
+  pub no-thread-found : queue ≡ thread_places → thread_record_ok (processes_of ws) (threads_of vs) r ≡ false
   unfolding thread_record_ok aimed_at_thread live_thread view
-  lost h =
-      let z : queue ≡ thread_places =
-      omega (arith, at-thread, find-le (is_thread r.thread) (held_threads vs), length-held_threads vs) in
+  no-thread-found z =
       rw (absent-any (is_thread r.thread) no_thread (held_threads vs) thread_places queue (length-held_threads vs)
       at-thread z)
-      (no-aim (names_live (places_view (processes_of ws) (threads_of vs)) r)
-      (record_not_ignored (places_view (processes_of ws) (threads_of vs)) r))
+      (sym (no-aim (names_live (places_view (processes_of ws) (threads_of vs)) r)
+      (record_not_ignored (places_view (processes_of ws) (threads_of vs)) r)))
 
-  module _ (h : queue < thread_places) where
+  module _ (inside : queue < thread_places) (owners : List ℕ)
+      (owner : OwnersNoted (processes_of ws) (threads_of vs) thread_places owners)
+      (owned : (i : ℕ) → i < thread_places → is_live thread_id (thread_at vs i) ≡ true
+      → any (is_process (thread_at vs i).holds.process) (held_processes ws) ≡ true) where
     abbrev its_thread : Thread
     its_thread = (thread_at vs queue).holds
 
@@ -217,7 +215,8 @@ module _ (ws vs th ignored owners : List ℕ) (n : ThreadsNoted ws vs th ignored
     unfolding is_thread
     live-thread =
         ap not (named_live r.thread its_thread.id
-        (held_found (is_thread r.thread) free_thread (threads_of vs) queue at-thread (rw (length-threads_of vs) h)))
+        (held_found (is_thread r.thread) free_thread (threads_of vs) queue at-thread
+        (rw (length-threads_of vs) inside)))
 
     -- the place of its process
     abbrev place : ℕ
@@ -225,13 +224,13 @@ module _ (ws vs th ignored owners : List ℕ) (n : ThreadsNoted ws vs th ignored
 
     at-owner : place ≡ find (is_process its_thread.process) (held_processes ws)
     unfolding owner_place
-    at-owner = n.owner queue h live-thread
+    at-owner = owner queue inside live-thread
 
-    owner-inside : place < process_places
+    pub owner-inside : place < process_places
     owner-inside =
         rw at-owner
         (any-inside (is_process its_thread.process) (held_processes ws) process_places (length-held_processes ws)
-        (n.owned queue h live-thread))
+        (owned queue inside live-thread))
 
     owner-id : (process_at ws place).holds.id ≡ its_thread.process
     unfolding is_process
@@ -251,65 +250,110 @@ module _ (ws vs th ignored owners : List ℕ) (n : ThreadsNoted ws vs th ignored
       unfolding the_thread view
       of-thread = ap (λ (t : Thread). t.process) its-thread ∙ its-owner
 
-      of-another : (w ≡ r.process → ⊥) → false ≡ thread_record_ok (processes_of ws) (threads_of vs) r
+      pub of-another : (w ≡ r.process → ⊥) → thread_record_ok (processes_of ws) (threads_of vs) r ≡ false
       unfolding thread_record_ok aimed_at_thread
       of-another z =
           rw (of-thread, ne_eqb w r.process z)
-          (no-aim-there (names_live (places_view (processes_of ws) (threads_of vs)) r)
+          (sym (no-aim-there (names_live (places_view (processes_of ws) (threads_of vs)) r)
           (live_thread (places_view (processes_of ws) (threads_of vs)) r.thread)
-          (record_not_ignored (places_view (processes_of ws) (threads_of vs)) r))
+          (record_not_ignored (places_view (processes_of ws) (threads_of vs)) r)))
 
       module _ (z : w ≡ r.process) where
         at_place : place ≡ find (is_process r.process) (held_processes ws)
         at_place = at-owner ∙ ap (λ k. find (is_process k) (held_processes ws)) (its-owner ∙ z)
 
-        owner-place : place ≡ process_place (processes_of ws) r
+        pub owner-place : place ≡ process_place (processes_of ws) r
         unfolding process_place
         owner-place = at_place
 
-        thread-delivered : is_delivered (bits (get_or ignored place 0)) r
-            ≡ thread_record_ok (processes_of ws) (threads_of vs) r
+        pub thread-delivered : (ignored : List SigSet) → IgnoredNoted (processes_of ws) process_places ignored
+            → is_delivered (get_or ignored place empty) r ≡ thread_record_ok (processes_of ws) (threads_of vs) r
         unfolding thread_record_ok aimed_at_thread names_live record_not_ignored live_process live_thread the_process
             view
-        thread-delivered =
+        thread-delivered ignored known =
             let live = such-process ws r place at_place owner-inside in
-            ap (λ k. is_delivered (bits k) r) (n.ignores place owner-inside (live-place ws r place at_place
-            owner-inside))
+            ap (λ i. is_delivered i r) (known place owner-inside (live-place ws r place at_place owner-inside))
             ∙ delivered (process_at ws place).holds r
             ∙ rw (live, such-thread, of-thread, eq-eqb w r.process z, its-process ws r place at_place)
-            (all_there (eqb r.code si_queue) (nameable r.signal) _)
+            (all_there true (eqb r.code si_queue) (nameable r.signal) _)
 
--- what the place of a thread that was found tells of the record
-pub record ThreadFound (ws vs ignored owners : List ℕ) (r : Siginfo) (queue : ℕ) : Type 0 where
-  pub inside : get_or owners queue 0 < process_places
-  pub another : (w : ℕ) → w ≡ get_or (head_to (process_at ws (get_or owners queue 0))) word_of_id 0
-      → (w ≡ r.process → ⊥)
+-- ---- the places, as they were noted
+
+module _ (p : SoundPlaces) (r : Siginfo) where
+  abbrev ws : List ℕ
+  ws = p.processes.words.now
+
+  abbrev vs : List ℕ
+  vs = p.threads.words.now
+
+  one : one_place (held_processes ws)
+  one =
+      one-process (process_by p.processes.hints.now ws) (thread_by p.threads.hints.now vs) (processes_of ws)
+      (threads_of vs) (length-processes_of ws) (length-threads_of vs) p.sound
+
+  single : (n : ℕ) → count (is_thread n) (held_threads vs) ≤ 1
+  single =
+      one-thread (process_by p.processes.hints.now ws) (thread_by p.threads.hints.now vs) (processes_of ws)
+      (threads_of vs) (length-processes_of ws) (length-threads_of vs) p.sound
+
+  its-process-live : (i : ℕ) → i < thread_places → is_live thread_id (thread_at vs i) ≡ true
+      → any (is_process (thread_at vs i).holds.process) (held_processes ws) ≡ true
+  its-process-live =
+      owned (process_by p.processes.hints.now ws) (thread_by p.threads.hints.now vs) (processes_of ws)
+      (threads_of vs) (length-processes_of ws) (length-threads_of vs) p.sound
+
+  -- a record whose process is in this place, if it is one of the process buffer
+  pub record ProcessFound (place : ℕ) : Type 0 where
+    pub at : place ≡ process_place (processes_of ws) r
+    pub delivery : (eqb r.thread 0 && is_delivered (get_or p.ignored place empty) r)
+        ≡ process_record_ok (processes_of ws) r
+
+  pub found-process : (place : ℕ)
+      → (place < process_places) × (place ≡ process_by p.processes.hints.now ws r.process)
+      → ProcessFound place
+  found-process place e =
+      let t = p.processes in
+      record {
+        at = process-place ws t.hints.now p.ignored t.hinted one p.ignored_noted r place e.1;
+        delivery = process-delivered ws t.hints.now p.ignored t.hinted one p.ignored_noted r place e.1 e.0;
+      }
+
+  pub process-lost : process_by p.processes.hints.now ws r.process ≡ process_places
+      → process_record_ok (processes_of ws) r ≡ false
+  process-lost =
+      no-process-found ws p.processes.hints.now p.ignored p.processes.hinted one p.ignored_noted r _ refl
+
+  -- a record whose thread is in this place, if it is one of the thread buffer
+  pub record ThreadFound (queue : ℕ) : Type 0 where
+    pub inside : get_or p.owners queue 0 < process_places
+    pub at : queue ≡ thread_place (threads_of vs) r
+    pub of_another : (w : ℕ) → w ≡ get_or (head_to (process_at ws (get_or p.owners queue 0))) word_of_id 0
+        → (w ≡ r.process → ⊥)
+        → thread_record_ok (processes_of ws) (threads_of vs) r ≡ false
+    pub process : (w : ℕ) → w ≡ get_or (head_to (process_at ws (get_or p.owners queue 0))) word_of_id 0
+        → w ≡ r.process
+        → get_or p.owners queue 0 ≡ process_place (processes_of ws) r
+    pub delivery : (w : ℕ) → w ≡ get_or (head_to (process_at ws (get_or p.owners queue 0))) word_of_id 0
+        → w ≡ r.process
+        → is_delivered (get_or p.ignored (get_or p.owners queue 0) empty) r
+        ≡ thread_record_ok (processes_of ws) (threads_of vs) r
+
+  pub found-thread : (queue : ℕ) → (queue < thread_places) × (queue ≡ thread_by p.threads.hints.now vs r.thread)
+      → ThreadFound queue
+  found-thread queue e =
+      let th = p.threads.hints.now in
+      let h = p.threads.hinted in
+      record {
+        inside = owner-inside ws vs th h single r queue e.1 e.0 p.owners p.owners_noted its-process-live;
+        at = thread-place ws vs th h single r queue e.1;
+        of_another = of-another ws vs th h single r queue e.1 e.0 p.owners p.owners_noted its-process-live;
+        process = owner-place ws vs th h single r queue e.1 e.0 p.owners p.owners_noted its-process-live;
+        delivery =
+            λ w ew z.
+            thread-delivered ws vs th h single r queue e.1 e.0 p.owners p.owners_noted its-process-live w ew z p.ignored
+            p.ignored_noted;
+      }
+
+  pub thread-lost : thread_by p.threads.hints.now vs r.thread ≡ thread_places
       → thread_record_ok (processes_of ws) (threads_of vs) r ≡ false
-  pub place : (w : ℕ) → w ≡ get_or (head_to (process_at ws (get_or owners queue 0))) word_of_id 0 → w ≡ r.process
-      → get_or owners queue 0 ≡ process_place (processes_of ws) r
-  pub delivery : (w : ℕ) → w ≡ get_or (head_to (process_at ws (get_or owners queue 0))) word_of_id 0 → w ≡ r.process
-      → thread_record_ok (processes_of ws) (threads_of vs) r
-      ≡ is_delivered (bits (get_or ignored (get_or owners queue 0) 0)) r
-
-pub found : (ws vs th ignored owners : List ℕ) (n : ThreadsNoted ws vs th ignored owners) (r : Siginfo) (queue : ℕ)
-    → queue ≡ thread_by th vs r.thread → queue < thread_places
-    → ThreadFound ws vs ignored owners r queue
-found ws vs th ignored owners n r queue e h =
-    record {
-      inside = owner-inside ws vs th ignored owners n r queue e h;
-      another = λ w ew z. sym (of-another ws vs th ignored owners n r queue e h w ew z);
-      place = owner-place ws vs th ignored owners n r queue e h;
-      delivery = λ w ew z. sym (thread-delivered ws vs th ignored owners n r queue e h w ew z);
-    }
-
--- what `admit` did, said of the places that the record names
-module _ (seen counts : List ℕ) (s : ℕ) {ok h : Bool} {place place' queue queue' : ℕ} {seen' counts' : List ℕ} where
-  pub admitted : ok ≡ true → place ≡ place' → queue ≡ queue'
-      → (h ≡ is_fresh seen queue s)
-      × ((counts' ≡ cond h (bumped counts place) counts) × (seen' ≡ cond h (noted seen queue s) seen))
-      → (h ≡ (ok && is_fresh seen queue' s))
-      × ((counts' ≡ cond h (bumped counts place') counts) × (seen' ≡ cond h (noted seen queue' s) seen))
-  admitted e p q k = (
-    k.0 ∙ rw (e, q),
-    (k.1.0 ∙ ap (λ n. cond h (bumped counts n) counts) p, k.1.1 ∙ ap (λ n. cond h (noted seen n s) seen) q),
-  )
+  thread-lost = no-thread-found ws vs p.threads.hints.now p.threads.hinted single r _ refl

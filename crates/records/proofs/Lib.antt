@@ -1,4 +1,4 @@
 mod Endings
-mod Marks
 mod Loops
+mod Marks
 mod Both

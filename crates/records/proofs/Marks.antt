@@ -1,13 +1,12 @@
--- The sets of what is pending before the first record: the marks, filled in place by place. Over plain variables.
+-- What is pending in a queue before the first record: its marks. Over plain variables.
 use mathlib.Core.Path.{◌≡◌, sym, ap, ◌∙◌}
 use mathlib.Core.Bool.{false, ◌||◌, or-false}
 use mathlib.Core.List.{List, []}
-use Prim.Native.Nat.{ℕ, ◌+◌, ◌^◌, ◌≤◌, ◌<◌}
-use native.Mathlib.Omega.{arith}
-use lib.ListN.{length, get_or, set}
+use Prim.Native.Nat.{ℕ, ◌^◌, ◌<◌}
+use lib.ListN.{length, get_or}
 use Rattle.limits.specs.Limits.{signals}
 use Rattle.lists.specs.Lists.{any}
-use Rattle.lists.proofs.Loops.{filled, filled_more, filled-done}
+use Rattle.lists.proofs.Index.{get_d-mapped}
 use Rattle.sigset.specs.declared.SigSet.{SigSet}
 use Rattle.sigset.specs.Set.{has, set_of, union}
 use Rattle.sigset.proofs.Laws.{has-set, is_set}
@@ -23,17 +22,10 @@ module _ {A : Type 0} (queue : A → Queue) where
       (sym (is_set x.marks (λ s. has x.marks s || has (set_of (λ t. false)) s) l
       (λ s g. sym (ap (λ b. has x.marks s || b) (has-set (λ t. false) s g) ∙ or-false (has x.marks s)))))
 
-  module _ (xs : List (Place A)) (ys : List ℕ) (d : Place A) (long : length ys ≡ length xs) where
-    -- one turn: the marks at i are stored
-    pub marks-more : (zs : List ℕ) (i w : ℕ) → i < length xs → zs ≡ filled (seen_by queue []) i xs ys
-        → w ≡ (get_or xs i d).marks.0 → w < 2 ^ signals
-        → set zs i w ≡ filled (seen_by queue []) (i + 1) xs ys
-    marks-more zs i w h e k l =
-        let m : (get_or xs i d).marks.0 < 2 ^ signals = rw k at l in
-        ap (λ v. set zs i v) (k ∙ sym (marks-only (get_or xs i d) m))
-        ∙ ap (λ v. set v i (seen_by queue [] (get_or xs i d))) e
-        ∙ filled_more (seen_by queue []) xs ys i d h long
-
-    pub marks-done : (i : ℕ) → length xs ≤ i → filled (seen_by queue []) i xs ys ≡ seen_sets queue xs []
-    unfolding seen_sets
-    marks-done i h = filled-done (seen_by queue []) xs ys i h (omega (arith, long))
+  -- what is marked at a place
+  pub marks-at : (xs : List (Place A)) (d : Place A) (i w : ℕ) → i < length xs → w ≡ (get_or xs i d).marks.0
+      → w < 2 ^ signals
+      → w ≡ get_or (seen_sets queue xs []) i 0
+  unfolding seen_sets
+  marks-at xs d i w h k l =
+      k ∙ sym (get_d-mapped (seen_by queue []) xs i d 0 h ∙ marks-only (get_or xs i d) (rw k at l))

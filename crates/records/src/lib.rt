@@ -2,26 +2,51 @@
 // held against what was noted of the places.
 #![tactic(auto)]
 
-ghost use Rattle.std.specs.Prelude.{◌≡◌, true, ◌&&◌, cond, [], ◌≤◌, ◌<◌, length, get_or};
-ghost use Rattle.limits.specs.Limits.{process_places, process_table, thread_places, thread_table, buffer_records};
-ghost use Rattle.limits.specs.Limits.{buffer_bytes};
-ghost use Rattle.rules.specs.View.{thread_queue};
+ghost use Rattle.std.specs.Prelude.{◌≡◌, true, false, cond, [], ◌≤◌, ◌<◌, length, get_or, MatchOption};
+ghost use Rattle.limits.specs.Limits.{process_places, buffer_records, buffer_bytes};
+ghost use Rattle.types.specs.declared.Siginfo.{Siginfo};
 ghost use Rattle.queue.specs.Queue.{records_of};
-ghost use Rattle.tables.specs.Tables.{processes_of, threads_of, held_processes};
-ghost use Rattle.soundness.specs.Check.{tallies, seen_sets, own_queue, is_fresh, is_delivered, bumped, noted};
-ghost use Rattle.soundness.specs.Check.{small_counts, process_place, thread_place, thread_record_ok, process_record_ok};
-ghost use Rattle.soundness.specs.Check.{thread_records_ok, process_records_ok, within_at, all_within, records_ok};
-ghost use Rattle.places.specs.Notes.{ProcessesNoted, ThreadsNoted};
+ghost use Rattle.tables.specs.Tables.{processes_of, threads_of};
+ghost use Rattle.soundness.specs.Check.{tallies, is_fresh, is_delivered, bumped, noted, within_at, all_within};
+ghost use Rattle.soundness.specs.Check.{records_ok};
+ghost use Rattle.soundness.specs.Pass.{Pass, AddsUp, thread_pass, process_pass};
+ghost use Rattle.soundness.proofs.Turns.{thread-adds-up, process-adds-up};
+ghost use Rattle.tables.proofs.Words.{length-processes_of, length-threads_of};
 
 use limits::{
-    LAST_STANDARD, PROCESS_ID, PROCESS_MARKS, PROCESS_PLACES, PROCESS_WORDS, RECORD_LIMIT,
-    SI_QUEUE, THREAD_MARKS, THREAD_PLACES, THREAD_WORDS,
+    LAST_STANDARD, PROCESS_ID, PROCESS_MARKS, PROCESS_PLACES, RECORD_LIMIT, SI_QUEUE, THREAD_MARKS,
+    THREAD_PLACES,
 };
+use places::SoundPlaces;
 use sigset::SigSet;
 use types::Siginfo;
 
-// ---- one record, after those before it: `counts` has how many each process has,
-//      `seen` which signals are pending in each queue
+// ---- the queues that the records of a buffer wait in
+
+// The places of a record's process and of its queue.
+#[derive(Clone, Copy)]
+pub struct Aim {
+    pub process: usize,
+    pub queue: usize,
+}
+
+trait Queues<const N: usize> {
+    ghost pass: { Self → Pass };
+
+    // What is marked in a queue.
+    fn marks(&self, queue: usize) -> u64
+        requires { queue < N }
+        ensures { result ≡ get_or ((pass self.now).seen []) queue 0 };
+
+    // Where the record is aimed, if there are its process and its queue and it is not ignored.
+    fn aim(&self, r: Siginfo) -> Option<Aim>
+        ensures { MatchOption result ((pass self.now).aimed r ≡ false)
+            (λ at. ((pass self.now).aimed r ≡ true)
+            × (((at.process < process_places) × (at.process ≡ (pass self.now).process r))
+            × ((at.queue < N) × (at.queue ≡ (pass self.now).queue r)))) };
+
+    ghost adds_up: { (q : Self) → AddsUp N (pass q) };
+}
 
 // Was the record queued, with a signal that it may name and that its process does not ignore?
 fn is_delivered(ignores: SigSet, r: Siginfo) -> bool
@@ -35,271 +60,155 @@ fn is_delivered(ignores: SigSet, r: Siginfo) -> bool
     (r.code == SI_QUEUE) & !hit
 }
 
+// The queues of the threads. A record's process is the one in its thread's owner's place.
+#[derive(Drop)]
+struct ThreadQueues<'a>(&'a SoundPlaces<'a>);
+
+impl Queues<THREAD_PLACES> for ThreadQueues<'_> {
+    ghost pass = { λ q. thread_pass (processes_of q.0.now.processes.words.now)
+        (threads_of q.0.now.threads.words.now) };
+
+    ghost adds_up = { λ q. thread-adds-up _ _ _ _ (length-processes_of _) (length-threads_of _) q.0.now.sound };
+
+    fn marks(&self, queue: usize) -> u64 {
+        let places = self.0;
+        tables::thread_field_at(places.threads.words, queue, THREAD_MARKS)
+    }
+
+    fn aim(&self, r: Siginfo) -> Option<Aim> {
+        let places = self.0;
+        let queue = places.threads.place_of(r.thread as u64)?;
+        let process = places.owners[queue] as usize;
+        if tables::field_at(places.processes.words, process, PROCESS_ID) != r.process as u64 {
+            return None;
+        }
+        is_delivered(places.ignored[process], r).then_some(Aim { process, queue })
+    }
+}
+
+// The queues of the processes. Their records name no thread.
+#[derive(Drop)]
+struct ProcessQueues<'a>(&'a SoundPlaces<'a>);
+
+impl Queues<PROCESS_PLACES> for ProcessQueues<'_> {
+    ghost pass = { λ q. process_pass (processes_of q.0.now.processes.words.now) };
+
+    ghost adds_up = { λ q. process-adds-up _ _ _ (threads_of q.0.now.threads.words.now) (length-processes_of _)
+        (length-threads_of _) q.0.now.sound };
+
+    fn marks(&self, queue: usize) -> u64 {
+        let places = self.0;
+        tables::field_at(places.processes.words, queue, PROCESS_MARKS)
+    }
+
+    fn aim(&self, r: Siginfo) -> Option<Aim> {
+        let places = self.0;
+        let process = places.processes.place_of(r.process as u64)?;
+        let aimed = (r.thread == 0) & is_delivered(places.ignored[process], r);
+        aimed.then_some(Aim {
+            process,
+            queue: process,
+        })
+    }
+}
+
+// ---- what the records so far add up to
+
+// How many each process has, and the words of the sets that are pending in each queue: the definitions read words.
+#[derive(Drop)]
+struct Pending<const N: usize> {
+    counts: [usize; PROCESS_PLACES],
+    seen: [u64; N],
+}
+
 // The standard signals, which are pending at most once.
 const STANDARD: SigSet = SigSet((1 << LAST_STANDARD) - 1);
 
-// The record is counted and noted, unless its signal may be pending only once and is so already.
-fn admit(s: u32, counts: &mut [usize], place: usize, seen: &mut [u64], queue: usize) -> bool
-    requires place_in_bounds { (place < length counts.old) × (queue < length seen.old) }
-    requires place_bound { get_or counts.old place 0 ≤ buffer_records }
-    ensures value { result ≡ is_fresh seen.old queue s }
-    ensures counts_after { counts.new ≡ cond result (bumped counts.old place) counts.old }
-    ensures seen_after { seen.new ≡ cond result (noted seen.old queue s) seen.old }
-{
-    let before = SigSet(seen[queue]);
-    let once = SigSet::intersect(before, STANDARD);
-    if SigSet::has(once, s) {
-        return false;
+impl<const N: usize> Pending<N> {
+    // The record is counted and noted, unless its signal may be pending only once and is so already.
+    fn admit(&mut self, at: Aim, s: u32) -> bool
+        requires inside { (at.process < process_places) × (at.queue < N) }
+        requires room { get_or self.old.counts at.process 0 ≤ buffer_records }
+        ensures value { result ≡ is_fresh self.old.seen at.queue s }
+        ensures counts_after { self.new.counts ≡ cond result (bumped self.old.counts at.process) self.old.counts }
+        ensures seen_after { self.new.seen ≡ cond result (noted self.old.seen at.queue s) self.old.seen }
+    {
+        let before = SigSet(self.seen[at.queue]);
+        let once = SigSet::intersect(before, STANDARD);
+        if SigSet::has(once, s) {
+            return false;
+        }
+        self.counts[at.process] += 1;
+        let after = SigSet::union(before, SigSet::of_signal(s));
+        self.seen[at.queue] = after.0;
+        true
     }
-    counts[place] = counts[place] + 1;
-    let after = SigSet::union(before, SigSet::of_signal(s));
-    seen[queue] = after.0;
-    true
-}
-
-// A record of the thread buffer: its process is the one in its thread's owner's place.
-fn thread_record(
-    ps: &[u64],
-    ts: &[u64],
-    th: &[u16],
-    ignored: &[u64],
-    owners: &[u16],
-    r: Siginfo,
-    counts: &mut [usize],
-    seen: &mut [u64],
-) -> bool
-    requires threads_noted { ThreadsNoted ps.now ts.now th.now ignored.now owners.now }
-    requires counts_len { (length counts.old ≡ process_places) × (length seen.old ≡ thread_places) }
-    requires small_counts { small_counts counts.old }
-    ensures value { result ≡ (thread_record_ok (processes_of ps.now) (threads_of ts.now) r
-        && is_fresh seen.old (thread_place (threads_of ts.now) r) r.signal) }
-    ensures counts_after { counts.new
-        ≡ cond result (bumped counts.old (process_place (processes_of ps.now) r))
-        counts.old }
-    ensures seen_after { seen.new
-        ≡ cond result (noted seen.old (thread_place (threads_of ts.now) r) r.signal)
-        seen.old }
-{
-    let queue = hints::place_of(ts, THREAD_WORDS, THREAD_PLACES, th, r.thread as u64);
-    if THREAD_PLACES <= queue {
-        return false;
-    }
-    let place = owners[queue] as usize;
-    if tables::field_at(ps, place, PROCESS_ID) != r.process as u64 {
-        return false;
-    }
-    if !is_delivered(SigSet(ignored[place]), r) {
-        return false;
-    }
-    admit(r.signal, counts, place, seen, queue)
-}
-
-fn process_record(
-    ps: &[u64],
-    ph: &[u16],
-    ignored: &[u64],
-    r: Siginfo,
-    counts: &mut [usize],
-    seen: &mut [u64],
-) -> bool
-    requires processes_noted { ProcessesNoted ps.now ph.now ignored.now }
-    requires counts_len { (length counts.old ≡ process_places) × (length seen.old ≡ process_places) }
-    requires small_counts { small_counts counts.old }
-    ensures value { result ≡ (process_record_ok (processes_of ps.now) r
-        && is_fresh seen.old (process_place (processes_of ps.now) r) r.signal) }
-    ensures counts_after { counts.new
-        ≡ cond result (bumped counts.old (process_place (processes_of ps.now) r))
-        counts.old }
-    ensures seen_after { seen.new
-        ≡ cond result (noted seen.old (process_place (processes_of ps.now) r) r.signal)
-        seen.old }
-{
-    let place = hints::place_of(ps, PROCESS_WORDS, PROCESS_PLACES, ph, r.process as u64);
-    if (PROCESS_PLACES <= place) | (r.thread != 0) {
-        return false;
-    }
-    if !is_delivered(SigSet(ignored[place]), r) {
-        return false;
-    }
-    admit(r.signal, counts, place, seen, place)
 }
 
 // ---- all records
 
 // Before the first record, what is pending in a queue is its marks.
-fn thread_marks(ts: &[u64], seen: &mut [u64])
-    requires { (length ts.now ≡ thread_table) × (length seen.old ≡ thread_places) }
-    ensures { seen.new ≡ seen_sets thread_queue (threads_of ts.now) [] }
+fn all_marks<const N: usize, Q: Queues<N>>(queues: &Q, seen: &mut [u64; N])
+    ensures { seen.new ≡ (Q.pass queues.now).seen [] }
 {
-    let mut i = 0;
-    while i < THREAD_PLACES {
-        seen[i] = tables::thread_field_at(ts, i, THREAD_MARKS);
-        i += 1;
+    for (queue, marks) in seen.iter_mut().enumerate() {
+        *marks = queues.marks(queue);
     }
 }
 
-fn process_marks(ps: &[u64], seen: &mut [u64])
-    requires { (length ps.now ≡ process_table) × (length seen.old ≡ process_places) }
-    ensures { seen.new ≡ seen_sets own_queue (processes_of ps.now) [] }
+// How many records each process has in the buffer, if all of them are as they must be.
+fn counted<const N: usize, Q: Queues<N>>(
+    queues: &Q,
+    buffer: &[u8],
+) -> Option<[usize; PROCESS_PLACES]>
+    requires { length buffer.now ≡ buffer_bytes }
+    ensures { MatchOption result ((Q.pass queues.now).ok (records_of buffer.now) ≡ false)
+        (λ counts. ((Q.pass queues.now).ok (records_of buffer.now) ≡ true)
+        × (counts ≡ tallies (Q.pass queues.now).processes (records_of buffer.now))) }
 {
-    let mut i = 0;
-    while i < PROCESS_PLACES {
-        seen[i] = tables::field_at(ps, i, PROCESS_MARKS);
-        i += 1;
-    }
-}
-
-// Are the records of the thread buffer as they must be? If so, they are counted.
-fn thread_records(
-    ps: &[u64],
-    ts: &[u64],
-    th: &[u16],
-    ignored: &[u64],
-    owners: &[u16],
-    b: &[u8],
-    counts: &mut [usize],
-    seen: &mut [u64],
-) -> bool
-    requires threads_noted { ThreadsNoted ps.now ts.now th.now ignored.now owners.now
-        × (length b.now ≡ buffer_bytes) }
-    requires counts_value { counts.old ≡ tallies (held_processes ps.now) [] }
-    requires seen_value { seen.old ≡ seen_sets thread_queue (threads_of ts.now) [] }
-    ensures value { result ≡ thread_records_ok (processes_of ps.now) (threads_of ts.now)
-        (records_of b.now) }
-    ensures counts_after { result ≡ true → counts.new ≡ tallies (held_processes ps.now) (records_of b.now) }
-{
-    let n = queue::used(b);
-    let mut i = 0;
-    while i < n {
-        if !thread_record(
-            ps,
-            ts,
-            th,
-            ignored,
-            owners,
-            siginfo::read(b, i),
-            counts,
-            seen,
-        ) {
-            return false;
+    let mut pending = Pending {
+        counts: [0; PROCESS_PLACES],
+        seen: [0; N],
+    };
+    all_marks(queues, &mut pending.seen);
+    for slot in 0..queue::used(buffer) {
+        let r = siginfo::read(buffer, slot);
+        let at = queues.aim(r)?;
+        if !pending.admit(at, r.signal) {
+            return None;
         }
-        i += 1;
     }
-    true
+    Some(pending.counts)
 }
 
-fn process_records(
-    ps: &[u64],
-    ph: &[u16],
-    ignored: &[u64],
-    b: &[u8],
-    counts: &mut [usize],
-    seen: &mut [u64],
-) -> bool
-    requires processes_noted { ProcessesNoted ps.now ph.now ignored.now × (length b.now ≡ buffer_bytes) }
-    requires counts_value { counts.old ≡ tallies (held_processes ps.now) [] }
-    requires seen_value { seen.old ≡ seen_sets own_queue (processes_of ps.now) [] }
-    ensures value { result ≡ process_records_ok (processes_of ps.now) (records_of b.now) }
-    ensures counts_after { result ≡ true → counts.new ≡ tallies (held_processes ps.now) (records_of b.now) }
+fn within_at(cs: &[usize; PROCESS_PLACES], ds: &[usize; PROCESS_PLACES], place: usize) -> bool
+    requires { place < process_places }
+    ensures { result ≡ within_at cs.now ds.now place }
 {
-    let n = queue::used(b);
-    let mut i = 0;
-    while i < n {
-        if !process_record(ps, ph, ignored, siginfo::read(b, i), counts, seen) {
-            return false;
-        }
-        i += 1;
-    }
-    true
-}
-
-fn thread_buffer_ok(
-    ps: &[u64],
-    ts: &[u64],
-    th: &[u16],
-    ignored: &[u64],
-    owners: &[u16],
-    b: &[u8],
-    counts: &mut [usize],
-) -> bool
-    requires threads_noted { ThreadsNoted ps.now ts.now th.now ignored.now owners.now
-        × (length b.now ≡ buffer_bytes) }
-    requires counts_value { counts.old ≡ tallies (held_processes ps.now) [] }
-    ensures value { result ≡ thread_records_ok (processes_of ps.now) (threads_of ts.now)
-        (records_of b.now) }
-    ensures counts_after { result ≡ true → counts.new ≡ tallies (held_processes ps.now) (records_of b.now) }
-{
-    let mut seen = [0u64; THREAD_PLACES];
-    thread_marks(ts, &mut seen);
-    thread_records(ps, ts, th, ignored, owners, b, counts, &mut seen)
-}
-
-fn process_buffer_ok(
-    ps: &[u64],
-    ph: &[u16],
-    ignored: &[u64],
-    b: &[u8],
-    counts: &mut [usize],
-) -> bool
-    requires processes_noted { ProcessesNoted ps.now ph.now ignored.now × (length b.now ≡ buffer_bytes) }
-    requires counts_value { counts.old ≡ tallies (held_processes ps.now) [] }
-    ensures value { result ≡ process_records_ok (processes_of ps.now) (records_of b.now) }
-    ensures counts_after { result ≡ true → counts.new ≡ tallies (held_processes ps.now) (records_of b.now) }
-{
-    let mut seen = [0u64; PROCESS_PLACES];
-    process_marks(ps, &mut seen);
-    process_records(ps, ph, ignored, b, counts, &mut seen)
-}
-
-fn within_at(cs: &[usize], ds: &[usize], i: usize) -> bool
-    requires { (i < length cs.now) × (i < length ds.now) }
-    ensures { result ≡ within_at cs.now ds.now i }
-{
-    if RECORD_LIMIT < cs[i] {
+    if RECORD_LIMIT < cs[place] {
         return false;
     }
-    ds[i] <= RECORD_LIMIT - cs[i]
+    ds[place] <= RECORD_LIMIT - cs[place]
 }
 
 // Has no process more records than it may, both buffers counted in?
-fn all_within(cs: &[usize], ds: &[usize]) -> bool
-    requires { (length cs.now ≡ process_places) × (length ds.now ≡ process_places) }
+fn all_within(cs: &[usize; PROCESS_PLACES], ds: &[usize; PROCESS_PLACES]) -> bool
     ensures { result ≡ all_within cs.now ds.now }
 {
-    let mut i = 0;
-    while i < PROCESS_PLACES {
-        if !within_at(cs, ds, i) {
-            return false;
-        }
-        i += 1;
-    }
-    true
+    (0..PROCESS_PLACES).all(|place| within_at(cs, ds, place))
 }
 
 // Are the records of both buffers as they must be, and is no process over the limit?
-pub fn records_ok(
-    ps: &[u64],
-    ts: &[u64],
-    ph: &[u16],
-    th: &[u16],
-    ignored: &[u64],
-    owners: &[u16],
-    tb: &[u8],
-    pb: &[u8],
-) -> bool
-    requires processes_noted { ProcessesNoted ps.now ph.now ignored.now
-        × ThreadsNoted ps.now ts.now th.now ignored.now owners.now }
-    requires tb_len { (length tb.now ≡ buffer_bytes) × (length pb.now ≡ buffer_bytes) }
-    ensures { result ≡ records_ok (processes_of ps.now) (threads_of ts.now)
-        (records_of tb.now) (records_of pb.now) }
+pub fn records_ok<'a>(places: &'a SoundPlaces<'a>, tb: &[u8], pb: &[u8]) -> bool
+    requires { (length tb.now ≡ buffer_bytes) × (length pb.now ≡ buffer_bytes) }
+    ensures { result ≡ records_ok (processes_of places.now.processes.words.now)
+        (threads_of places.now.threads.words.now) (records_of tb.now) (records_of pb.now) }
 {
-    let mut to_threads = [0usize; PROCESS_PLACES];
-    let mut to_processes = [0usize; PROCESS_PLACES];
-    if !thread_buffer_ok(ps, ts, th, ignored, owners, tb, &mut to_threads) {
+    let Some(to_threads) = counted(&ThreadQueues(places), tb) else {
         return false;
-    }
-    if !process_buffer_ok(ps, ph, ignored, pb, &mut to_processes) {
+    };
+    let Some(to_processes) = counted(&ProcessQueues(places), pb) else {
         return false;
-    }
+    };
     all_within(&to_threads, &to_processes)
 }

@@ -1,3 +1,2 @@
 mod Whole
-mod Noted
 pub mod Facts

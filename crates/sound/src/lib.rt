@@ -7,9 +7,8 @@ ghost use Rattle.queue.specs.Queue.{is_laid};
 ghost use Rattle.sound.specs.Lent.{sound_tables, lent};
 
 use hints::HINT_SLOTS;
-use limits::{
-    PROCESS_PLACES, PROCESS_TABLE, PROCESS_WORDS, THREAD_PLACES, THREAD_TABLE, THREAD_WORDS,
-};
+use limits::{PROCESS_TABLE, THREAD_TABLE};
+use places::{Processes, SoundPlaces, Threads};
 
 // Places, then records, of tables of the right lengths, with nothing behind their records.
 fn contents_ok(ps: &[u64], ts: &[u64], tb: &[u8], pb: &[u8]) -> bool
@@ -17,16 +16,14 @@ fn contents_ok(ps: &[u64], ts: &[u64], tb: &[u8], pb: &[u8]) -> bool
     requires tb_value { (is_laid tb.now ≡ true) × (is_laid pb.now ≡ true) }
     ensures { result ≡ sound_tables (lent ps.now ts.now tb.now pb.now) }
 {
-    let mut ph = [0u16; HINT_SLOTS];
-    let mut th = [0u16; HINT_SLOTS];
-    let mut ignored = [0u64; PROCESS_PLACES];
-    let mut owners = [0u16; THREAD_PLACES];
-    hints::fill(ps, PROCESS_WORDS, PROCESS_PLACES, &mut ph);
-    hints::fill(ts, THREAD_WORDS, THREAD_PLACES, &mut th);
-    if !places::places_ok(ps, ts, &ph, &th, &mut ignored, &mut owners) {
-        return false;
+    let mut process_hints = [0; HINT_SLOTS];
+    let mut thread_hints = [0; HINT_SLOTS];
+    let processes = Processes::of(ps, &mut process_hints);
+    let threads = Threads::of(ts, &mut thread_hints);
+    match SoundPlaces::of(&processes, &threads) {
+        Some(places) => records::records_ok(&places, tb, pb),
+        None => false,
     }
-    records::records_ok(ps, ts, &ph, &th, &ignored, &owners, tb, pb)
 }
 
 // Is the store sound? Any words, any bytes and any lengths are answered.

@@ -6,5 +6,5 @@ pub returns : goal.returns
 unfolding head_to
 returns c =
     let a = c.args in
-    threaded-end (processes_of a.ps.now) a.threaded.now a.place c.field_at.result
+    threaded-end (processes_of a.ps.now.words.now) a.threaded.now a.place c.field_at.result
     c.field_at.ensures

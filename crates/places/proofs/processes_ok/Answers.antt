@@ -1,72 +1,55 @@
-use Prim.Native.Nat.{◌<◌}
-use mathlib.Core.Path.{◌≡◌, refl, sym, ap, subst, ◌∙◌}
+use mathlib.Core.Path.{◌≡◌, ap, subst, ◌∙◌}
+use mathlib.Core.Bool.{true}
 use borrow.Author.Rules.{rules}
 use native.Mathlib.Nat.{zero-add}
 use native.Mathlib.Omega.{arith}
-use lib.ListN.{length}
+use lib.ListN.{replicate}
 use Rattle.limits.specs.Limits.{process_places}
 use Rattle.lists.specs.Lists.{all, range}
-use Rattle.lists.proofs.Bools.{clash}
 use Rattle.lists.proofs.Loops.{range_none, range-more, range-fails}
+use Rattle.sigset.specs.Set.{empty}
 use Rattle.tables.specs.Tables.{processes_of}
 use Rattle.soundness.specs.Check.{process_ok_at, processes_ok, process_by}
 use Rattle.places.specs.Notes.{IgnoredNoted}
 use Rattle.places.proofs.Notes.{ignored-none, ignored-more}
 use Rattle.places.proofs.processes_ok.Goals as goal
 
-pub loop-i-init : goal.loop-i-init
-loop-i-init c =
-    let a = c.args in
-    let xs = processes_of a.ps.now in (
-      search rules,
-      (refl, (range_none (process_ok_at (process_by a.hints.now a.ps.now) xs) 0, ignored-none xs a.notes.now)),
-    )
+pub loop-place-init : goal.loop-place-init
+loop-place-init c =
+    let ws = c.args.ps.now.words.now in
+    let xs = processes_of ws in
+    let ok = range_none (process_ok_at (process_by c.args.ps.now.hints.now ws) xs) 0 in
+    (search rules, (ok, ignored-none xs (replicate process_places empty)))
 
-pub process_ok-requires : goal.process_ok-requires
-process_ok-requires c =
-    record {
-      ps_len = (c.requires.ps_len, omega arith);
-      hints_len = c.requires.hints_len;
-      notes_len = omega (arith, c.loop-i.invariant.1.0, c.requires.notes_len);
-    }
-
-pub returns-then-not-process_ok : goal.returns-then-not-process_ok
+pub returns-in_err-ignored : goal.returns-in_err-ignored
 unfolding processes_ok
-returns-then-not-process_ok c =
-    let a = c.args in
-    let f = process_ok_at (process_by a.hints.now a.ps.now) (processes_of a.ps.now) in
-    record {
-      value = sym (range-fails f 0 process_places c.loop-i.i (omega arith)
-          (ap f (zero-add c.loop-i.i)
-          ∙ sym c.process_ok.ensures.value ∙ c.if-not-process_ok.true));
-      ignored_noted = λ e. clash e refl;
-    }
+returns-in_err-ignored c =
+    let ws = c.args.ps.now.words.now in
+    let f = process_ok_at (process_by c.args.ps.now.hints.now ws) (processes_of ws) in
+    rw c.from_residual.ensures
+    (range-fails f 0 process_places c.loop-place.place (omega arith)
+    (ap f (zero-add c.loop-place.place) ∙ c.in_err-ignored.ensures))
 
-pub loop-i-preserved : goal.loop-i-preserved
-loop-i-preserved c =
-    let xs = processes_of c.args.ps.now in
-    let f = process_ok_at (process_by c.args.hints.now c.args.ps.now) xs in
-    let long : c.loop-i.i < length c.loop-i.notes = omega (arith, c.loop-i.invariant.1.0, c.requires.notes_len) in (
-      omega arith,
+pub loop-place-preserved : goal.loop-place-preserved
+loop-place-preserved c =
+    let ws = c.args.ps.now.words.now in
+    let xs = processes_of ws in
+    let f = process_ok_at (process_by c.args.ps.now.hints.now ws) xs in
+    let l = c.loop-place in (
+      search rules,
       (
-        search rules,
-        (
-          range-more f 0 c.loop-i.i c.loop-i.invariant.1.1.0
-              (ap f (zero-add c.loop-i.i)
-              ∙ sym c.process_ok.ensures.value ∙ c.if-not-process_ok.false),
-          ignored-more xs c.loop-i.i c.loop-i.notes _ long c.loop-i.invariant.1.1.1 c.process_ok.ensures.notes_after,
-        ),
+        range-more f 0 l.place l.invariant.1.0 (ap f (zero-add l.place) ∙ c.in_ok-ignored.ensures.0),
+        ignored-more xs l.place l.ignored l.invariant.1.1 _ (omega arith) c.in_ok-ignored.ensures.1,
       ),
     )
 
 pub returns : goal.returns
 unfolding processes_ok
 returns c =
-    let a = c.args in
-    let e : c.loop-i.i ≡ process_places = omega arith in
-    let xs = processes_of a.ps.now in
-    record {
-      value = sym (ap (λ k. all (process_ok_at (process_by a.hints.now a.ps.now) xs) (range 0 k)) (sym e)
-          ∙ c.loop-i.invariant.1.1.0);
-      ignored_noted = λ _. subst (λ k. IgnoredNoted xs k c.loop-i.notes) e c.loop-i.invariant.1.1.1;
-    }
+    let ws = c.args.ps.now.words.now in
+    let xs = processes_of ws in
+    let l = c.loop-place in
+    let e : l.place ≡ process_places = omega arith in (
+      subst (λ k. all (process_ok_at (process_by c.args.ps.now.hints.now ws) xs) (range 0 k) ≡ true) e l.invariant.1.0,
+      subst (λ k. IgnoredNoted xs k l.ignored) e l.invariant.1.1,
+    )

@@ -1,4 +1,3 @@
-use Prim.Native.Nat.{◌≤◌, ◌-◌}
 use mathlib.Core.Path.{◌≡◌}
 use mathlib.Core.Bool.{true}
 use lib.ListN.{length}
@@ -9,11 +8,9 @@ use Rattle.soundness.specs.Check.{process_ok_at, process_by}
 use Rattle.places.specs.Notes.{IgnoredNoted}
 use Rattle.places.proofs.processes_ok.Given as goal
 
-abbrev pub invariant-loop-i : goal.invariant-loop-i
-invariant-loop-i l =
-    (l.i ≤ process_places) × ((length l.notes ≡ length l.initial.notes)
-    × ((all (process_ok_at (process_by l.hints l.ps) (processes_of l.ps)) (range 0 l.i) ≡ true)
-    × IgnoredNoted (processes_of l.ps) l.i l.notes))
-
-abbrev pub decreases-loop-i : goal.decreases-loop-i
-decreases-loop-i l = process_places - l.i
+abbrev pub invariant-loop-place : goal.invariant-loop-place
+invariant-loop-place l =
+    let ws = l.ps.words.now in
+    (length l.ignored ≡ process_places)
+    × ((all (process_ok_at (process_by l.ps.hints.now ws) (processes_of ws)) (range 0 l.place) ≡ true)
+    × IgnoredNoted (processes_of ws) l.place l.ignored)

@@ -1,73 +1,48 @@
 use Prim.Native.Nat.{ℕ}
-use mathlib.Core.Path.{◌≡◌, sym, ◌∙◌}
-use borrow.Author.Rules.{rules}
+use mathlib.Core.Path.{ap, ap₂, ◌∙◌}
+use mathlib.Core.List.{List}
 use native.Mathlib.Omega.{arith}
-use lib.ListN.{length, length-replicate}
-use Rattle.limits.specs.Limits.{process_places, thread_places}
 use Rattle.hints.proofs.Laws.{none-hinted}
+use Rattle.hints.specs.declared.Indexed.{Indexed}
+use Rattle.limits.specs.Limits.{process_places, process_words, thread_places, thread_words}
 use Rattle.queue.proofs.Buffer.{length-laid}
+use Rattle.sound.specs.Lent.{lent, sound_tables}
 use Rattle.sound.proofs.Whole.{places-wrong, records-decide}
-use Rattle.sound.proofs.Noted.{processes-noted, threads-noted}
 use Rattle.sound.proofs.contents_ok.Goals as goal
 
-pub fill-requires : goal.fill-requires
-fill-requires c =
-    record {
-      ws_len = search rules;
-      hints_len = (search rules, none-hinted process_places (omega arith));
-    }
+pub of-processes-requires : goal.of-processes-requires
+of-processes-requires c =
+    (omega arith, (c.requires.ps_len.0, ((omega arith, omega arith), none-hinted process_places (omega arith))))
 
-pub fill-requires-2 : goal.fill-requires-2
-fill-requires-2 c =
-    record {
-      ws_len = search rules;
-      hints_len = (search rules, none-hinted thread_places (omega arith));
-    }
-
-pub places_ok-requires : goal.places_ok-requires
-places_ok-requires c =
-    record {
-      ps_len = c.requires.ps_len;
-      ph_len = (search rules, c.fill.ensures);
-      th_len = (search rules, c.fill-2.ensures);
-      ignored_len = (search rules, search rules);
-    }
-
-pub returns-then-not-places_ok : goal.returns-then-not-places_ok
-returns-then-not-places_ok c =
-    places-wrong c.args.ps.now c.args.ts.now c.args.tb.now c.args.pb.now
-    c.fill.new.hints c.fill-2.new.hints c.fill.ensures c.fill-2.ensures
-    c.requires.ps_len.0 c.requires.ps_len.1 c.requires.tb_value.0 c.requires.tb_value.1
-    (sym c.places_ok.ensures.value ∙ c.if-not-places_ok.true)
+pub of-threads-requires : goal.of-threads-requires
+of-threads-requires c =
+    (omega arith, (c.requires.ps_len.1, ((omega arith, omega arith), none-hinted thread_places (omega arith))))
 
 pub records_ok-requires : goal.records_ok-requires
 records_ok-requires c =
-    let held = c.if-not-places_ok.false in
-    let ok = sym c.places_ok.ensures.value ∙ held in
-    let ph = c.fill.new.hints in
-    let th = c.fill-2.new.hints in
-    let ignored = c.places_ok.new.ignored in
-    let owners = c.places_ok.new.owners in
-    let kept = c.places_ok.auto in
-    let long : (length ignored ≡ process_places) × (length owners ≡ thread_places) =
-    (kept.ignored ∙ length-replicate {A = ℕ} process_places 0, kept.owners ∙ length-replicate {A = ℕ} thread_places 0)
-    in
-    record {
-      processes_noted = (
-        processes-noted c.args.ps.now c.args.ts.now ph th ignored owners c.requires.ps_len ok
-            long (c.places_ok.ensures.ignored_noted held) (search rules, c.fill.ensures),
-        threads-noted c.args.ps.now c.args.ts.now ph th ignored owners c.requires.ps_len ok
-            long (c.places_ok.ensures.ignored_noted held) (search rules, c.fill-2.ensures)
-            (c.places_ok.ensures.owners_noted held),
-      );
-      tb_len = (length-laid c.args.tb.now c.requires.tb_value.0, length-laid c.args.pb.now c.requires.tb_value.1);
-    }
+    let laid = c.requires.tb_value in
+    (length-laid c.args.tb.now laid.0, length-laid c.args.pb.now laid.1)
 
-pub returns : goal.returns
-returns c =
+pub returns-in-Some : goal.returns-in-Some
+returns-in-Some c =
+    let tb = c.args.tb.now in
+    let pb = c.args.pb.now in
+    let ps = c.in-Some.places.processes in
+    let ts = c.in-Some.places.threads in
+    let same = c.in-Some.ensures in
     c.records_ok.ensures
-    ∙ records-decide c.args.ps.now c.args.ts.now c.args.tb.now c.args.pb.now
-    c.fill.new.hints c.fill-2.new.hints c.fill.ensures c.fill-2.ensures
-    c.requires.ps_len.0 c.requires.ps_len.1 c.requires.tb_value.0 c.requires.tb_value.1
-    (sym c.places_ok.ensures.value
-    ∙ c.if-not-places_ok.false)
+    ∙ records-decide ps.words.now ts.words.now tb pb ps.hints.now ts.hints.now ps.hinted ts.hinted ps.long ts.long
+    c.requires.tb_value.0 c.requires.tb_value.1 c.in-Some.places.sound
+    ∙ ap₂ (λ (ws vs : List ℕ). sound_tables (lent ws vs tb pb))
+    (ap (λ (t : Indexed process_words process_places). t.words.now) same.0 ∙ c.of-processes.ensures)
+    (ap (λ (t : Indexed thread_words thread_places). t.words.now) same.1 ∙ c.of-threads.ensures)
+
+pub returns-in-None : goal.returns-in-None
+returns-in-None c =
+    let tb = c.args.tb.now in
+    let pb = c.args.pb.now in
+    let ps = c.of-processes.result in
+    let ts = c.of-threads.result in
+    places-wrong ps.words.now ts.words.now tb pb ps.hints.now ts.hints.now ps.hinted ts.hinted ps.long ts.long
+    c.requires.tb_value.0 c.requires.tb_value.1 c.in-None.ensures
+    ∙ ap₂ (λ (ws vs : List ℕ). sound_tables (lent ws vs tb pb)) c.of-processes.ensures c.of-threads.ensures
