@@ -1,5 +1,5 @@
 -- Laws of a search: the index of the first that passes, or the length. Assumes nothing.
-use Prim.Native.Nat.{ℕ, zero, suc, ◌≤◌, ◌<◌, zero-le, suc-le-suc}
+use Prim.Native.Nat.{ℕ, zero, suc, ◌+◌, ◌≤◌, ◌<◌, zero-le, suc-le-suc}
 use mathlib.Core.Path.{◌≡◌, refl, sym, ap, ap₂, subst, fun_ext, ◌∙◌}
 use mathlib.Core.Bool.{Bool, true, false, cond}
 use mathlib.Core.List.{List, [], ◌∷◌, map}
@@ -9,14 +9,14 @@ use native.Mathlib.Numerals.{one-add}
 use native.Mathlib.Omega.{arith}
 use borrow.Author.Tests.{lt-ltb, le-ltb}
 use lib.Dec.{ltb}
-use lib.ListN.{length, get_or, length-map}
+use lib.ListN.{length, get_or, drop, length-map}
 use Rattle.std.specs.Prelude.{Some, None, is_some, position}
 use Rattle.std.specs.List.{position_or_len}
 use Rattle.std.proofs.lemmas.List.Recursion.{is_position_or_len}
 use Rattle.lists.specs.Lists.{any, find, first}
 use Rattle.lists.proofs.Bools.{split, or-fst-false, or-snd-false}
 use Rattle.lists.proofs.Lists.{find-yes, find-no}
-use Rattle.lists.proofs.Loops.{find-any, find-le, any-find}
+use Rattle.lists.proofs.Loops.{any_here, find-any, find-le, any-find, find-here, find-done}
 
 module _ {A : Type 0} (f : A → Bool) (d : A) where
   pub find_first : (xs : List A) (i : ℕ) → i < length xs → f (get_or xs i d) ≡ true
@@ -95,6 +95,17 @@ module _ {A : Type 0} (p : A → Bool) where
       split (any p xs)
       (λ e. ap is_some (position-found xs e) ∙ sym e)
       (λ e. ap is_some (position-absent xs e) ∙ sym e)
+
+  -- the end of a search that has passed the first i
+  pub position-here : (d : A) (xs : List A) (i : ℕ) → i < length xs → find p xs ≡ i + find p (drop i xs)
+      → p (get_or xs i d) ≡ true → position p xs ≡ Some i
+  position-here d xs i h a e = position-found xs (any_here p d xs i h e) ∙ ap Some (find-here p d xs i h a e)
+
+  pub position-nowhere : (d : A) (xs : List A) (i : ℕ) → length xs ≤ i → find p xs ≡ i + find p (drop i xs)
+      → position p xs ≡ None
+  position-nowhere d xs i h a =
+      position-absent xs
+      (sym (find-within xs) ∙ le-ltb (find p xs) (length xs) (omega (arith, find-done p d xs i h a)))
 
 pub position-map : {A B : Type 0} (p : B → Bool) (f : A → B) (xs : List A)
     → position p (map f xs) ≡ position (λ x. p (f x)) xs

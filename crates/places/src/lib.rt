@@ -197,11 +197,8 @@ impl ProcessPlace<'_> {
             → ignores ≡ ignored_by (process_at self.now.table.words.now self.now.place).holds)) }
     {
         if self.field(PROCESS_ID) == 0 {
-            let is_zero = zeros::words_zero(
-                self.table.words,
-                self.place * PROCESS_WORDS,
-                PROCESS_WORDS,
-            );
+            let at = self.place * PROCESS_WORDS;
+            let is_zero = zeros::all_zero(&self.table.words[at..at + PROCESS_WORDS]);
             return is_zero.then_some(SigSet::EMPTY);
         }
         let g = self.gather();

@@ -1,4 +1,5 @@
 use mathlib.Core.Path.{◌≡◌}
+use native.Mathlib.Nat.{add-sub_cancel_left}
 use mathlib.Core.Bool.{true}
 use Rattle.lists.proofs.Bools.{clash}
 use Rattle.sigset.specs.declared.SigSet.{SigSet}
@@ -17,9 +18,9 @@ returns-then-field-eq0 c =
     let ws = s.table.words.now in
     let x = process_at ws s.place in
     rw c.then_some.ensures
-    (some-if (λ (i : SigSet). is_live process_id x ≡ true → i ≡ ignored_by x.holds) c.words_zero-is_zero.result empty
+    (some-if (λ (i : SigSet). is_live process_id x ≡ true → i ≡ ignored_by x.holds) c.all_zero-is_zero.result empty
     (free-process (process_by s.table.hints.now ws) ws s.place c.field.result c.field.ensures s.table.long
-    s.inside c.if-field-eq0.true c.words_zero-is_zero.ensures)
+    s.inside c.if-field-eq0.true (simp add-sub_cancel_left at c.all_zero-is_zero.ensures))
     (λ live. clash live (no-process (process_by s.table.hints.now ws) ws s.place c.field.result c.field.ensures
     c.if-field-eq0.true)))
 
