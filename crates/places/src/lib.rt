@@ -346,7 +346,7 @@ pub struct SoundPlaces<'a> {
     pub threads: Threads<'a>,
     // The signals that the process in each place ignores.
     pub ignored: [SigSet; PROCESS_PLACES],
-    // The place of the process of the thread in each place: 16 bits, since `usize` is 2 % slower.
+    // The place of the process of the thread in each place.
     pub owners: [u16; THREAD_PLACES],
     pub ghost sound: { places_ok (process_by processes.hints.now processes.words.now)
         (thread_by threads.hints.now threads.words.now)
