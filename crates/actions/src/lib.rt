@@ -34,9 +34,8 @@ fn stored_of(a: Action) -> Action
     ensures { result ≡ stored a }
 {
     Action {
-        handler: a.handler,
-        flags: a.flags,
-        mask: SigSet::maskable(a.mask),
+        mask: a.mask.maskable(),
+        ..a
     }
 }
 

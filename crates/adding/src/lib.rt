@@ -19,15 +19,13 @@ fn check_add_process(
 ) -> Result<(), Errno>
     ensures { refused_by result ≡ refusal_on (call.add_process new) (lent ps.now ts.now tb.now pb.now) }
 {
-    let id = new.id;
-    let thread = new.thread;
     if !sound::sound(ps, ts, tb, pb) {
         return Err(Errno::EFAULT);
     }
-    if !decide::is_id(id as u64) | !decide::is_id(thread as u64) {
+    if !decide::is_id(new.id as u64) | !decide::is_id(new.thread as u64) {
         return Err(Errno::EINVAL);
     }
-    if view::is_process(ps, id) | view::is_thread(ts, thread) {
+    if view::is_process(ps, new.id) | view::is_thread(ts, new.thread) {
         return Err(Errno::EEXIST);
     }
     if !view::has_process_place(ps) | !view::has_thread_place(ts) {
@@ -49,8 +47,7 @@ pub fn add_process(
 {
     check_add_process(ps, ts, tb, pb, new)?;
     effects::new_process(ps, new);
-    let mask = new.mask;
-    effects::new_thread(ts, new.thread, new.id, SigSet::maskable(mask));
+    effects::new_thread(ts, new.thread, new.id, new.mask.maskable());
     Ok(Reply::Done)
 }
 

@@ -214,10 +214,7 @@ fn reply_words(reply: Reply) -> [u64; ANSWER_WORDS]
     match reply {
         Reply::Done => short(ANSWER_DONE, 0, 0, 0),
         Reply::Sent(sent) => short(sent_word(sent), 0, 0, 0),
-        Reply::OldAction(a) => {
-            let mask = a.mask;
-            short(ANSWER_OLD_ACTION, a.handler, a.flags, mask.0)
-        }
+        Reply::OldAction(a) => short(ANSWER_OLD_ACTION, a.handler, a.flags, a.mask.0),
         Reply::OldMask(m) => short(ANSWER_OLD_MASK, m.0, 0, 0),
         Reply::PendingSet(m) => short(ANSWER_PENDING_SET, m.0, 0, 0),
         Reply::Looked(next) => next_words(next),

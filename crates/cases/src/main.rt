@@ -310,33 +310,9 @@ struct Host {
 }
 
 impl Host {
-    // The answer's words, or the errno. The other program has the same: nothing below both stands on the boundary.
-    fn make(&mut self, ask: Ask) -> Result<Answer, u64> {
-        let call = call_of(ask, self.saved);
-        let [a, b, c, d, e, f] = call.words;
-        let [x, y, z] = call.wide;
-        let mut out = [0; ANSWER_WORDS];
-        let t = &mut self.tables;
-        let errno = boundary::serve(
-            &mut t.processes,
-            &mut t.threads,
-            &mut t.thread_buffer,
-            &mut t.process_buffer,
-            &mut out,
-            call.number,
-            a,
-            b,
-            c,
-            d,
-            e,
-            f,
-            x,
-            y,
-            z,
-        );
-        if errno != 0 {
-            return Err(errno);
-        }
+    // The answer's words, or the errno.
+    fn make(&mut self, ask: Ask) -> Result<Answer, u32> {
+        let out = self.tables.serve(call_of(ask, self.saved))?;
         if out[0] == ANSWER_HANDLER {
             self.saved = out[4];
         }

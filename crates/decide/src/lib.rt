@@ -54,8 +54,7 @@ pub fn is_ignored(a: Action, s: u32) -> bool
 pub fn is_default(a: Action) -> bool
     ensures { result ≡ is_default a }
 {
-    let mask = a.mask;
-    (a.handler == 0) & ((a.flags == 0) & (mask.0 == 0))
+    a == Action::DEFAULT
 }
 
 // Has the word no flag but the known ones?
@@ -71,7 +70,7 @@ pub fn are_flags_known(flags: u64) -> bool
 pub fn is_unmasked(m: SigSet) -> bool
     ensures { result ≡ unmasked m }
 {
-    !(SigSet::has(m, SIGKILL) | SigSet::has(m, SIGSTOP))
+    !(m.has(SIGKILL) | m.has(SIGSTOP))
 }
 
 pub fn is_id(n: u64) -> bool

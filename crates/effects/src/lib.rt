@@ -40,8 +40,8 @@ fn marked(m: SigSet, how: Marking) -> SigSet
     ensures { result ≡ marked_by how m }
 {
     match how {
-        Marking::Adding(s) => SigSet::union(m, s),
-        Marking::Removing(s) => SigSet::without(m, s),
+        Marking::Adding(s) => m.union(s),
+        Marking::Removing(s) => m.without(s),
     }
 }
 

@@ -27,12 +27,12 @@ fn mask_after(old: SigSet, way: u32, set: SigSet) -> SigSet
     ensures { result ≡ new_mask old way set }
 {
     if way == SIG_BLOCK {
-        return SigSet::maskable(SigSet::union(old, set));
+        return old.union(set).maskable();
     }
     if way == SIG_UNBLOCK {
-        return SigSet::maskable(SigSet::without(old, set));
+        return old.without(set).maskable();
     }
-    SigSet::maskable(set)
+    set.maskable()
 }
 
 fn check_mask(
@@ -105,7 +105,7 @@ fn blocked(ps: &[u64], ts: &[u64], tb: &[u8], pb: &[u8], thread: u32) -> SigSet
     let process = view::process_of(ts, thread);
     let own = view::pending_of(ps, ts, tb, pb, process, thread);
     let shared = view::pending_of(ps, ts, tb, pb, process, 0);
-    SigSet::intersect(view::mask_of(ts, thread), SigSet::union(own, shared))
+    view::mask_of(ts, thread).intersect(own.union(shared))
 }
 
 pub fn sigpending(ps: &[u64], ts: &[u64], tb: &[u8], pb: &[u8], thread: u32) -> Answer

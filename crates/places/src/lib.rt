@@ -66,7 +66,7 @@ fn alone_if(holds: bool, s: u32) -> SigSet
 fn are_disjoint(a: SigSet, b: SigSet) -> bool
     ensures { result ≡ disjoint a b }
 {
-    let both = SigSet::intersect(a, b);
+    let both = a.intersect(b);
     both.0 == 0
 }
 
@@ -78,8 +78,8 @@ impl Gathered {
     {
         Gathered {
             flags: self.flags | a.flags,
-            masks: SigSet::union(self.masks, a.mask),
-            chosen: SigSet::union(self.chosen, alone_if(a.handler == SIG_IGN, s)),
+            masks: self.masks.union(a.mask),
+            chosen: self.chosen.union(alone_if(a.handler == SIG_IGN, s)),
         }
     }
 }
@@ -166,9 +166,9 @@ impl ProcessPlace<'_> {
             ≡ set_of (ignored_by_choice (process_at self.now.table.words.now self.now.place).holds) }
         ensures { result ≡ ignored_by (process_at self.now.table.words.now self.now.place).holds }
     {
-        let first = SigSet::union(chosen, self.if_default(SIGCHLD));
-        let second = SigSet::union(first, self.if_default(SIGURG));
-        SigSet::union(second, self.if_default(SIGWINCH))
+        let first = chosen.union(self.if_default(SIGCHLD));
+        let second = first.union(self.if_default(SIGURG));
+        second.union(self.if_default(SIGWINCH))
     }
 
     // A live process, with what was gathered of its actions.

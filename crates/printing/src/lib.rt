@@ -5,12 +5,13 @@
 ghost use Rattle.std.specs.Prelude.{◌≤◌, ◌<◌};
 ghost use Rattle.limits.specs.Limits.{process_places, thread_places, buffer_records, signals};
 
+use boundary::Arguments;
 use limits::{
-    ACTION_FLAGS, ACTION_HANDLER, ACTION_MASK, ACTION_WORDS, BUFFER_BYTES, BUFFER_RECORDS,
-    HEAD_WORDS, PROCESS_EFFECTIVE, PROCESS_ID, PROCESS_MARKS, PROCESS_PLACES, PROCESS_REAL,
-    PROCESS_SAVED, PROCESS_SESSION, PROCESS_STOPPED, PROCESS_TABLE, PROCESS_WORDS, SI_QUEUE,
-    SIGNALS, THREAD_ID, THREAD_MARKS, THREAD_MASK, THREAD_PLACES, THREAD_PROCESS, THREAD_TABLE,
-    THREAD_WORDS,
+    ACTION_FLAGS, ACTION_HANDLER, ACTION_MASK, ACTION_WORDS, ANSWER_WORDS, BUFFER_BYTES,
+    BUFFER_RECORDS, HEAD_WORDS, PROCESS_EFFECTIVE, PROCESS_ID, PROCESS_MARKS, PROCESS_PLACES,
+    PROCESS_REAL, PROCESS_SAVED, PROCESS_SESSION, PROCESS_STOPPED, PROCESS_TABLE, PROCESS_WORDS,
+    SI_QUEUE, SIGNALS, THREAD_ID, THREAD_MARKS, THREAD_MASK, THREAD_PLACES, THREAD_PROCESS,
+    THREAD_TABLE, THREAD_WORDS,
 };
 use sigset::SigSet;
 use std::{fmt, io};
@@ -177,6 +178,36 @@ impl Tables {
         thread_buffer: [0; BUFFER_BYTES],
         process_buffer: [0; BUFFER_BYTES],
     };
+
+    // Makes a call on them: the answer's words, or the errno.
+    pub fn serve(&mut self, call: Call) -> Result<[u64; ANSWER_WORDS], u32> {
+        let [a, b, c, d, e, f] = call.words;
+        let [x, y, z] = call.wide;
+        let mut out = [0; ANSWER_WORDS];
+        let served = boundary::serve(
+            &mut self.processes,
+            &mut self.threads,
+            &mut self.thread_buffer,
+            &mut self.process_buffer,
+            &mut out,
+            call.number,
+            Arguments {
+                a,
+                b,
+                c,
+                d,
+                e,
+                f,
+                x,
+                y,
+                z,
+            },
+        );
+        match served {
+            Ok(()) => Ok(out),
+            Err(errno) => Err(u32::from(errno)),
+        }
+    }
 
     // Writes a line for all that is in use.
     pub fn print(&self, rt: &impl Print) -> io::Result<()> {

@@ -56,7 +56,7 @@ fn is_delivered(ignores: SigSet, r: Siginfo) -> bool
     if !decide::is_nameable(s) {
         return false;
     }
-    let hit = SigSet::has(ignores, s);
+    let hit = ignores.has(s);
     (r.code == SI_QUEUE) & !hit
 }
 
@@ -134,12 +134,12 @@ impl<const N: usize> Pending<N> {
         ensures seen_after { self.new.seen ≡ cond result (noted self.old.seen at.queue s) self.old.seen }
     {
         let before = SigSet(self.seen[at.queue]);
-        let once = SigSet::intersect(before, STANDARD);
-        if SigSet::has(once, s) {
+        let once = before.intersect(STANDARD);
+        if once.has(s) {
             return false;
         }
         self.counts[at.process] += 1;
-        let after = SigSet::union(before, SigSet::of_signal(s));
+        let after = before.union(SigSet::of_signal(s));
         self.seen[at.queue] = after.0;
         true
     }

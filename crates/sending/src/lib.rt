@@ -57,8 +57,8 @@ fn is_absorbed(ps: &[u64], ts: &[u64], tb: &[u8], pb: &[u8], s: Request) -> bool
 {
     let pending = view::pending_of(ps, ts, tb, pb, s.to, s.thread);
     let marks = view::marks_of(ps, ts, tb, pb, s.to, s.thread);
-    let again = decide::is_standard(s.signal) & SigSet::has(pending, s.signal);
-    again | (s.value.is_none() & SigSet::has(marks, s.signal))
+    let again = decide::is_standard(s.signal) & pending.has(s.signal);
+    again | (s.value.is_none() & marks.has(s.signal))
 }
 
 fn generation_of(ps: &[u64], ts: &[u64], tb: &[u8], pb: &[u8], s: Request) -> Generation
@@ -111,8 +111,8 @@ fn info(ps: &[u64], ts: &[u64], tb: &[u8], pb: &[u8], s: Request) -> Siginfo
 fn stop_signals() -> SigSet
     ensures { result ≡ set_of stop_signal }
 {
-    let tty = SigSet::union(SigSet::of_signal(SIGTTIN), SigSet::of_signal(SIGTTOU));
-    SigSet::union(SigSet::of_signal(SIGTSTP), tty)
+    let tty = SigSet::of_signal(SIGTTIN).union(SigSet::of_signal(SIGTTOU));
+    SigSet::of_signal(SIGTSTP).union(tty)
 }
 
 // The signals of job control: CONT, STOP and the stop signals.

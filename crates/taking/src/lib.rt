@@ -27,11 +27,11 @@ use types::{Action, Answer, Pending, Reply, Siginfo, Taken};
 fn handler_mask(old: SigSet, a: Action, signal: u32) -> SigSet
     ensures { result ≡ handler_mask old a signal }
 {
-    let both = SigSet::union(old, a.mask);
+    let both = old.union(a.mask);
     if a.flags & SA_NODEFER != 0 {
-        return SigSet::maskable(SigSet::union(both, SigSet::EMPTY));
+        return both.union(SigSet::EMPTY).maskable();
     }
-    SigSet::maskable(SigSet::union(both, SigSet::of_signal(signal)))
+    both.union(SigSet::of_signal(signal)).maskable()
 }
 
 // Does taking the signal reset its action?
@@ -45,11 +45,10 @@ fn is_reset(a: Action, signal: u32) -> bool
 fn reset_of(a: Action) -> Action
     ensures { result ≡ reset a }
 {
-    let mask = a.mask;
     Action {
         handler: SIG_DFL,
         flags: a.flags & (KNOWN_FLAGS - SA_SIGINFO),
-        mask: mask,
+        ..a
     }
 }
 
@@ -163,11 +162,10 @@ fn deliver(
 fn delivered(mask: SigSet, a: Action, r: Siginfo) -> Taken
     ensures { result ≡ delivered (thread_of 0 0 mask) a r }
 {
-    let s = r.signal;
     if a.handler == SIG_DFL {
-        return default_answer(outcome_of(s), s);
+        return default_answer(outcome_of(r.signal), r.signal);
     }
-    Taken::Handler(a.handler, s, r, a.flags, mask)
+    Taken::Handler(a.handler, r.signal, r, a.flags, mask)
 }
 
 // The record or the mark leaves its queue.
@@ -200,9 +198,9 @@ fn mark_info(process: u32, thread: u32, signal: u32) -> Siginfo
     ensures { result ≡ mark_info (target_queue process thread) signal }
 {
     Siginfo {
-        process: process,
-        thread: thread,
-        signal: signal,
+        process,
+        thread,
+        signal,
         code: 0,
         sender: 0,
         uid: 0,

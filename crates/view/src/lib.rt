@@ -155,7 +155,7 @@ pub fn pending_of(ps: &[u64], ts: &[u64], tb: &[u8], pb: &[u8], process: u32, th
 {
     let marks = marks_of(ps, ts, tb, pb, process, thread);
     let queued = queued_of(tb, pb, process, thread);
-    SigSet::union(queued, marks)
+    queued.union(marks)
 }
 
 // ---- the checks that several calls share

@@ -235,40 +235,11 @@ impl fmt::Display for Answer {
     }
 }
 
-// The answer's words, or the errno. The other program has the same: nothing below both stands on the boundary.
-fn make(t: &mut Tables, call: Call) -> Result<Answer, u64> {
-    let [a, b, c, d, e, f] = call.words;
-    let [x, y, z] = call.wide;
-    let mut out = [0; ANSWER_WORDS];
-    let errno = boundary::serve(
-        &mut t.processes,
-        &mut t.threads,
-        &mut t.thread_buffer,
-        &mut t.process_buffer,
-        &mut out,
-        call.number,
-        a,
-        b,
-        c,
-        d,
-        e,
-        f,
-        x,
-        y,
-        z,
-    );
-    if errno == 0 {
-        Ok(Answer(out))
-    } else {
-        Err(errno)
-    }
-}
-
 // Makes a call and writes it, its answer and the tables after it.
 fn run(rt: &impl Print, t: &mut Tables, row: Row) -> io::Result<()> {
     println!(rt; "call {row}")?;
-    match make(t, call_of(row)) {
-        Ok(answer) => println!(rt; "answer {answer}")?,
+    match t.serve(call_of(row)) {
+        Ok(words) => println!(rt; "answer {}", Answer(words))?,
         Err(errno) => println!(rt; "answer refused {errno}")?,
     }
     t.print(rt)
