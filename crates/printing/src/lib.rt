@@ -2,8 +2,10 @@
 // A contract cannot speak of output; each program's file `stdout` does. A failed write is the caller's error.
 #![tactic(auto)]
 
-ghost use Rattle.std.specs.Prelude.{◌≤◌, ◌<◌};
+ghost use Rattle.std.specs.Prelude.{◌≡◌, ◌≤◌, ◌<◌, MatchResult};
 ghost use Rattle.limits.specs.Limits.{process_places, thread_places, buffer_records, signals};
+ghost use Rattle.sound.specs.Lent.{lent};
+ghost use Rattle.printing.specs.Serving.{served_on};
 
 use boundary::Arguments;
 use limits::{
@@ -180,7 +182,12 @@ impl Tables {
     };
 
     // Makes a call on them: the answer's words, or the errno.
-    pub fn serve(&mut self, call: Call) -> Result<[u64; ANSWER_WORDS], u32> {
+    pub fn serve(&mut self, call: Call) -> Result<[u64; ANSWER_WORDS], u32>
+        ensures tables { lent self.new.processes self.new.threads self.new.thread_buffer self.new.process_buffer
+            ≡ (served_on self.old call).tables }
+        ensures answer { MatchResult result (λ words. words ≡ (served_on self.old call).words)
+            (λ errno. errno ≡ (served_on self.old call).errno) }
+    {
         let [a, b, c, d, e, f] = call.words;
         let [x, y, z] = call.wide;
         let mut out = [0; ANSWER_WORDS];
@@ -227,7 +234,9 @@ pub struct Call {
 }
 
 impl Call {
-    pub fn new(number: u32, words: [u32; 6], wide: [u64; 3]) -> Call {
+    pub fn new(number: u32, words: [u32; 6], wide: [u64; 3]) -> Call
+        ensures { result ≡ (record { number = number; words = words; wide = wide }) }
+    {
         Call {
             number,
             words,

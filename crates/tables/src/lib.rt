@@ -120,18 +120,18 @@ pub fn thread_place(ts: &[u64], id: u64) -> Option<usize>
 }
 
 // The place of a process, if it is live.
-pub fn find_process(ps: &[u64], process: u32) -> Option<usize>
+pub fn find_process(ps: &[u64], process: u64) -> Option<usize>
     requires { length ps.now ≡ process_table }
     ensures { result ≡ position (is_process process) (held_processes ps.now) }
 {
-    live_place(ps, PROCESS_WORDS, PROCESS_PLACES, process as u64)
+    live_place(ps, PROCESS_WORDS, PROCESS_PLACES, process)
 }
 
-pub fn find_thread(ts: &[u64], thread: u32) -> Option<usize>
+pub fn find_thread(ts: &[u64], thread: u64) -> Option<usize>
     requires { length ts.now ≡ thread_table }
     ensures { result ≡ position (is_thread thread) (held_threads ts.now) }
 {
-    live_place(ts, THREAD_WORDS, THREAD_PLACES, thread as u64)
+    live_place(ts, THREAD_WORDS, THREAD_PLACES, thread)
 }
 
 // The place of a process that is live.
@@ -140,7 +140,7 @@ pub fn live_process(ps: &[u64], process: u32) -> usize
     ensures inside { result < process_places }
     ensures place { result ≡ find (is_process process) (held_processes ps.now) }
 {
-    find_process(ps, process).unwrap()
+    find_process(ps, process as u64).unwrap()
 }
 
 pub fn live_thread(ts: &[u64], thread: u32) -> usize
@@ -148,7 +148,7 @@ pub fn live_thread(ts: &[u64], thread: u32) -> usize
     ensures inside { result < thread_places }
     ensures place { result ≡ find (is_thread thread) (held_threads ts.now) }
 {
-    find_thread(ts, thread).unwrap()
+    find_thread(ts, thread as u64).unwrap()
 }
 
 // The lowest free place.

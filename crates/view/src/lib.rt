@@ -31,14 +31,14 @@ pub fn is_process(ps: &[u64], id: u32) -> bool
     requires { length ps.now ≡ process_table }
     ensures { result ≡ any (is_process id) (held_processes ps.now) }
 {
-    tables::find_process(ps, id).is_some()
+    tables::find_process(ps, id as u64).is_some()
 }
 
 pub fn is_thread(ts: &[u64], id: u32) -> bool
     requires { length ts.now ≡ thread_table }
     ensures { result ≡ any (is_thread id) (held_threads ts.now) }
 {
-    tables::find_thread(ts, id).is_some()
+    tables::find_thread(ts, id as u64).is_some()
 }
 
 // Is there a place for one process more?
