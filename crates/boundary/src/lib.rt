@@ -75,7 +75,7 @@ fn action(g: Arguments) -> Action
     }
 }
 
-// The call of a number, with its arguments in the documented order.
+// The call of a number, with its arguments in the documented order. The numbers are the C interface's.
 fn call_of(number: u32, g: Arguments) -> Call
     requires { is_call number ≡ true }
     ensures { call_of result ≡ numbered number g }

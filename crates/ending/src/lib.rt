@@ -42,12 +42,10 @@ fn has_other(ts: &[u64], process: u32, thread: u32) -> bool
     requires { length ts.now ≡ thread_table }
     ensures { result ≡ any (is_other process thread) (held_threads ts.now) }
 {
-    let mut i = 0;
-    while i < THREAD_PLACES {
-        if is_other(ts, i, process, thread) {
+    for place in 0..THREAD_PLACES {
+        if is_other(ts, place, process, thread) {
             return true;
         }
-        i += 1;
     }
     false
 }

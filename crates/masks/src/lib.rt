@@ -22,6 +22,7 @@ fn is_bad_way(way: u32, set: Option<SigSet>) -> bool
     set.is_some() & (SIG_SETMASK < way)
 }
 
+// The way stays a number: it is read only where a set is given, and what it may be is refused by its number.
 // Way 0 adds the set, 1 removes its members, 2 replaces the mask; KILL and STOP are left out.
 fn mask_after(old: SigSet, way: u32, set: SigSet) -> SigSet
     ensures { result ≡ new_mask old way set }

@@ -123,7 +123,7 @@ pub fn may_signal(ps: &[u64], by: u32, to: u32, signal: u32) -> bool
     (effective == 0) | (by_real | (by_effective | by_session))
 }
 
-// ---- a live queue: a process's where the thread is 0
+// ---- a live queue: a process's where the thread is 0, as the records of the lent buffers and the calls have it
 
 // The signals that are marked in it.
 pub fn marks_of(ps: &[u64], ts: &[u64], tb: &[u8], pb: &[u8], process: u32, thread: u32) -> SigSet
@@ -160,7 +160,8 @@ pub fn pending_of(ps: &[u64], ts: &[u64], tb: &[u8], pb: &[u8], process: u32, th
 
 // ---- the checks that several calls share
 
-// Refused with 14 where the tables are not sound, with 3 where the process is not live.
+// Refused with 14 where the tables are not sound, with 3 where the process is not live. It and the next stay two: what
+// differs is the test and the row, which one function would have to be handed.
 pub fn check_process(
     ps: &[u64],
     ts: &[u64],
