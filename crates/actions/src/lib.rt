@@ -48,7 +48,8 @@ fn check_action(
     signal: u32,
     new: Option<Action>,
 ) -> Result<(), Errno>
-    ensures { refused_by result ≡ refusal_on (call.sigaction process signal (given new)) (lent ps.now ts.now tb.now pb.now) }
+    ensures { refused_by result
+        ≡ refusal_on (call.sigaction process signal (given new)) (lent ps.now ts.now tb.now pb.now) }
 {
     if !sound::sound(ps, ts, tb, pb) {
         return Err(Errno::EFAULT);

@@ -186,7 +186,8 @@ module _ (c : Call) (l : Lent) where
         → (l, answer_of z) ≡ step_on c l
     turned-away z e k g =
         let p = err_from_is_err_and z g in
-        ap (λ x. (l, answer_of x)) (p.1 ∙ ap Err p.2) ∙ refused-ends (number e) (ap refused_by (sym k) ∙ h) (number-some e)
+        ap (λ x. (l, answer_of x)) (p.1 ∙ ap Err p.2) ∙ refused-ends (number e) (ap refused_by (sym k) ∙ h)
+        (number-some e)
 
     pub let-through : {a : A} → r ≡ Ok a → refusal_on c l ≡ 0
     let-through k = sym h ∙ ap refused_by k

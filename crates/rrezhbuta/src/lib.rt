@@ -38,7 +38,7 @@ fn hand_back(ts: &mut [Thread], ws: &[u64], number: u32, thread: u32)
 
 // ---- what a host calls; rrezhbuta_c is what it links
 
-// One call by its number, on the words of the row. Returns 0, with the answer's words in `out`, or an errno, as C has it;
+// One call by its number, on the words of the row. Returns 0, with the answer's words in `out`, or an errno, as in C;
 // then nothing is written.
 pub fn rrezhbuta_call(
     ps: &mut [u64],

@@ -61,7 +61,8 @@ returns-in_default c =
     sym c.check_action.ensures
     ∙ ap refused_by c.in_ok-check_action.was in
     action-kept l p s new e c.action_of-old.result c.action_of-old.ensures
-    (given-none c.args.new c.in_default.not-Some) (bytes-each l.thread_buffer (λ k₀. omega (arith, c.slice_known-3-1.given k₀)))
+    (given-none c.args.new c.in_default.not-Some)
+    (bytes-each l.thread_buffer (λ k₀. omega (arith, c.slice_known-3-1.given k₀)))
     (bytes-each l.process_buffer (λ k₀. omega (arith, c.slice_known-4-1.given k₀)))
 
 pub returns-in-Some : goal.returns-in-Some

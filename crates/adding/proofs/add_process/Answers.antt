@@ -19,13 +19,15 @@ returns-in_err-check_add_process c =
 pub new_process-requires : goal.new_process-requires
 new_process-requires c =
     let both = process-room (lent c.args.ps.now c.args.ts.now c.args.tb.now c.args.pb.now)
-    c.args.new (refused_by c.check_add_process.result) c.check_add_process.ensures (ap refused_by c.in_ok-check_add_process.was) in
+    c.args.new (refused_by c.check_add_process.result) c.check_add_process.ensures
+    (ap refused_by c.in_ok-check_add_process.was) in
     record { ps_len = both.0; ps_value = both.1 }
 
 pub new_thread-requires : goal.new_thread-requires
 new_thread-requires c =
     let both = first-thread-room (lent c.args.ps.now c.args.ts.now c.args.tb.now c.args.pb.now)
-    c.args.new (refused_by c.check_add_process.result) c.check_add_process.ensures (ap refused_by c.in_ok-check_add_process.was) in
+    c.args.new (refused_by c.check_add_process.result) c.check_add_process.ensures
+    (ap refused_by c.in_ok-check_add_process.was) in
     record { ts_len = both.0; ts_value = both.1 }
 
 pub returns : goal.returns

@@ -13,7 +13,8 @@ use Rattle.adding.proofs.add_thread.Goals as goal
 pub returns-in_err-check_add_thread : goal.returns-in_err-check_add_thread
 returns-in_err-check_add_thread c =
     let l = lent c.args.ps.now c.args.ts.now c.args.tb.now c.args.pb.now in
-    turned-away (add_thread c.args.creator c.args.id) l c.check_add_thread.result c.check_add_thread.ensures c.from_residual.result
+    turned-away (add_thread c.args.creator c.args.id) l c.check_add_thread.result c.check_add_thread.ensures
+    c.from_residual.result
     c.in_err-check_add_thread.field-0.0 c.in_err-check_add_thread.was c.from_residual.ensures.1
 
 pub process_of-process-requires : goal.process_of-process-requires
@@ -32,13 +33,15 @@ mask_of-mask-requires c =
 pub new_thread-requires : goal.new_thread-requires
 new_thread-requires c =
     let both = thread-room (lent c.args.ps.now c.args.ts.now c.args.tb.now c.args.pb.now)
-    c.args.creator c.args.id (refused_by c.check_add_thread.result) c.check_add_thread.ensures (ap refused_by c.in_ok-check_add_thread.was) in
+    c.args.creator c.args.id (refused_by c.check_add_thread.result) c.check_add_thread.ensures
+    (ap refused_by c.in_ok-check_add_thread.was) in
     record { ts_len = both.0; ts_value = both.1 }
 
 pub returns : goal.returns
 returns c =
     thread-added (lent c.args.ps.now c.args.ts.now c.args.tb.now c.args.pb.now)
-    c.args.creator c.args.id (refused_by c.check_add_thread.result) c.check_add_thread.ensures (ap refused_by c.in_ok-check_add_thread.was)
+    c.args.creator c.args.id (refused_by c.check_add_thread.result) c.check_add_thread.ensures
+    (ap refused_by c.in_ok-check_add_thread.was)
     c.new_thread.new.ts c.process_of-process.result c.mask_of-mask.result c.process_of-process.ensures
     c.mask_of-mask.ensures
     c.new_thread.ensures (search rules)

@@ -24,7 +24,8 @@ unwrap-k-requires c =
     let q = target_queue c.args.process c.args.thread in
     let p = in_queue q c.args.signal in
     let rs = records_of c.args.pb.now in
-    let i = oldest-process l q c.args.signal _ (fits_one c.requires) (eq-eqb c.args.thread 0 c.if-thread-eq0.true) refl in
+    let i = oldest-process l q c.args.signal _ (fits_one c.requires) (eq-eqb c.args.thread 0 c.if-thread-eq0.true)
+    refl in
     ap is_some c.first_of.ensures ∙ is-some p rs ∙ any-find p no_siginfo rs i
 
 pub remove-requires-clause-b_value : goal.remove-requires-clause-b_value
@@ -41,7 +42,8 @@ unwrap-k-requires-else-thread-eq0 c =
     let q = target_queue c.args.process c.args.thread in
     let p = in_queue q c.args.signal in
     let rs = records_of c.args.tb.now in
-    let i = oldest-thread l q c.args.signal _ (fits_one c.requires) (ne_eqb c.args.thread 0 c.if-thread-eq0.false) refl in
+    let i = oldest-thread l q c.args.signal _ (fits_one c.requires) (ne_eqb c.args.thread 0 c.if-thread-eq0.false)
+    refl in
     ap is_some c.first_of-else-thread-eq0.ensures ∙ is-some p rs ∙ any-find p no_siginfo rs i
 
 pub remove-requires-else-thread-eq0-clause-b_value : goal.remove-requires-else-thread-eq0-clause-b_value

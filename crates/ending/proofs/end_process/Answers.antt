@@ -13,7 +13,8 @@ use Rattle.ending.proofs.end_process.Goals as goal
 pub returns-in_err-check_process : goal.returns-in_err-check_process
 returns-in_err-check_process c =
     let l = lent c.args.ps.now c.args.ts.now c.args.tb.now c.args.pb.now in
-    turned-away (end_process c.args.id) l c.check_process.result (process-number l c.args.id (refused_by c.check_process.result) c.check_process.ensures) c.from_residual.result
+    turned-away (end_process c.args.id) l c.check_process.result
+    (process-number l c.args.id (refused_by c.check_process.result) c.check_process.ensures) c.from_residual.result
     c.in_err-check_process.field-0.0 c.in_err-check_process.was c.from_residual.ensures.1
 
 pub remove_process-requires : goal.remove_process-requires

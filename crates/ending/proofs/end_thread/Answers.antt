@@ -14,7 +14,8 @@ use Rattle.ending.proofs.end_thread.Goals as goal
 pub returns-in_err-check_thread : goal.returns-in_err-check_thread
 returns-in_err-check_thread c =
     let l = lent c.args.ps.now c.args.ts.now c.args.tb.now c.args.pb.now in
-    turned-away (end_thread c.args.id) l c.check_thread.result (thread-number l c.args.id (refused_by c.check_thread.result) c.check_thread.ensures) c.from_residual.result
+    turned-away (end_thread c.args.id) l c.check_thread.result
+    (thread-number l c.args.id (refused_by c.check_thread.result) c.check_thread.ensures) c.from_residual.result
     c.in_err-check_thread.field-0.0 c.in_err-check_thread.was c.from_residual.ensures.1
 
 pub remove-requires : goal.remove-requires

@@ -11,7 +11,8 @@ pub returns-in_err-check_thread : goal.returns-in_err-check_thread
 returns-in_err-check_thread c =
     let l = lent c.args.ps.now c.args.ts.now c.args.tb.now c.args.pb.now in
     answer-of
-    (turned-away (look c.args.thread) l c.check_thread.result (look-refusal l c.args.thread (refused_by c.check_thread.result) c.check_thread.ensures) c.from_residual.result
+    (turned-away (look c.args.thread) l c.check_thread.result
+    (look-refusal l c.args.thread (refused_by c.check_thread.result) c.check_thread.ensures) c.from_residual.result
     c.in_err-check_thread.field-0.0 c.in_err-check_thread.was c.from_residual.ensures.1)
 
 pub next_of-requires : goal.next_of-requires

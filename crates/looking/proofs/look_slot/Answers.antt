@@ -45,12 +45,16 @@ unwrap-k-requires c =
 
 pub overflow_add-result : goal.overflow_add-result
 overflow_add-result c =
-    omega (arith, found-small _ _ _ (sym (find-some (in_queue (queue_of c.in-Some-Record.r) c.in-Some-Record.r.signal) (records_of c.args.pb.now) c.unwrap-k.result
+    omega (arith, found-small _ _ _
+    (sym (find-some (in_queue (queue_of c.in-Some-Record.r) c.in-Some-Record.r.signal) (records_of c.args.pb.now)
+    c.unwrap-k.result
     (sym c.first_of.ensures ∙ c.unwrap-k.ensures))))
 
 pub overflow_add-result-then-r-eq0 : goal.overflow_add-result-then-r-eq0
 overflow_add-result-then-r-eq0 c =
-    omega (arith, found-small _ _ _ (sym (find-some (in_queue (queue_of c.in-Some-Record.r) c.in-Some-Record.r.signal) (records_of c.args.pb.now) c.unwrap-k.result
+    omega (arith, found-small _ _ _
+    (sym (find-some (in_queue (queue_of c.in-Some-Record.r) c.in-Some-Record.r.signal) (records_of c.args.pb.now)
+    c.unwrap-k.result
     (sym c.first_of.ensures ∙ c.unwrap-k.ensures))))
 
 pub returns-then-r-eq0 : goal.returns-then-r-eq0
@@ -60,7 +64,8 @@ returns-then-r-eq0 c =
     (ok-number c.check_thread.result (sym c.is_err.ensures.value ∙ c.if-is_err.false))
     c.next_of.result c.next_of.ensures c.in-Some-Record.r
     (c.in-Some-Record.is ∙ ap Some c.in-Some-Record.field-0-is) c.unwrap-k.result c.if-r-eq0.true
-    (sym (find-some (in_queue (queue_of c.in-Some-Record.r) c.in-Some-Record.r.signal) (records_of c.args.pb.now) c.unwrap-k.result
+    (sym (find-some (in_queue (queue_of c.in-Some-Record.r) c.in-Some-Record.r.signal) (records_of c.args.pb.now)
+    c.unwrap-k.result
     (sym c.first_of.ensures ∙ c.unwrap-k.ensures)))
 
 pub first_of-requires-in-Some-Record : goal.first_of-requires-in-Some-Record
@@ -83,7 +88,9 @@ unwrap-requires c =
 
 pub overflow_add-result-in-Some-Record : goal.overflow_add-result-in-Some-Record
 overflow_add-result-in-Some-Record c =
-    omega (arith, found-small _ _ _ (sym (find-some (in_queue (queue_of c.in-Some-Record.r) c.in-Some-Record.r.signal) (records_of c.args.tb.now) c.unwrap.result
+    omega (arith, found-small _ _ _
+    (sym (find-some (in_queue (queue_of c.in-Some-Record.r) c.in-Some-Record.r.signal) (records_of c.args.tb.now)
+    c.unwrap.result
     (sym c.first_of-in-Some-Record.ensures ∙ c.unwrap.ensures))))
 
 pub returns-in-None : goal.returns-in-None
@@ -108,5 +115,6 @@ returns-else-r-eq0 c =
     (ok-number c.check_thread.result (sym c.is_err.ensures.value ∙ c.if-is_err.false))
     c.next_of.result c.next_of.ensures c.in-Some-Record.r
     (c.in-Some-Record.is ∙ ap Some c.in-Some-Record.field-0-is) c.unwrap.result c.if-r-eq0.false
-    (sym (find-some (in_queue (queue_of c.in-Some-Record.r) c.in-Some-Record.r.signal) (records_of c.args.tb.now) c.unwrap.result
+    (sym (find-some (in_queue (queue_of c.in-Some-Record.r) c.in-Some-Record.r.signal) (records_of c.args.tb.now)
+    c.unwrap.result
     (sym c.first_of-in-Some-Record.ensures ∙ c.unwrap.ensures)))

@@ -1,4 +1,5 @@
--- `taker_place` meets its contract. The invariant: what is left to search is the table from a place on. Assumes nothing.
+-- `taker_place` meets its contract. The invariant: what is left to search is the table from a place on. Assumes
+-- nothing.
 use mathlib.Core.Path.{◌≡◌}
 use Prim.Native.Nat.{◌+◌}
 use lib.ListN.{drop}

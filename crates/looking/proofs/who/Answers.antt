@@ -18,7 +18,8 @@ pub returns-in_err-check_process : goal.returns-in_err-check_process
 returns-in_err-check_process c =
     let l = lent c.args.ps.now c.args.ts.now c.args.tb.now c.args.pb.now in
     answer-of
-    (turned-away (who c.args.process) l c.check_process.result (who-refusal l c.args.process (refused_by c.check_process.result) c.check_process.ensures) c.from_residual.result
+    (turned-away (who c.args.process) l c.check_process.result
+    (who-refusal l c.args.process (refused_by c.check_process.result) c.check_process.ensures) c.from_residual.result
     c.in_err-check_process.field-0.0 c.in_err-check_process.was c.from_residual.ensures.1)
 
 pub taker_place-requires : goal.taker_place-requires
@@ -32,7 +33,8 @@ returns-in_default c =
     let p = can_take_some (view_of l) c.args.process in
     let rs = held_threads c.args.ts.now in
     who-none l c.args.process
-    (refused_by c.check_process.result) c.check_process.ensures (ap refused_by c.in_ok-check_process.was) (find p rs) refl
+    (refused_by c.check_process.result) c.check_process.ensures (ap refused_by c.in_ok-check_process.was) (find p rs)
+    refl
     (find_absent p rs (any-none p rs (sym c.taker_place.ensures ∙ c.in_default.is)) ∙ length-held_threads c.args.ts.now)
 
 pub thread_field_at-taker-requires : goal.thread_field_at-taker-requires
@@ -64,7 +66,8 @@ overflow_cast-taker c =
     let w = c.thread_field_at-taker.result in
     omega (
       arith,
-      who-fits l c.args.process (refused_by c.check_process.result) c.check_process.ensures (ap refused_by c.in_ok-check_process.was)
+      who-fits l c.args.process (refused_by c.check_process.result) c.check_process.ensures
+      (ap refused_by c.in_ok-check_process.was)
           k f y w (id-read c.args.ts.now k w c.thread_field_at-taker.ensures),
     )
 
@@ -78,5 +81,6 @@ returns c =
     let f = sym (find-some p rs k h) in
     let y = not-all p c.args.ts.now k h in
     let w = c.thread_field_at-taker.result in
-    who-takes l c.args.process (refused_by c.check_process.result) c.check_process.ensures (ap refused_by c.in_ok-check_process.was)
+    who-takes l c.args.process (refused_by c.check_process.result) c.check_process.ensures
+    (ap refused_by c.in_ok-check_process.was)
     k f y w (id-read c.args.ts.now k w c.thread_field_at-taker.ensures)

@@ -54,7 +54,8 @@ returns-in_default c =
     sym c.check_mask.ensures
     ∙ ap refused_by c.in_ok-check_mask.was in
     mask-kept l t way set e c.mask_of-old.result c.mask_of-old.ensures
-    (given-none c.args.set c.in_default.not-Some) (bytes-each l.thread_buffer (λ k₀. omega (arith, c.slice_known-3-1.given k₀)))
+    (given-none c.args.set c.in_default.not-Some)
+    (bytes-each l.thread_buffer (λ k₀. omega (arith, c.slice_known-3-1.given k₀)))
     (bytes-each l.process_buffer (λ k₀. omega (arith, c.slice_known-4-1.given k₀)))
 
 pub returns-in-Some : goal.returns-in-Some

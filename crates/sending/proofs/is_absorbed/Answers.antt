@@ -10,7 +10,8 @@ use Rattle.sending.proofs.is_absorbed.Goals as goal
 pub returns : goal.returns
 returns c =
     let v = view_of (lent c.args.ps.now c.args.ts.now c.args.tb.now c.args.pb.now) in
-    ap (λ (b : Bool). (c.is_standard.result && c.has.result) || (b && c.has-2.result)) (sym (not-not c.is_none.result) ∙ ap not (sym c.is_none.ensures))
+    ap (λ (b : Bool). (c.is_standard.result && c.has.result) || (b && c.has-2.result))
+    (sym (not-not c.is_none.result) ∙ ap not (sym c.is_none.ensures))
     ∙ absorbed v (is_some c.args.s.value) (target_queue c.args.s.to c.args.s.thread) c.args.s.signal
     (record { low = c.requires.le_signal.0; high = c.requires.le_signal.1 })
     c.pending_of-pending.result c.marks_of-marks.result c.is_standard.result c.has.result
