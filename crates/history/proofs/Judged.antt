@@ -309,9 +309,11 @@ module _ (k : Ledger) (t : ℕ) (l : live_thread (ledger_view k) t ≡ true) whe
           answers-for s r (unfold mark_info in refl),
           quiet-off s (Accepted (reply.Taken (Some (delivered it (thread_action v it s) r)))),
         )
-    take-answers (next_record q s r) e g =
-        (answers-for s r (g q s r refl), quiet-off s
-        (Accepted (reply.Taken (Some (delivered it (thread_action v it s) r)))))
+    take-answers (next_record q s r) e g = (
+      answers-for s r (g q s r refl),
+      quiet-off s
+          (Accepted (reply.Taken (Some (delivered it (thread_action v it s) r)))),
+    )
 
 -- ---- every call
 

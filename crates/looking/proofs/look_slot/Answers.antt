@@ -45,17 +45,23 @@ unwrap-k-requires c =
 
 pub overflow_add-result : goal.overflow_add-result
 overflow_add-result c =
-    omega (arith, found-small _ _ _
-    (sym (find-some (in_queue (queue_of c.in-Some-Record.r) c.in-Some-Record.r.signal) (records_of c.args.pb.now)
-    c.unwrap-k.result
-    (sym c.first_of.ensures ∙ c.unwrap-k.ensures))))
+    omega (
+      arith,
+      found-small _ _ _
+          (sym (find-some (in_queue (queue_of c.in-Some-Record.r) c.in-Some-Record.r.signal) (records_of c.args.pb.now)
+          c.unwrap-k.result
+          (sym c.first_of.ensures ∙ c.unwrap-k.ensures))),
+    )
 
 pub overflow_add-result-then-r-eq0 : goal.overflow_add-result-then-r-eq0
 overflow_add-result-then-r-eq0 c =
-    omega (arith, found-small _ _ _
-    (sym (find-some (in_queue (queue_of c.in-Some-Record.r) c.in-Some-Record.r.signal) (records_of c.args.pb.now)
-    c.unwrap-k.result
-    (sym c.first_of.ensures ∙ c.unwrap-k.ensures))))
+    omega (
+      arith,
+      found-small _ _ _
+          (sym (find-some (in_queue (queue_of c.in-Some-Record.r) c.in-Some-Record.r.signal) (records_of c.args.pb.now)
+          c.unwrap-k.result
+          (sym c.first_of.ensures ∙ c.unwrap-k.ensures))),
+    )
 
 pub returns-then-r-eq0 : goal.returns-then-r-eq0
 returns-then-r-eq0 c =
@@ -88,10 +94,13 @@ unwrap-requires c =
 
 pub overflow_add-result-in-Some-Record : goal.overflow_add-result-in-Some-Record
 overflow_add-result-in-Some-Record c =
-    omega (arith, found-small _ _ _
-    (sym (find-some (in_queue (queue_of c.in-Some-Record.r) c.in-Some-Record.r.signal) (records_of c.args.tb.now)
-    c.unwrap.result
-    (sym c.first_of-in-Some-Record.ensures ∙ c.unwrap.ensures))))
+    omega (
+      arith,
+      found-small _ _ _
+          (sym (find-some (in_queue (queue_of c.in-Some-Record.r) c.in-Some-Record.r.signal) (records_of c.args.tb.now)
+          c.unwrap.result
+          (sym c.first_of-in-Some-Record.ensures ∙ c.unwrap.ensures))),
+    )
 
 pub returns-in-None : goal.returns-in-None
 returns-in-None c =

@@ -67,7 +67,7 @@ overflow_cast-taker c =
     omega (
       arith,
       who-fits l c.args.process (refused_by c.check_process.result) c.check_process.ensures
-      (ap refused_by c.in_ok-check_process.was)
+          (ap refused_by c.in_ok-check_process.was)
           k f y w (id-read c.args.ts.now k w c.thread_field_at-taker.ensures),
     )
 

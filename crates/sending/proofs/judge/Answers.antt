@@ -48,7 +48,7 @@ returns-then-has_no_room c =
     let x = c.args.s in
     let e = sym k.ensures ∙ ap refused_by c.in_ok-check_kill.was in
     send-full l x.by x.to x.thread x.signal (value_of x) e (generation_of f.result) h.result
-          h.ensures (is_some x.value) f.ensures c.if-has_no_room.true
+    h.ensures (is_some x.value) f.ensures c.if-has_no_room.true
 
 pub info-requires : goal.info-requires
 info-requires c =

@@ -25,8 +25,11 @@ next_of-requires c =
     let t = c.args.thread in
     let n = c.check_thread in
     let z = (ap refused_by c.in_ok-check_thread.was) in
-    record { sound = taker-sound l t (refused_by n.result) n.ensures z; live = taker-live l t (refused_by n.result)
-    n.ensures z }
+    record {
+      sound = taker-sound l t (refused_by n.result) n.ensures z;
+      live = taker-live l t (refused_by n.result)
+          n.ensures z;
+    }
 
 pub returns-in_default : goal.returns-in_default
 returns-in_default c =
