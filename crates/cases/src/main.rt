@@ -13,6 +13,7 @@ use limits::{
 };
 use printing::{Call, Tables};
 use std::{fmt, io};
+use types::Errno;
 
 // The one process, its thread, user and session.
 const PID: u32 = 100;
@@ -311,7 +312,7 @@ struct Host {
 
 impl Host {
     // The answer's words, or the errno.
-    fn make(&mut self, ask: Ask) -> Result<Answer, u32> {
+    fn make(&mut self, ask: Ask) -> Result<Answer, Errno> {
         let out = self.tables.serve(call_of(ask, self.saved))?;
         if out[0] == ANSWER_HANDLER {
             self.saved = out[4];
@@ -323,7 +324,7 @@ impl Host {
         match self.make(ask) {
             Ok(answer) if is_told => print!(rt; " {answer}"),
             Ok(_) => Ok(()),
-            Err(errno) => print!(rt; " refused {errno}"),
+            Err(errno) => print!(rt; " refused {}", u32::from(errno)),
         }
     }
 

@@ -4,6 +4,7 @@
 
 ghost use Rattle.std.specs.Prelude.{◌≡◌, ◌≤◌, ◌<◌, MatchResult};
 ghost use Rattle.limits.specs.Limits.{process_places, thread_places, buffer_records, signals};
+ghost use Rattle.types.specs.Answers.{number};
 ghost use Rattle.sound.specs.Lent.{lent};
 ghost use Rattle.printing.specs.Serving.{served_on};
 
@@ -17,7 +18,7 @@ use limits::{
 };
 use sigset::SigSet;
 use std::{fmt, io};
-use types::Action;
+use types::{Action, Errno};
 
 // ---- a word
 
@@ -182,16 +183,17 @@ impl Tables {
     };
 
     // Makes a call on them: the answer's words, or the errno.
-    pub fn serve(&mut self, call: Call) -> Result<[u64; ANSWER_WORDS], u32>
+    pub fn serve(&mut self, call: Call) -> Result<[u64; ANSWER_WORDS], Errno>
         ensures tables { lent self.new.processes self.new.threads self.new.thread_buffer self.new.process_buffer
             ≡ (served_on self.old call).tables }
-        ensures answer { MatchResult result (λ words. words ≡ (served_on self.old call).words)
-            (λ errno. errno ≡ (served_on self.old call).errno) }
+        ensures answer { MatchResult result
+            (λ words. ((served_on self.old call).errno ≡ 0) × (words ≡ (served_on self.old call).words))
+            (λ errno. number errno ≡ (served_on self.old call).errno) }
     {
         let [a, b, c, d, e, f] = call.words;
         let [x, y, z] = call.wide;
         let mut out = [0; ANSWER_WORDS];
-        let served = boundary::serve(
+        boundary::serve(
             &mut self.processes,
             &mut self.threads,
             &mut self.thread_buffer,
@@ -209,11 +211,8 @@ impl Tables {
                 y,
                 z,
             },
-        );
-        match served {
-            Ok(()) => Ok(out),
-            Err(errno) => Err(u32::from(errno)),
-        }
+        )?;
+        Ok(out)
     }
 
     // Writes a line for all that is in use.

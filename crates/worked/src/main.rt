@@ -240,7 +240,7 @@ fn run(rt: &impl Print, t: &mut Tables, row: Row) -> io::Result<()> {
     println!(rt; "call {row}")?;
     match t.serve(call_of(row)) {
         Ok(words) => println!(rt; "answer {}", Answer(words))?,
-        Err(errno) => println!(rt; "answer refused {errno}")?,
+        Err(errno) => println!(rt; "answer refused {}", u32::from(errno))?,
     }
     t.print(rt)
 }
