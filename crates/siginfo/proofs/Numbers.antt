@@ -3,8 +3,8 @@ use mathlib.Core.Path.{◌≡◌, refl, sym, ap, ap₂, ◌∙◌}
 use mathlib.Core.Bool.{◌&&◌}
 use mathlib.Core.List.{List, [], ◌∷◌, ◌++◌}
 use Prim.Native.Nat.{ℕ, zero, suc, ◌+◌, ◌*◌, ◌/◌, ◌%◌, ◌^◌, ◌≤◌, ◌<◌}
-use native.Mathlib.Nat.{div-one, div-div-eq-div-mul, mod-add-div}
-use native.Mathlib.Nat.{div-lt_iff_lt-mul, pow-zero, pow-suc, pow-le-pow_right}
+use native.Mathlib.Nat.{suc-add, zero-add, one-mul, mul_assoc, mul_comm, div-one, div-div-eq-div-mul, mod-add-div}
+use native.Mathlib.Nat.{div-lt_iff_lt-mul, add-mul-mod_self_left, add-mul-div_left, pow-zero, pow-suc, pow-le-pow_right}
 use native.Mathlib.Nat.{lt_of_lt_of_le, min-le_left}
 use native.Mathlib.Omega.{arith}
 use lib.Arith.{lt-one}
@@ -76,6 +76,43 @@ le-zero (b ∷ bs) = sum-zero b (le bs) ∙ ap (λ t. eqb b 0 && t) (le-zero bs)
         let p = eqb-true x 0 (and-fst (eqb x 0) (eqb y 0) e) in
         let q = eqb-true y 0 (and-snd (eqb x 0) (eqb y 0) e) in
         eq-eqb (x + 256 * y) 0 (omega arith))
+
+-- ---- a number in two parts
+
+high_part : (n z : ℕ) → 256 ^ suc n * z ≡ 256 * (256 ^ n * z)
+high_part n z = ap (λ m. m * z) (pow-suc 256 n ∙ mul_comm (256 ^ n) 256) ∙ mul_assoc 256 (256 ^ n) z
+
+pub le-append : (xs ys : List ℕ) → le (xs ++ ys) ≡ le xs + 256 ^ length xs * le ys
+unfolding le
+le-append [] ys = sym (rw (pow-zero, one-mul) (zero-add (le ys)))
+le-append (x ∷ xs) ys = omega (arith, le-append xs ys, high_part (length xs) (le ys))
+
+-- what stands above the n lowest bytes does not show in them
+pub encode-high : (n y z : ℕ) → encode n (y + 256 ^ n * z) ≡ encode n y
+unfolding encode
+encode-high zero y z = refl
+encode-high (suc n) y z =
+    let w : ℕ = 256 ^ n * z in
+    let low : (y + 256 ^ suc n * z) % 256 ≡ y % 256 =
+    ap (λ m. (y + m) % 256) (high_part n z) ∙ add-mul-mod_self_left y 256 w in
+    let high : (y + 256 ^ suc n * z) / 256 ≡ y / 256 + w =
+    ap (λ m. (y + m) / 256) (high_part n z) ∙ add-mul-div_left y w (lit< tt) in
+    rw (low, high, encode-high n (y / 256) z)
+
+pub encode-append : (m n x : ℕ) → encode (m + n) x ≡ encode m x ++ encode n (x / 256 ^ m)
+unfolding encode
+encode-append zero n x = rw (zero-add, pow-zero, div-one)
+encode-append (suc m) n x =
+    let e : x / 256 / 256 ^ m ≡ x / 256 ^ suc m =
+    div-div-eq-div-mul x 256 (256 ^ m) ∙ ap (λ k. x / k) (mul_comm 256 (256 ^ m) ∙ sym (pow-suc 256 m)) in
+    rw (suc-add, ← e) (ap (λ l. x % 256 ∷ l) (encode-append m n (x / 256)))
+
+-- the m lowest bytes of x and then the others
+pub encode-halves : (m n x : ℕ) → encode m (x % 256 ^ m) ++ encode n (x / 256 ^ m) ≡ encode (m + n) x
+encode-halves m n x =
+    let low : encode m (x % 256 ^ m) ≡ encode m x =
+    sym (encode-high m (x % 256 ^ m) (x / 256 ^ m)) ∙ ap (encode m) (mod-add-div x (256 ^ m)) in
+    rw low (sym (encode-append m n x))
 
 -- ---- std's words for the same
 

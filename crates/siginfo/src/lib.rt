@@ -5,13 +5,15 @@ ghost use Rattle.std.specs.Prelude.{◌≡◌, ◌+◌, ◌*◌, ◌≤◌, leng
 ghost use Rattle.std.proofs.lemmas.List.Edits.{sets};
 ghost use Rattle.limits.specs.Limits.{record_bytes};
 ghost use Rattle.lists.specs.Rows.{row};
-ghost use Rattle.siginfo.specs.Bytes.{siginfo_of, bytes_of};
+ghost use Rattle.siginfo.specs.Bytes.{u32_bytes, u64_bytes, le, encode, siginfo_of, bytes_of};
 
 use limits::{
     RECORD_BYTES, RECORD_CODE, RECORD_PROCESS, RECORD_SENDER, RECORD_SIGNAL, RECORD_THREAD,
     RECORD_UID, RECORD_VALUE,
 };
 use types::Siginfo;
+
+// ---- numbers, the lowest byte first
 
 // N bytes of a row, from a place on.
 fn part<const N: usize>(b: &[u8], at: usize) -> [u8; N]
@@ -30,6 +32,36 @@ fn put<const N: usize>(b: &mut [u8], at: usize, bytes: [u8; N])
     b[at..at + N].copy_from_slice(&bytes);
 }
 
+pub fn read_u32(b: &[u8], at: usize) -> u32
+    requires { at + u32_bytes ≤ length b.now }
+    ensures { result ≡ le (take u32_bytes (drop at b.now)) }
+{
+    u32::from_le_bytes(part(b, at))
+}
+
+pub fn read_u64(b: &[u8], at: usize) -> u64
+    requires { at + u64_bytes ≤ length b.now }
+    ensures { result ≡ le (take u64_bytes (drop at b.now)) }
+{
+    u64::from_le_bytes(part(b, at))
+}
+
+pub fn write_u32(b: &mut [u8], at: usize, x: u32)
+    requires { at + u32_bytes ≤ length b.old }
+    ensures { b.new ≡ sets b.old at (encode u32_bytes x) }
+{
+    put(b, at, u32::to_le_bytes(x));
+}
+
+pub fn write_u64(b: &mut [u8], at: usize, x: u64)
+    requires { at + u64_bytes ≤ length b.old }
+    ensures { b.new ≡ sets b.old at (encode u64_bytes x) }
+{
+    put(b, at, u64::to_le_bytes(x));
+}
+
+// ---- a record
+
 // The record in a slot, whatever its bytes are.
 pub fn read(b: &[u8], slot: usize) -> Siginfo
     requires { slot * record_bytes + record_bytes ≤ length b.now }
@@ -37,13 +69,13 @@ pub fn read(b: &[u8], slot: usize) -> Siginfo
 {
     let at = slot * RECORD_BYTES;
     Siginfo {
-        process: u32::from_le_bytes(part(b, at + RECORD_PROCESS)),
-        thread: u32::from_le_bytes(part(b, at + RECORD_THREAD)),
-        signal: u32::from_le_bytes(part(b, at + RECORD_SIGNAL)),
-        code: u32::from_le_bytes(part(b, at + RECORD_CODE)),
-        sender: u32::from_le_bytes(part(b, at + RECORD_SENDER)),
-        uid: u32::from_le_bytes(part(b, at + RECORD_UID)),
-        value: u64::from_le_bytes(part(b, at + RECORD_VALUE)),
+        process: read_u32(b, at + RECORD_PROCESS),
+        thread: read_u32(b, at + RECORD_THREAD),
+        signal: read_u32(b, at + RECORD_SIGNAL),
+        code: read_u32(b, at + RECORD_CODE),
+        sender: read_u32(b, at + RECORD_SENDER),
+        uid: read_u32(b, at + RECORD_UID),
+        value: read_u64(b, at + RECORD_VALUE),
     }
 }
 
@@ -53,11 +85,11 @@ pub fn write(b: &mut [u8], slot: usize, r: Siginfo)
     ensures { b.new ≡ sets b.old (slot * record_bytes) (bytes_of r) }
 {
     let at = slot * RECORD_BYTES;
-    put(b, at + RECORD_PROCESS, r.process.to_le_bytes());
-    put(b, at + RECORD_THREAD, r.thread.to_le_bytes());
-    put(b, at + RECORD_SIGNAL, r.signal.to_le_bytes());
-    put(b, at + RECORD_CODE, r.code.to_le_bytes());
-    put(b, at + RECORD_SENDER, r.sender.to_le_bytes());
-    put(b, at + RECORD_UID, r.uid.to_le_bytes());
-    put(b, at + RECORD_VALUE, r.value.to_le_bytes());
+    write_u32(b, at + RECORD_PROCESS, r.process);
+    write_u32(b, at + RECORD_THREAD, r.thread);
+    write_u32(b, at + RECORD_SIGNAL, r.signal);
+    write_u32(b, at + RECORD_CODE, r.code);
+    write_u32(b, at + RECORD_SENDER, r.sender);
+    write_u32(b, at + RECORD_UID, r.uid);
+    write_u64(b, at + RECORD_VALUE, r.value);
 }
